@@ -1,0 +1,5 @@
+pub mod LebSteps
+pub mod Shortest
+pub mod UniqueBytes
+pub mod UniqueLeb
+pub mod UniqueParts

@@ -1,0 +1,5 @@
+pub mod Bytes
+pub mod Decodes
+pub mod Laws
+pub mod Leb
+pub mod Unique

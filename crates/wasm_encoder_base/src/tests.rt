@@ -1,0 +1,145 @@
+use crate::{Encode, EncodeError, encoding_size};
+use std::alloc::Global;
+use std::test::Fail;
+
+/// The sink after one byte and the value's spelling; only a refused growth gives an error, and then the
+/// byte is all that is there.
+fn encoded<T: Encode + Drop>(alloc: Global, value: T) -> Result<Vec<u8>, EncodeError>
+    requires { T.can_encode value }
+{
+    let mut sink = Vec::new(alloc);
+    sink.push(0xAA)?;
+    match value.encode(&mut sink) {
+        Ok(()) => Ok(sink),
+        Err(error) => Err(error),
+    }
+}
+
+#[test]
+fn ample_encode(rt: HostRuntime) -> Result<(), Fail> {
+    let alloc = rt.alloc();
+    assert_eq!(rt; encoded(alloc, 200u8)?.as_slice(), [0xAA, 200].as_slice());
+    assert_eq!(rt; encoded(alloc, 7u64)?.as_slice(), [0xAA, 7].as_slice());
+    assert_eq!(rt;
+        encoded(alloc, 300usize)?.as_slice(),
+        [0xAA, 0xAC, 0x02].as_slice()
+    );
+    assert_eq!(rt;
+        encoded(alloc, "ab")?.as_slice(),
+        [0xAA, 0x02, 0x61, 0x62].as_slice()
+    );
+    assert_eq!(rt; encoded(alloc, &-1i32)?.as_slice(), [0xAA, 0x7F].as_slice());
+    let numbers = [1u32, 2];
+    assert_eq!(rt;
+        encoded(alloc, numbers.as_slice())?.as_slice(),
+        [0xAA, 0x02, 0x01, 0x02].as_slice()
+    );
+    Ok(())
+}
+
+#[test]
+fn unsigned(rt: HostRuntime) -> Result<(), Fail> {
+    let alloc = rt.alloc();
+    assert_eq!(rt;
+        encoded(alloc, u32::MAX)?.as_slice(),
+        [0xAA, 0xFF, 0xFF, 0xFF, 0xFF, 0x0F].as_slice()
+    );
+    assert_eq!(rt; encoded(alloc, 0u32)?.as_slice(), [0xAA, 0x00].as_slice());
+    assert_eq!(rt; encoded(alloc, 127u32)?.as_slice(), [0xAA, 0x7F].as_slice());
+    assert_eq!(rt;
+        encoded(alloc, 128u32)?.as_slice(),
+        [0xAA, 0x80, 0x01].as_slice()
+    );
+    Ok(())
+}
+
+#[test]
+fn signed(rt: HostRuntime) -> Result<(), Fail> {
+    let alloc = rt.alloc();
+    assert_eq!(rt; encoded(alloc, -1i32)?.as_slice(), [0xAA, 0x7F].as_slice());
+    assert_eq!(rt;
+        encoded(alloc, 64i32)?.as_slice(),
+        [0xAA, 0xC0, 0x00].as_slice()
+    );
+    assert_eq!(rt; encoded(alloc, -64i32)?.as_slice(), [0xAA, 0x40].as_slice());
+    assert_eq!(rt;
+        encoded(alloc, -65i32)?.as_slice(),
+        [0xAA, 0xBF, 0x7F].as_slice()
+    );
+    assert_eq!(rt;
+        encoded(alloc, -2147483648i32)?.as_slice(),
+        [0xAA, 0x80, 0x80, 0x80, 0x80, 0x78].as_slice()
+    );
+    assert_eq!(rt;
+        encoded(alloc, i64::MIN)?.as_slice(),
+        [
+            0xAA, 0x80, 0x80, 0x80, 0x80, 0x80, 0x80, 0x80, 0x80, 0x80, 0x7F
+        ]
+        .as_slice()
+    );
+    Ok(())
+}
+
+#[test]
+fn too_large_leaves_the_sink(rt: HostRuntime) -> Result<(), Fail> {
+    let mut sink = vec![in rt.alloc(); 1u8, 2]?;
+    assert_eq!(rt;
+        4294967296usize.encode(&mut sink),
+        Err(EncodeError::TooLarge)
+    );
+    assert_eq!(rt; sink.as_slice(), [1, 2].as_slice());
+    Ok(())
+}
+
+#[test]
+fn sizes(rt: HostRuntime) {
+    let rows = [
+        (0, 1),
+        (127, 1),
+        (128, 2),
+        (16383, 2),
+        (16384, 3),
+        (u32::MAX, 5),
+    ];
+    for (n, size) in rows {
+        assert_eq!(rt; encoding_size(n), size, "of {n}");
+    }
+}
+
+#[test]
+fn texts_of_errors(rt: HostRuntime) -> Result<(), Fail> {
+    let alloc = rt.alloc();
+    assert_eq!(rt;
+        format!(in alloc; "{}", EncodeError::Memory)?.as_str(),
+        "out of memory"
+    );
+    assert_eq!(rt;
+        format!(in alloc; "{}", EncodeError::TooLarge)?.as_str(),
+        "a count or length is past 4294967295"
+    );
+    assert_eq!(rt;
+        (EncodeError::Memory as u8, EncodeError::TooLarge as u8),
+        (1, 2)
+    );
+    Ok(())
+}
+
+/// With a growth refused (`bin/refuse`) the answer is `Memory` and the sink is as it was; else it is the
+/// spelling.
+#[test]
+fn refused_growths(rt: HostRuntime) {
+    let mut sink = Vec::new(rt.alloc());
+    let long = "0123456789012345678901234567890123456789";
+    let texts = [long, "a", long, long];
+    match texts.as_slice().encode(&mut sink) {
+        Ok(()) => {
+            assert_eq!(rt; sink.len(), 126);
+            assert_eq!(rt; sink[0], 4);
+            assert_eq!(rt; sink[1], 40);
+        }
+        Err(error) => {
+            assert_eq!(rt; error, EncodeError::Memory);
+            assert!(rt; sink.is_empty());
+        }
+    }
+}
