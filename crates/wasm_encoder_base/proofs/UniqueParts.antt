@@ -1,5 +1,5 @@
 -- The calculus of spellings that tell their values apart: how they are put together.
-use Rattle.std.proofs.Common.{ℕ, ◌≡◌, ◌≢◌, List, [], ◌∷◌, ◌++◌, length, refl, sym, ap, ◌∙◌, subst, arith, append_assoc, flat_map}
+use Rattle.std.proofs.Common.{ℕ, suc, ◌≡◌, ◌≢◌, All, List, [], ◌∷◌, ◌++◌, length, refl, sym, ap, ◌∙◌, subst, arith, append_assoc, flat_map}
 use Rattle.std.specs.List.{AllByRecursion}
 use Rattle.wasm_encoder_base.specs.Unique.{Unique, Injective, Any}
 
@@ -95,17 +95,27 @@ front_nil [] ys h = refl
 front_nil (x ∷ xs) ys h = no_cons h
 
 -- items to the end of the bytes, none of them empty
-all_parts : {A : Type 0} {P : A → Type 0} {e : A → List ℕ} → Unique P e → ((x : A) → e x ≢ []) → (xs ys : List A) → AllByRecursion P xs → AllByRecursion P ys → flat_map e xs ≡ flat_map e ys → xs ≡ ys
+all_parts : {A : Type 0} {P : A → Type 0} {e : A → List ℕ} → Unique P e → ((x : A) → P x → e x ≢ []) → (xs ys : List A) → AllByRecursion P xs → AllByRecursion P ys → flat_map e xs ≡ flat_map e ys → xs ≡ ys
 all_parts u full [] [] px py h = refl
-all_parts {e} u full [] (y ∷ ys) px py h = absurd (full y (front_nil (e y) (flat_map e ys) (sym h)))
-all_parts {e} u full (x ∷ xs) [] px py h = absurd (full x (front_nil (e x) (flat_map e xs) h))
+all_parts {e} u full [] (y ∷ ys) px py h = absurd (full y py.0 (front_nil (e y) (flat_map e ys) (sym h)))
+all_parts {e} u full (x ∷ xs) [] px py h = absurd (full x px.0 (front_nil (e x) (flat_map e xs) h))
 all_parts {e} u full (x ∷ xs) (y ∷ ys) px py h =
     let first = u.reads x y (flat_map e xs) (flat_map e ys) px.0 py.0 h in
     let rest = all_parts u full xs ys px.1 py.1 first.1 in
     λ i. first.0 i ∷ rest i
 
-pub injective_all : {A : Type 0} {P : A → Type 0} {e : A → List ℕ} → Unique P e → ((x : A) → e x ≢ []) → Injective (AllByRecursion P) (flat_map e)
+pub injective_all : {A : Type 0} {P : A → Type 0} {e : A → List ℕ} → Unique P e → ((x : A) → P x → e x ≢ []) → Injective (AllByRecursion P) (flat_map e)
 injective_all u full = record { reads = all_parts u full }
+
+-- what holds of each item by its place holds of each in turn
+pub each_of : {A : Type 0} (P : A → Type 0) (xs : List A) → All P xs → AllByRecursion P xs
+each_of P [] h = tt
+each_of P (x ∷ xs) h = (h 0 x (omega arith), each_of P xs (λ k d l. h (suc k) d (omega arith)))
+
+-- before the same bytes
+pub append_cancel : (a r s : List ℕ) → a ++ r ≡ a ++ s → r ≡ s
+append_cancel [] r s e = e
+append_cancel (x ∷ a) r s e = append_cancel a r s (cons_tail e)
 
 -- bytes are told apart by themselves
 pub injective_bytes : Injective {A = List ℕ} Any (λ b. b)

@@ -4,6 +4,7 @@ use Rattle.std.specs.List.{AllByRecursion}
 use Rattle.wasm_encoder_base.specs.Leb.{uleb, sleb}
 use Rattle.wasm_encoder_base.specs.Decodes.{IsShortest, unsigned_of, signed_of}
 use Rattle.wasm_encoder_base.specs.Bytes.{counted, sized}
+use Rattle.wasm_encoder_base.specs.Instr.{IsInstr, instr_bytes}
 use Rattle.wasm_encoder_base.specs.Unique.{Unique, Any}
 
 -- `spell` gives the byte list that decodes to the number and than which no shorter one does, and no other list is that.
@@ -29,3 +30,7 @@ OneName = Unique Any sized
 
 abbrev pub OneList : Type 0
 OneList = Unique (AllByRecursion Any) (counted uleb)
+
+-- The same of instructions.
+abbrev pub OneInstruction : Type 0
+OneInstruction = Unique IsInstr instr_bytes

@@ -1,5 +1,7 @@
 pub mod Bytes
 pub mod Decodes
+pub mod Instr
 pub mod Laws
 pub mod Leb
+pub mod Table
 pub mod Unique

@@ -1,6 +1,6 @@
 //! Laws of the spellings: functions without parameters whose contracts are the laws. They do nothing.
 
-ghost use Rattle.wasm_encoder_base.specs.Laws.{ShortestUnsigned, ShortestSigned, OneUnsigned, OneSigned, OneName, OneList};
+ghost use Rattle.wasm_encoder_base.specs.Laws.{ShortestUnsigned, ShortestSigned, OneUnsigned, OneSigned, OneName, OneList, OneInstruction};
 
 /// What is written for a number is the byte list that decodes to it and than which no shorter one does,
 /// unsigned and signed; no other byte list is that.
@@ -9,10 +9,11 @@ pub fn shortest()
     ensures signed { ShortestSigned }
 {}
 
-/// Numbers, names and lists of numbers are told apart by their bytes, whatever follows these.
+/// Numbers, names, lists of numbers and instructions are told apart by their bytes, whatever follows these.
 pub fn one_reading()
     ensures unsigned { OneUnsigned }
     ensures signed { OneSigned }
     ensures names { OneName }
     ensures lists { OneList }
+    ensures instructions { OneInstruction }
 {}

@@ -1,0 +1,84 @@
+-- What the parts of `assemble` answer is what the input deserves.
+use Rattle.std.proofs.Common.{ℕ, ◌≡◌, ◌<◌, ◌^◌, List, length, refl, ap, arith}
+use Rattle.std.specs.Str.{IsUtf8}
+use Rattle.wat.specs.declared.fault.Fault.{Fault}
+use Rattle.wat.specs.declared.fault.Fault.TheVariants as faults
+use Rattle.wat.specs.Tree.{Module}
+use Rattle.wat.specs.Meaning.{meant}
+use Rattle.wat.specs.Means.{Spells}
+use Rattle.wat.specs.Layout.{Lays, Fits}
+use Rattle.wat.specs.Headline.{TooLong, NotUtf8, Fails, Accepts, Assembles, Deserves}
+use Rattle.wat.specs.Answering.{IsNoText, IsMisspelled, IsUnspelled}
+use Rattle.wat.proofs.Verdict.{one_condition}
+
+pub unspelled : (text : List ℕ) (f : Fault) → IsMisspelled f → ((tree : Module (List ℕ) ℕ) → ¬ (Spells text tree)) → IsUnspelled text f
+unspelled text (faults.Spelling error) m none = none
+unspelled text faults.Memory m none = tt
+unspelled text faults.Read m none = m
+unspelled text faults.TooLong m none = m
+unspelled text (faults.NotUtf8 offset) m none = m
+unspelled text (faults.NotWellFormed span) m none = m
+unspelled text (faults.Unmet error) m none = m
+unspelled text (faults.Uncovered span form) m none = m
+unspelled text faults.TooLarge m none = m
+unspelled text (faults.Write written) m none = m
+
+pub deserved : (bytes : List ℕ) (f : Fault) → length bytes < 2 ^ 32 → IsUtf8 bytes → IsUnspelled bytes f → Deserves bytes f
+deserved bytes (faults.Spelling error) short utf8 u = (short, utf8, u)
+deserved bytes faults.Memory short utf8 u = tt
+deserved bytes faults.Read short utf8 u = u
+deserved bytes faults.TooLong short utf8 u = absurd u
+deserved bytes (faults.NotUtf8 offset) short utf8 u = absurd u
+deserved bytes (faults.NotWellFormed span) short utf8 u = u
+deserved bytes (faults.Unmet error) short utf8 u = u
+deserved bytes (faults.Uncovered span form) short utf8 u = u
+deserved bytes faults.TooLarge short utf8 u = absurd u
+deserved bytes (faults.Write written) short utf8 u = u
+
+pub no_text : (bytes : List ℕ) (f : Fault) → IsNoText bytes f → Deserves bytes f
+no_text bytes faults.TooLong t = t
+no_text bytes (faults.NotUtf8 offset) t = t
+no_text bytes (faults.Spelling error) t = absurd t
+no_text bytes faults.Memory t = tt
+no_text bytes faults.Read t = t
+no_text bytes (faults.NotWellFormed span) t = t
+no_text bytes (faults.Unmet error) t = t
+no_text bytes (faults.Uncovered span form) t = t
+no_text bytes faults.TooLarge t = absurd t
+no_text bytes (faults.Write written) t = t
+
+pub told_too_long : (bytes : List ℕ) (f : Fault) → IsNoText bytes f → Fails bytes TooLong → f ≡ faults.TooLong
+told_too_long bytes faults.TooLong t h = refl
+told_too_long bytes (faults.NotUtf8 offset) t h = absurd (let short = t.0 in omega arith)
+told_too_long bytes (faults.Spelling error) t h = absurd t
+told_too_long bytes faults.Memory t h = absurd t
+told_too_long bytes faults.Read t h = absurd t
+told_too_long bytes (faults.NotWellFormed span) t h = absurd t
+told_too_long bytes (faults.Unmet error) t h = absurd t
+told_too_long bytes (faults.Uncovered span form) t h = absurd t
+told_too_long bytes faults.TooLarge t h = absurd t
+told_too_long bytes (faults.Write written) t h = absurd t
+
+not_utf8_of : (m n : ℕ) → NotUtf8 m ≡ NotUtf8 n → m ≡ n
+not_utf8_of m n e = cc
+
+pub told_not_utf8 : (bytes : List ℕ) (f : Fault) (n : ℕ) → IsNoText bytes f → Fails bytes (NotUtf8 n) → f ≡ faults.NotUtf8 n
+told_not_utf8 bytes faults.TooLong n t h = absurd (let short = h.0 in omega arith)
+told_not_utf8 bytes (faults.NotUtf8 offset) n t h = ap faults.NotUtf8 (not_utf8_of offset n (one_condition bytes (NotUtf8 offset) (NotUtf8 n) t h))
+told_not_utf8 bytes (faults.Spelling error) n t h = absurd t
+told_not_utf8 bytes faults.Memory n t h = absurd t
+told_not_utf8 bytes faults.Read n t h = absurd t
+told_not_utf8 bytes (faults.NotWellFormed span) n t h = absurd t
+told_not_utf8 bytes (faults.Unmet error) n t h = absurd t
+told_not_utf8 bytes (faults.Uncovered span form) n t h = absurd t
+told_not_utf8 bytes faults.TooLarge n t h = absurd t
+told_not_utf8 bytes (faults.Write written) n t h = absurd t
+
+pub accepted : (bytes : List ℕ) (tree : Module (List ℕ) ℕ) → length bytes < 2 ^ 32 → IsUtf8 bytes → Spells bytes tree → Accepts bytes (meant tree)
+accepted bytes tree short utf8 s = record { short = short; utf8 = utf8; means = record { tree = tree; spelled = s; meant = record { is_meant = refl } } }
+
+pub assembled : (bytes binary : List ℕ) (tree : Module (List ℕ) ℕ) → length bytes < 2 ^ 32 → IsUtf8 bytes → Spells bytes tree → Lays binary (meant tree) → Assembles bytes binary
+assembled bytes binary tree short utf8 s lays = (meant tree, accepted bytes tree short utf8 s, record { lays = lays })
+
+pub too_large : (bytes : List ℕ) (tree : Module (List ℕ) ℕ) → length bytes < 2 ^ 32 → IsUtf8 bytes → Spells bytes tree → ¬ (Fits (meant tree)) → Deserves bytes faults.TooLarge
+too_large bytes tree short utf8 s large = (meant tree, accepted bytes tree short utf8 s, large)

@@ -1,0 +1,5 @@
+use Rattle.wat.proofs.UniqueModule.{one_binary}
+use Rattle.wat.proofs.laws.one_binary.Goals as goal
+
+pub returns : goal.returns
+returns c = one_binary

@@ -1,0 +1,5 @@
+use Rattle.wat.proofs.UniqueModule.{one_reading}
+use Rattle.wat.proofs.laws.one_reading.Goals as goal
+
+pub returns : goal.returns
+returns c = one_reading

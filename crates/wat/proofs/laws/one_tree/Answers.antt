@@ -1,0 +1,8 @@
+use Rattle.std.proofs.Common.{refl}
+use Rattle.wat.specs.Syntax.{module_syntax}
+use Rattle.wat.proofs.GrammarLaws.{one_value}
+use Rattle.wat.proofs.SyntaxLaws.{module_laws}
+use Rattle.wat.proofs.laws.one_tree.Goals as goal
+
+pub returns : goal.returns
+returns c = one_value module_syntax module_laws refl

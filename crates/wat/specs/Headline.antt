@@ -1,0 +1,58 @@
+-- What an input is worth: the first condition that it fails, or the module that it means; and which answer that is.
+use Rattle.std.specs.Prelude.{ℕ, ◌≡◌, ◌<◌, ◌≤◌, ◌^◌, List, length}
+use Rattle.std.specs.Str.{IsUtf8, IsValidUpTo}
+use Rattle.wat.specs.Tree.{Module}
+use Rattle.wat.specs.AbstractModule.{AbstractModule}
+use Rattle.wat.specs.Layout.{Fits, Reads}
+use Rattle.wat.specs.Means.{Spells, Means}
+use Rattle.wat.specs.declared.fault.Fault.{Fault}
+use Rattle.wat.specs.declared.fault.Fault.TheVariants as faults
+
+-- The conditions, in the order in which they are tested.
+pub data Condition : Type 0 where
+  -- at most 4294967295 bytes
+  TooLong : Condition
+  -- UTF-8; with the length of the longest front that is
+  NotUtf8 : ℕ → Condition
+  -- spells a tree
+  Misspelled : Condition
+
+-- Of all conditions this is the first that the bytes fail.
+abbrev pub Fails : List ℕ → Condition → Type 0
+Fails bytes TooLong = 2 ^ 32 ≤ length bytes
+Fails bytes (NotUtf8 n) = (length bytes < 2 ^ 32) × ¬ (IsUtf8 bytes) × IsValidUpTo bytes n
+Fails bytes Misspelled = (length bytes < 2 ^ 32) × IsUtf8 bytes × ((tree : Module (List ℕ) ℕ) → ¬ (Spells bytes tree))
+
+-- The bytes meet every condition, and mean the module.
+pub record Accepts (bytes : List ℕ) (m : AbstractModule (List ℕ)) : Type 0 where
+  pub short : length bytes < 2 ^ 32
+  pub utf8 : IsUtf8 bytes
+  pub means : Means bytes m
+
+-- a count, a length or an index of the binary meant is past 4294967295
+abbrev pub IsTooLarge : AbstractModule (List ℕ) → Type 0
+IsTooLarge m = ¬ (Fits m)
+
+-- The binary is that of the module which the bytes mean.
+abbrev pub Assembles : List ℕ → List ℕ → Type 0
+Assembles bytes binary = (m : AbstractModule (List ℕ)) × Accepts bytes m × Reads binary m
+
+-- The fault that is answered is the one that the bytes deserve. Want of memory says nothing of them.
+abbrev pub Deserves : List ℕ → Fault → Type 0
+Deserves bytes faults.TooLong = Fails bytes TooLong
+Deserves bytes (faults.NotUtf8 offset) = Fails bytes (NotUtf8 offset)
+Deserves bytes (faults.Spelling error) = Fails bytes Misspelled
+Deserves bytes faults.TooLarge = (m : AbstractModule (List ℕ)) × Accepts bytes m × IsTooLarge m
+Deserves bytes faults.Memory = Unit {0}
+-- never answered for any bytes
+Deserves bytes faults.Read = ⊥
+Deserves bytes (faults.NotWellFormed span) = ⊥
+Deserves bytes (faults.Unmet error) = ⊥
+Deserves bytes (faults.Uncovered span form) = ⊥
+Deserves bytes (faults.Write written) = ⊥
+
+-- Of the conditions at most one is the first that fails; none is where the bytes mean a module; and they mean one at most.
+pub record OneVerdict : Type 0 where
+  pub one_condition : (bytes : List ℕ) (c d : Condition) → Fails bytes c → Fails bytes d → c ≡ d
+  pub none_where_accepted : (bytes : List ℕ) (c : Condition) (m : AbstractModule (List ℕ)) → Fails bytes c → ¬ (Accepts bytes m)
+  pub one_module : (bytes : List ℕ) (m n : AbstractModule (List ℕ)) → Accepts bytes m → Accepts bytes n → m ≡ n

@@ -1,0 +1,36 @@
+-- The laws that the crate's law functions prove, over the definitions that the contract of `assemble` cites.
+use Rattle.std.specs.Prelude.{ℕ, ◌≡◌, ◌↔◌, List}
+use Rattle.wat.specs.Lexeme.{Lexeme}
+use Rattle.wat.specs.Tiling.{Tiles}
+use Rattle.wat.specs.Tokens.{Tok}
+use Rattle.wat.specs.Tree.{Module}
+use Rattle.wat.specs.Syntax.{module_syntax}
+use Rattle.wat.specs.AbstractModule.{AbstractModule}
+use Rattle.wat.specs.Layout.{Lays, Reads}
+use Rattle.wat.specs.Means.{Means}
+use Rattle.wat.specs.Headline.{Accepts, Assembles}
+
+-- A text is at most one list of tokens.
+abbrev pub OneTiling : Type 0
+OneTiling = (from : ℕ) (text : List ℕ) (ts us : List Lexeme) → Tiles from text ts → Tiles from text us → ts ≡ us
+
+-- No tokens spell two modules, places included.
+abbrev pub OneTree : Type 0
+OneTree = (ts : List (Tok (List ℕ) ℕ)) (a b : Module (List ℕ) ℕ) → module_syntax.spells a ts → module_syntax.spells b ts → a ≡ b
+
+-- No text means two modules.
+abbrev pub OneMeaning : Type 0
+OneMeaning = (text : List ℕ) (m n : AbstractModule (List ℕ)) → Means text m → Means text n → m ≡ n
+
+-- No bytes are the binary of two modules.
+abbrev pub OneReading : Type 0
+OneReading = (b : List ℕ) (m n : AbstractModule (List ℕ)) → Reads b m → Reads b n → m ≡ n
+
+-- No module has two binaries.
+abbrev pub OneBinary : Type 0
+OneBinary = (b c : List ℕ) (m : AbstractModule (List ℕ)) → Lays b m → Lays c m → b ≡ c
+
+-- Two texts with binaries have equal ones exactly where they mean the same module.
+abbrev pub EqualBinaries : Type 0
+EqualBinaries = (text other binary another : List ℕ) → Assembles text binary → Assembles other another →
+    (binary ≡ another) ↔ ((m : AbstractModule (List ℕ)) × Accepts text m × Accepts other m)

@@ -1,0 +1,21 @@
+-- What a text means.
+use Rattle.std.specs.Prelude.{ℕ, List}
+use Rattle.wat.specs.Lexeme.{Lexeme}
+use Rattle.wat.specs.Tiling.{Tiles}
+use Rattle.wat.specs.Tokens.{significant}
+use Rattle.wat.specs.Tree.{Module}
+use Rattle.wat.specs.Syntax.{module_syntax}
+use Rattle.wat.specs.AbstractModule.{AbstractModule}
+use Rattle.wat.specs.Meaning.{Meaning}
+
+-- The text is cut into tokens, and those that are significant spell the tree.
+pub record Spells (text : List ℕ) (tree : Module (List ℕ) ℕ) : Type 0 where
+  pub tokens : List Lexeme
+  pub tiled : Tiles 0 text tokens
+  pub spelled : module_syntax.spells tree (significant tokens)
+
+-- The text spells a tree, and that tree stands for the module.
+pub record Means (text : List ℕ) (m : AbstractModule (List ℕ)) : Type 0 where
+  pub tree : Module (List ℕ) ℕ
+  pub spelled : Spells text tree
+  pub meant : Meaning tree m

@@ -1,0 +1,41 @@
+//! Laws over the definitions that the contract of `assemble` cites: functions without parameters whose contracts are the laws. They
+//! do nothing.
+
+ghost use Rattle.wat.specs.Laws.{OneTiling, OneTree, OneMeaning, OneReading, OneBinary, EqualBinaries};
+ghost use Rattle.wat.specs.Headline.{OneVerdict};
+
+/// A text is at most one list of tokens.
+pub fn one_tiling()
+    ensures { OneTiling }
+{}
+
+/// No tokens spell two modules, places included.
+pub fn one_tree()
+    ensures { OneTree }
+{}
+
+/// No text means two modules: one list of tokens, one tree, one numbering.
+pub fn one_meaning()
+    ensures { OneMeaning }
+{}
+
+/// No bytes are the binary of two modules.
+pub fn one_reading()
+    ensures { OneReading }
+{}
+
+/// No module has two binaries.
+pub fn one_binary()
+    ensures { OneBinary }
+{}
+
+/// Two texts that are assembled have equal binaries exactly where they mean the same module.
+pub fn equal_binaries()
+    ensures { EqualBinaries }
+{}
+
+/// Of all conditions at most one is the first that an input fails, none is where the input means a module, and it
+/// means at most one.
+pub fn one_verdict()
+    ensures { OneVerdict }
+{}

@@ -1,0 +1,5 @@
+(module
+  (func (export "answer") (export "forty-two")
+    i32.const 42
+    drop)
+  (func nop))
