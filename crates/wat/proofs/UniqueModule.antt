@@ -63,7 +63,7 @@ unique_run =
     unique_where (λ r _. (tt, tt))
     (unique_via {A = Run} (λ r. (r.count, r.type)) (λ p. record { count = p.0; type = p.1 }) (λ r. refl) (unique_pair unique_uleb unique_val))
 
-unique_section : Unique Any section
+pub unique_section : Unique Any section
 unique_section =
     unique_where (λ p _. (tt, tt))
     (unique_via {A = Part SectionKind} (λ p. (p.kind, p.body)) (λ p. record { kind = p.0; body = p.1 }) (λ p. refl)

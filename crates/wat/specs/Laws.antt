@@ -1,12 +1,13 @@
 -- The laws that the crate's law functions prove, over the definitions that the contract of `assemble` cites.
 use Rattle.std.specs.Prelude.{ℕ, ◌≡◌, ◌↔◌, List}
+use Rattle.wasm_encoder_base.specs.Unique.{Unique, Any}
 use Rattle.wat.specs.Lexeme.{Lexeme}
 use Rattle.wat.specs.Tiling.{Tiles}
 use Rattle.wat.specs.Tokens.{Tok}
 use Rattle.wat.specs.Tree.{Module}
 use Rattle.wat.specs.Syntax.{module_syntax}
 use Rattle.wat.specs.AbstractModule.{AbstractModule}
-use Rattle.wat.specs.Layout.{Lays, Reads}
+use Rattle.wat.specs.Layout.{section, Lays, Reads}
 use Rattle.wat.specs.Means.{Means}
 use Rattle.wat.specs.Headline.{Accepts, Assembles}
 
@@ -34,3 +35,7 @@ OneBinary = (b c : List ℕ) (m : AbstractModule (List ℕ)) → Lays b m → La
 abbrev pub EqualBinaries : Type 0
 EqualBinaries = (text other binary another : List ℕ) → Assembles text binary → Assembles other another →
     (binary ≡ another) ↔ ((m : AbstractModule (List ℕ)) × Accepts text m × Accepts other m)
+
+-- Sections are told apart by their bytes, whatever they hold and whatever follows: a reader may skip one that it doesn't know.
+abbrev pub OneSection : Type 0
+OneSection = Unique Any section

@@ -21,6 +21,18 @@ const HEADER: [u8; 8] = [0x00, 0x61, 0x73, 0x6d, 0x01, 0x00, 0x00, 0x00];
 /// The byte that ends the instructions of a function.
 const END: u8 = 0x0b;
 
+/// The id of the section of types.
+const TYPES: u8 = 1;
+
+/// The id of the section of the functions' types.
+const FUNCTIONS: u8 = 3;
+
+/// The id of the section of exports.
+const EXPORTS: u8 = 7;
+
+/// The id of the section of the functions' code.
+const CODES: u8 = 10;
+
 /// The binary of a tree; [`EncodeError::TooLarge`] exactly where, memory found, a count, a length or an index
 /// is past 4294967295.
 pub fn encode(alloc: Global, tree: &Module) -> Result<Vec<u8>, EncodeError>
@@ -83,7 +95,7 @@ fn put_type_section(alloc: Global, sink: &mut Vec<u8>, tree: &Module) -> Result<
     ensures fits { OnOk result (SectionFits FuncTypeFits func_type (module_of tree.now).types) }
     ensures too_large { IsErrOf result EncodeError.TooLarge → ¬ Fits (module_of tree.now) }
 {
-    put_list(alloc, sink, 1, implied_types(&tree.funcs))
+    put_list(alloc, sink, TYPES, implied_types(&tree.funcs))
 }
 
 /// The type of a function without parameters and results.
@@ -117,7 +129,7 @@ fn put_function_section(alloc: Global, sink: &mut Vec<u8>, tree: &Module) -> Res
     ensures too_large { IsErrOf result EncodeError.TooLarge → ¬ Fits (module_of tree.now) }
 {
     let indices = type_indices(alloc, &tree.funcs)?;
-    put_list(alloc, sink, 3, &indices)
+    put_list(alloc, sink, FUNCTIONS, &indices)
 }
 
 /// The index of each function's type.
@@ -134,7 +146,7 @@ fn put_export_section(alloc: Global, sink: &mut Vec<u8>, tree: &Module) -> Resul
     ensures too_large { IsErrOf result EncodeError.TooLarge → ¬ Fits (module_of tree.now) }
 {
     let exports = exports_of(alloc, &tree.funcs)?;
-    put_list(alloc, sink, 7, &exports)
+    put_list(alloc, sink, EXPORTS, &exports)
 }
 
 /// An export of the function at an index.
@@ -225,7 +237,7 @@ fn put_code_list(alloc: Global, sink: &mut Vec<u8>, funcs: &[Func]) -> Result<()
     }
     let mut body = Vec::new(alloc);
     put_codes(alloc, &mut body, funcs)?;
-    put_section(sink, 10, &body)
+    put_section(sink, CODES, &body)
 }
 
 /// Appends how many functions there are, and the code of each.

@@ -1,7 +1,7 @@
 //! Laws over the definitions that the contract of `assemble` cites: functions without parameters whose contracts are the laws. They
 //! do nothing.
 
-ghost use Rattle.wat.specs.Laws.{OneTiling, OneTree, OneMeaning, OneReading, OneBinary, EqualBinaries};
+ghost use Rattle.wat.specs.Laws.{OneTiling, OneTree, OneMeaning, OneReading, OneBinary, EqualBinaries, OneSection};
 ghost use Rattle.wat.specs.Headline.{OneVerdict};
 
 /// A text is at most one list of tokens.
@@ -27,6 +27,11 @@ pub fn one_reading()
 /// No module has two binaries.
 pub fn one_binary()
     ensures { OneBinary }
+{}
+
+/// Sections are told apart by their bytes, whatever they hold and whatever follows.
+pub fn one_section()
+    ensures { OneSection }
 {}
 
 /// Two texts that are assembled have equal binaries exactly where they mean the same module.

@@ -1,0 +1,5 @@
+use Rattle.wat.proofs.UniqueModule.{unique_section}
+use Rattle.wat.proofs.laws.one_section.Goals as goal
+
+pub returns : goal.returns
+returns c = unique_section
