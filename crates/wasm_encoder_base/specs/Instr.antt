@@ -21,7 +21,7 @@ operand_bytes (I32 z) = sleb z
 abbrev pub instr_bytes : Instr → List ℕ
 instr_bytes i = i.opcode ++ operand_bytes i.operands
 
--- instructions and the end (5.4.9)
+-- instructions and the end (5.4)
 abbrev pub expr_bytes : List Instr → List ℕ
 expr_bytes is = flat_map instr_bytes is ++ 0x0B ∷ []
 

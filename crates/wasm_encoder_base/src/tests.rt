@@ -124,22 +124,20 @@ fn texts_of_errors(rt: HostRuntime) -> Result<(), Fail> {
     Ok(())
 }
 
-/// With a growth refused (`bin/refuse`) the answer is `Memory` and the sink is as it was; else it is the
-/// spelling.
+/// With a growth refused (`bin/refuse`) the answer is `Memory` and the sink is as it was, and the test then fails by its
+/// result; else the answer is the spelling.
 #[test]
-fn refused_growths(rt: HostRuntime) {
+fn refused_growths(rt: HostRuntime) -> Result<(), Fail> {
     let mut sink = Vec::new(rt.alloc());
     let long = "0123456789012345678901234567890123456789";
     let texts = [long, "a", long, long];
-    match texts.as_slice().encode(&mut sink) {
-        Ok(()) => {
-            assert_eq!(rt; sink.len(), 126);
-            assert_eq!(rt; sink[0], 4);
-            assert_eq!(rt; sink[1], 40);
-        }
-        Err(error) => {
-            assert_eq!(rt; error, EncodeError::Memory);
-            assert!(rt; sink.is_empty());
-        }
+    if let Err(error) = texts.as_slice().encode(&mut sink) {
+        assert_eq!(rt; error, EncodeError::Memory);
+        assert!(rt; sink.is_empty());
+        return Err(error.into());
     }
+    assert_eq!(rt; sink.len(), 126);
+    assert_eq!(rt; sink[0], 4);
+    assert_eq!(rt; sink[1], 40);
+    Ok(())
 }

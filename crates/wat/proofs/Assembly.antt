@@ -1,31 +1,35 @@
 -- A binary put together, section by section.
-use Rattle.std.proofs.Common.{ℕ, zero, suc, ◌≡◌, ◌<◌, ◌^◌, All, List, [], ◌∷◌, ◌++◌, length, map, get_or, Option, Some, None, refl, sym, ap, ◌∙◌, subst, arith, append_assoc}
+use Rattle.std.proofs.Common.{ℕ, ◌≡◌, ◌<◌, ◌^◌, All, List, [], ◌∷◌, ◌++◌, length, map, get_or, Option, Some, None, refl, sym, ap, ◌∙◌, subst, arith, append_assoc}
+use Rattle.std.proofs.lemmas.Grind.{flat_map-append}
 use Rattle.std.proofs.lemmas.List.{append-nil, length-map}
 use Rattle.std.proofs.Math.ListN.{get_or-map}
 use Rattle.std.proofs.lemmas.List.Elements.{All-map}
-use Rattle.std.specs.List.{flat_map, AllByRecursion}
+use Rattle.std.specs.Prelude.{Result, OnOk, IsErrOf}
+use Rattle.std.proofs.lemmas.Result.{IfOk-equal, on_ok_weaker}
+use Rattle.wasm_encoder_base.specs.declared.error.EncodeError.{EncodeError}
+use Rattle.wasm_encoder_base.specs.declared.error.EncodeError.TheVariants.{TooLarge}
+use Rattle.std.specs.List.{flat_map}
 use Rattle.wasm_encoder_base.specs.Bytes.{counted, sized}
 use Rattle.wasm_encoder_base.specs.Unique.{Any}
-use Rattle.wasm_encoder_base.proofs.UniqueParts.{each_of}
 use Rattle.wat.specs.AbstractModule.{AbstractModule}
-use Rattle.wat.specs.Parts.{present, if_any}
-use Rattle.wat.specs.Layout.{func_type, FuncTypeFits, type_index, export_item, ExportFits, code_item, FunctionFits, IsModule, SectionKind, section_id, section, order, bodies, header, PartFits, Fits, Lays}
-use Rattle.wat.specs.Encoding.{slot, SlotFits, SectionFits}
+use Rattle.wat.specs.Parts.{part_if, present, if_any}
+use Rattle.wat.specs.Layout.{func_type, FuncTypeFits, type_index, export_item, ExportFits, code_item, FunctionFits, SectionKind, Types, Functions, Exports, Codes, section_id, section, order, body_of, SizeFits, header, layout, Fits}
+use Rattle.wat.specs.Encoding.{slot, SectionFits}
 use Rattle.wat.proofs.Counted.{counted-map}
 
 -- a section of views
-pub slot_to : {A B : Type 0} (e : B → List ℕ) (view : A → B) (xs : List A) (ys : List B) → map view xs ≡ ys → if_any (counted (λ x. e (view x))) xs ≡ if_any (counted e) ys
+slot_to : {A B : Type 0} (e : B → List ℕ) (view : A → B) (xs : List A) (ys : List B) → map view xs ≡ ys → if_any (counted (λ x. e (view x))) xs ≡ if_any (counted e) ys
 slot_to e view [] ys h = ap (if_any (counted e)) h
 slot_to e view (x ∷ xs) ys h = ap Some (sym (counted-map e view (x ∷ xs))) ∙ ap (if_any (counted e)) h
 
-pub section_to : {A B : Type 0} {P : A → Type 0} (Q : B → Type 0) (e : B → List ℕ) (view : A → B) (xs : List A) (ys : List B) → map view xs ≡ ys → ((x : A) → P x → Q (view x)) → SectionFits P (λ x. e (view x)) xs → SectionFits Q e ys
+section_to : {A B : Type 0} {P : A → Type 0} (Q : B → Type 0) (e : B → List ℕ) (view : A → B) (xs : List A) (ys : List B) → map view xs ≡ ys → ((x : A) → P x → Q (view x)) → SectionFits P (λ x. e (view x)) xs → SectionFits Q e ys
 section_to Q e view xs ys h f s = record {
   count = subst (λ n. n < 2 ^ 32) (sym (length-map xs view) ∙ ap length h) s.count;
   each = subst (λ v. All Q v) h (All-map Q view xs (λ k d l. f (get_or xs k d) (s.each k d l)));
-  size = subst SlotFits (slot_to e view xs ys h) s.size;
+  size = subst SizeFits (slot_to e view xs ys h) s.size;
 }
 
-pub section_from : {A B : Type 0} (P : A → Type 0) {Q : B → Type 0} {e : B → List ℕ} (view : A → B) (xs : List A) (ys : List B) → map view xs ≡ ys → ((x : A) → Q (view x) → P x) → SectionFits Q e ys → SectionFits P (λ x. e (view x)) xs
+section_from : {A B : Type 0} (P : A → Type 0) {Q : B → Type 0} {e : B → List ℕ} (view : A → B) (xs : List A) (ys : List B) → map view xs ≡ ys → ((x : A) → Q (view x) → P x) → SectionFits Q e ys → SectionFits P (λ x. e (view x)) xs
 section_from P {Q} {e} view xs ys h f s =
     let count : length ys ≡ length xs = ap length (sym h) ∙ length-map xs view in
     let each : All Q (map view xs) = subst (λ v. All Q v) (sym h) s.each in
@@ -33,89 +37,94 @@ section_from P {Q} {e} view xs ys h f s =
     record {
       count = subst (λ n. n < 2 ^ 32) count s.count;
       each = λ k d l. f (get_or xs k d) (subst Q (get_or-map view xs k d) (each k (view d) (omega arith)));
-      size = subst SlotFits (sym (slot_to e view xs ys h)) s.size;
+      size = subst SizeFits (sym (slot_to e view xs ys h)) s.size;
     }
 
--- the sections, one after another
-slots : List SectionKind → List (Option (List ℕ)) → List ℕ
-slots (k ∷ ks) (o ∷ os) = slot (section_id k) o ++ slots ks os
-slots [] os = []
-slots (k ∷ ks) [] = []
+-- the section of a list, appended: what is said of its items, and of their views
+pub record Appends {A : Type 0} (result : Result (Unit {0}) EncodeError) (old more : List ℕ) (id : ℕ) (P : A → Type 0) (e : A → List ℕ) (xs : List A) : Type 0 where
+  pub spelled : OnOk result (more ≡ old ++ slot id (if_any (counted e) xs))
+  pub fits : OnOk result (SectionFits P e xs)
+  pub too_large : IsErrOf result TooLarge → SectionFits P e xs → ⊥
 
-present-slots : (ks : List SectionKind) (os : List (Option (List ℕ))) → flat_map section (present ks os) ≡ slots ks os
+pub of_views : {A B : Type 0} {P : A → Type 0} (Q : B → Type 0) (e : B → List ℕ) (view : A → B) {xs : List A} (ys : List B) {result : Result (Unit {0}) EncodeError} {old more : List ℕ} {id : ℕ} → map view xs ≡ ys → ((x : A) → P x → Q (view x)) → ((x : A) → Q (view x) → P x) → Appends result old more id P (λ x. e (view x)) xs → Appends result old more id Q e ys
+of_views {P} Q e view {xs} ys {result} {old} {id} h to from a = record {
+  spelled = IfOk-equal _ _ _ _ a.spelled (ap (λ v. old ++ slot id v) (slot_to e view xs ys h));
+  fits = on_ok_weaker result (section_to Q e view xs ys h to) a.fits;
+  too_large = λ r s. a.too_large r (section_from P view xs ys h from s);
+}
+
+pub of_items : {A B : Type 0} (P : A → Type 0) (Q : B → Type 0) (e : B → List ℕ) (view : A → B) (xs : List A) {ys : List B} {result : Result (Unit {0}) EncodeError} {old more : List ℕ} {id : ℕ} → map view xs ≡ ys → ((x : A) → P x → Q (view x)) → ((x : A) → Q (view x) → P x) → Appends result old more id Q e ys → Appends result old more id P (λ x. e (view x)) xs
+of_items P Q e view xs {ys} {result} {old} {id} h to from a = record {
+  spelled = IfOk-equal _ _ _ _ a.spelled (ap (λ v. old ++ slot id v) (sym (slot_to e view xs ys h)));
+  fits = on_ok_weaker result (section_from P view xs ys h from) a.fits;
+  too_large = λ r s. a.too_large r (section_to Q e view xs ys h to s);
+}
+
+-- the sections of these kinds, one after another
+slots : (SectionKind → Option (List ℕ)) → List SectionKind → List ℕ
+slots f ks = flat_map (λ k. slot (section_id k) (f k)) ks
+
+slot-is : (k : SectionKind) (o : Option (List ℕ)) → flat_map section (part_if k o) ≡ slot (section_id k) o
+slot-is k None = refl
+slot-is k (Some b) = append-nil (section_id k ∷ sized b)
+
+slots-are : (f : SectionKind → Option (List ℕ)) (ks : List SectionKind) → flat_map section (present f ks) ≡ slots f ks
 unfolding slots
-present-slots [] os = refl
-present-slots (k ∷ ks) [] = refl
-present-slots (k ∷ ks) (Some b ∷ os) = ap (λ v. (section_id k ∷ sized b) ++ v) (present-slots ks os)
-present-slots (k ∷ ks) (None ∷ os) = present-slots ks os
+slots-are f [] = refl
+slots-are f (k ∷ ks) =
+    flat_map-append section (part_if k (f k)) (present f ks)
+    ∙ ap (λ v. v ++ flat_map section (present f ks)) (slot-is k (f k))
+    ∙ ap (λ v. slot (section_id k) (f k) ++ v) (slots-are f ks)
 
--- their sizes
-all_of : {A : Type 0} (P : A → Type 0) (xs : List A) → AllByRecursion P xs → (k : ℕ) (d : A) → k < length xs → P (get_or xs k d)
-all_of P [] h k d l = absurd (omega arith)
-all_of P (x ∷ xs) h zero d l = h.0
-all_of P (x ∷ xs) h (suc k) d l = all_of P xs h.1 k d (omega arith)
+-- one more section, then the others
+followed : (f : SectionKind → Option (List ℕ)) (k : SectionKind) (ks : List SectionKind) (start more end : List ℕ) → more ≡ start ++ slot (section_id k) (f k) → end ≡ more ++ slots f ks → end ≡ start ++ slots f (k ∷ ks)
+unfolding slots
+followed f k ks start more end e h = h ∙ ap (λ v. v ++ flat_map (λ j. slot (section_id j) (f j)) ks) e ∙ append_assoc start (slot (section_id k) (f k)) (flat_map (λ j. slot (section_id j) (f j)) ks)
 
-present-fits : (ks : List SectionKind) (os : List (Option (List ℕ))) → AllByRecursion SlotFits os → AllByRecursion PartFits (present ks os)
-present-fits [] os h = tt
-present-fits (k ∷ ks) [] h = tt
-present-fits (k ∷ ks) (Some b ∷ os) h = (h.0, present-fits ks os h.1)
-present-fits (k ∷ ks) (None ∷ os) h = present-fits ks os h.1
+ended : (f : SectionKind → Option (List ℕ)) (end : List ℕ) → end ≡ end ++ slots f []
+unfolding slots
+ended f end = sym (append-nil end)
 
-fits-present : (ks : List SectionKind) (os : List (Option (List ℕ))) → length os ≡ length ks → AllByRecursion PartFits (present ks os) → AllByRecursion SlotFits os
-fits-present [] [] n h = tt
-fits-present [] (o ∷ os) n h = absurd (omega arith)
-fits-present (k ∷ ks) [] n h = absurd (omega arith)
-fits-present (k ∷ ks) (Some b ∷ os) n h = (h.0, fits-present ks os (omega arith) h.1)
-fits-present (k ∷ ks) (None ∷ os) n h = (tt, fits-present ks os (omega arith) h)
-
-sizes : {N : Type 0} (m : AbstractModule N) → Fits m → AllByRecursion SlotFits (bodies m)
-sizes m f = fits-present order (bodies m) refl (each_of PartFits (present order (bodies m)) f.sizes)
-
+-- what fits, section by section
 pub type_section : {N : Type 0} (m : AbstractModule N) → Fits m → SectionFits FuncTypeFits func_type m.types
-type_section m f = record { count = f.type_count; each = f.types; size = (sizes m f).0 }
+type_section m f = record { count = f.type_count; each = f.types; size = f.sizes Types }
 
 pub function_section : {N : Type 0} (m : AbstractModule N) → Fits m → SectionFits Any type_index m.functions
-function_section m f = record { count = f.function_count; each = λ k d l. tt; size = (sizes m f).1.0 }
+function_section m f = record { count = f.function_count; each = λ k d l. tt; size = f.sizes Functions }
 
 pub export_section : {N : Type 0} (m : AbstractModule N) → Fits m → SectionFits ExportFits export_item m.exports
-export_section m f = record { count = f.export_count; each = f.exports; size = (sizes m f).1.1.0 }
+export_section m f = record { count = f.export_count; each = f.exports; size = f.sizes Exports }
 
 pub code_section : {N : Type 0} (m : AbstractModule N) → Fits m → SectionFits FunctionFits code_item m.functions
-code_section m f = record { count = f.function_count; each = f.functions; size = (sizes m f).1.1.1.0 }
+code_section m f = record { count = f.function_count; each = f.functions; size = f.sizes Codes }
 
--- five byte lists, one after another
-joined-five : (a b c d e : List ℕ) → (((a ++ b) ++ c) ++ d) ++ e ≡ a ++ (b ++ (c ++ (d ++ (e ++ []))))
-joined-five a b c d e = simp (append_assoc, append-nil)
+sizes_of : {N : Type 0} (m : AbstractModule N) → SectionFits FuncTypeFits func_type m.types → SectionFits Any type_index m.functions → SectionFits ExportFits export_item m.exports → SectionFits FunctionFits code_item m.functions → (k : SectionKind) → SizeFits (body_of m k)
+sizes_of m types functions exports codes Types = types.size
+sizes_of m types functions exports codes Functions = functions.size
+sizes_of m types functions exports codes Exports = exports.size
+sizes_of m types functions exports codes Codes = codes.size
 
-appended : {a b more : List ℕ} (part : List ℕ) → more ≡ a ++ part → a ≡ b → more ≡ b ++ part
-appended part h e = h ∙ ap (λ v. v ++ part) e
+pub fits_of : {N : Type 0} (m : AbstractModule N) → SectionFits FuncTypeFits func_type m.types → SectionFits Any type_index m.functions → SectionFits ExportFits export_item m.exports → SectionFits FunctionFits code_item m.functions → Fits m
+fits_of m types functions exports codes = record {
+  type_count = types.count;
+  types = types.each;
+  function_count = codes.count;
+  functions = codes.each;
+  export_count = exports.count;
+  exports = exports.each;
+  sizes = sizes_of m types functions exports codes;
+}
 
-pub laid : {N : Type 0} (m : AbstractModule N) (start first second third fourth : List ℕ) → IsModule m → SectionFits FuncTypeFits func_type m.types → SectionFits Any type_index m.functions → SectionFits ExportFits export_item m.exports → SectionFits FunctionFits code_item m.functions
+-- the header and four sections, appended one after another
+pub bytes_of : {N : Type 0} (m : AbstractModule N) (start first second third fourth : List ℕ)
     → start ≡ header
-    → first ≡ start ++ slot 1 (if_any (counted func_type) m.types)
-    → second ≡ first ++ slot 3 (if_any (counted type_index) m.functions)
-    → third ≡ second ++ slot 7 (if_any (counted export_item) m.exports)
-    → fourth ≡ third ++ slot 10 (if_any (counted code_item) m.functions)
-    → Lays fourth m
-unfolding slots
-laid m start first second third fourth is_module types functions exports codes e0 e1 e2 e3 e4 = (
-    let p1 = slot 1 (if_any (counted func_type) m.types) in
-    let p2 = slot 3 (if_any (counted type_index) m.functions) in
-    let p3 = slot 7 (if_any (counted export_item) m.exports) in
-    let p4 = slot 10 (if_any (counted code_item) m.functions) in
-    record {
-      is_module = is_module;
-      fits = record {
-        type_count = types.count;
-        types = types.each;
-        function_count = codes.count;
-        functions = codes.each;
-        export_count = exports.count;
-        exports = exports.each;
-        sizes = all_of PartFits (present order (bodies m)) (present-fits order (bodies m) (types.size, (functions.size, (exports.size, (codes.size, tt)))));
-      };
-      bytes =
-          appended p4 e4 (appended p3 e3 (appended p2 e2 (appended p1 e1 e0)))
-          ∙ joined-five header p1 p2 p3 p4
-          ∙ ap (λ v. header ++ v) (sym (present-slots order (bodies m)));
-    })
+    → first ≡ start ++ slot 1 (body_of m Types)
+    → second ≡ first ++ slot 3 (body_of m Functions)
+    → third ≡ second ++ slot 7 (body_of m Exports)
+    → fourth ≡ third ++ slot 10 (body_of m Codes)
+    → fourth ≡ layout m
+bytes_of m start first second third fourth e0 e1 e2 e3 e4 = (
+    let f = body_of m in
+    followed f Types _ _ _ _ e1 (followed f Functions _ _ _ _ e2 (followed f Exports _ _ _ _ e3 (followed f Codes _ _ _ _ e4 (ended f fourth))))
+    ∙ ap (λ v. v ++ slots f order) e0
+    ∙ ap (λ v. header ++ v) (sym (slots-are f order)))

@@ -12,10 +12,10 @@ use Rattle.wasm_encoder_base.proofs.UniqueLeb.{unique_uleb}
 use Rattle.wasm_encoder_base.proofs.UniqueInstr.{injective_expr}
 use Rattle.wat.specs.AbstractModule.{ValType, I32, FuncType, Function, ExportKind, Func, Export}
 use Rattle.wat.specs.Parts.{Part, if_any}
-use Rattle.wat.specs.Layout.{val_code, val_type, func_type, export_code, export_item, Run, same_type, joins, joined, run_bytes, code_item, type_index, SectionKind, Types, Functions, Exports, Codes, section_id, section, order, bodies, sections, header, layout, IsFunction}
+use Rattle.wat.specs.Layout.{val_code, val_type, func_type, export_code, export_item, Run, same_type, joins, joined, run_bytes, code_item, type_index, SectionKind, Types, Functions, Exports, Codes, section_id, section, order, body_of, sections, header, layout, IsFunction}
 use Rattle.wat.specs.Laws.{OneReading, OneBinary}
 use Rattle.wat.proofs.Counted.{counted-map}
-use Rattle.wat.proofs.UniqueSections.{present_parts, if_any_parts, some_parts, some_is_not_none}
+use Rattle.wat.proofs.UniqueSections.{stands_in, present_parts, if_any_parts, some_parts, some_is_not_none}
 
 -- enums
 val_back : ℕ → ValType
@@ -145,6 +145,13 @@ functions_again (x ∷ xs) (y ∷ ys) p q a b =
 pub one_binary : OneBinary
 one_binary b c m x y = x.bytes ∙ sym y.bytes
 
+-- the order has every section
+ordered : (k : SectionKind) → stands_in section_id k order ≡ true
+ordered Types = refl
+ordered Functions = refl
+ordered Exports = refl
+ordered Codes = refl
+
 section-full : (p : Part SectionKind) → section p ≢ []
 section-full p e = no_cons e
 
@@ -152,11 +159,8 @@ pub one_reading : OneReading
 one_reading b m n x y =
     let same : layout m ≡ layout n = sym x.lays.bytes ∙ y.lays.bytes in
     let parts : sections m ≡ sections n = (injective_all unique_section (λ p _. section-full p)).reads (sections m) (sections n) (any_each (sections m)) (any_each (sections n)) (append_cancel_left header (flat_map section (sections m)) (flat_map section (sections n)) same) in
-    let b0 = present_parts section_id order (bodies m) (bodies n) refl refl refl parts in
-    let b1 = cons_tail b0 in
-    let b2 = cons_tail b1 in
-    let b3 = cons_tail b2 in
-    let types = if_any_parts (injective_of (unique_list unique_func_type)) m.types n.types tt tt (cons_head b0) in
-    let functions = functions_again m.functions n.functions x.lays.is_module.functions y.lays.is_module.functions (cons_head b1) (cons_head b3) in
-    let exports = if_any_parts (injective_of (unique_list unique_export)) m.exports n.exports tt tt (cons_head b2) in
+    let at : (k : SectionKind) → body_of m k ≡ body_of n k = λ k. present_parts section_id section_back section_undoes order (body_of m) (body_of n) refl parts k (ordered k) in
+    let types = if_any_parts (injective_of (unique_list unique_func_type)) m.types n.types tt tt (at Types) in
+    let functions = functions_again m.functions n.functions x.lays.is_module.functions y.lays.is_module.functions (at Functions) (at Codes) in
+    let exports = if_any_parts (injective_of (unique_list unique_export)) m.exports n.exports tt tt (at Exports) in
     λ i. record { types = types i; functions = functions i; exports = exports i }

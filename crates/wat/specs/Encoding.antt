@@ -4,6 +4,7 @@ use Rattle.wasm_encoder_base.specs.Bytes.{counted, sized}
 use Rattle.wasm_encoder_base.specs.Instr.{Instr}
 use Rattle.wat.specs.AbstractModule.{AbstractModule, Function, Func as kind_Func, Export}
 use Rattle.wat.specs.Parts.{if_any}
+use Rattle.wat.specs.Layout.{SizeFits}
 use Rattle.wat.specs.Meaning.{instr_of, function_of, meant}
 use Rattle.wat.specs.Trees.{instruction_tree, func_tree, module_tree}
 use Rattle.wat.specs.declared.tree.Module.{Module as CodeModule}
@@ -33,12 +34,8 @@ abbrev pub slot : ℕ → Option (List ℕ) → List ℕ
 slot id None = []
 slot id (Some body) = id ∷ sized body
 
-abbrev pub SlotFits : Option (List ℕ) → Type 0
-SlotFits None = Unit {0}
-SlotFits (Some body) = length body < 2 ^ 32
-
 -- the counts and lengths of the section of a list
 pub record SectionFits {A : Type 0} (P : A → Type 0) (spell : A → List ℕ) (items : List A) : Type 0 where
   pub count : length items < 2 ^ 32
   pub each : All P items
-  pub size : SlotFits (if_any (counted spell) items)
+  pub size : SizeFits (if_any (counted spell) items)

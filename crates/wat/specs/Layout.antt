@@ -1,5 +1,5 @@
 -- The binary of a module (WebAssembly 3.0, chapter 5).
-use Rattle.std.specs.Prelude.{ℕ, ◌≡◌, ◌+◌, ◌<◌, ◌^◌, Bool, true, false, List, [], ◌∷◌, ◌++◌, length, Option, nat_eq, All}
+use Rattle.std.specs.Prelude.{ℕ, ◌≡◌, ◌+◌, ◌<◌, ◌^◌, Bool, true, false, List, [], ◌∷◌, ◌++◌, length, Option, Some, None, nat_eq, All}
 use Rattle.std.specs.List.{flat_map}
 use Rattle.wasm_encoder_base.specs.Leb.{uleb}
 use Rattle.wasm_encoder_base.specs.Bytes.{counted, sized}
@@ -70,20 +70,18 @@ section_id Codes = 10
 abbrev pub section : Part SectionKind → List ℕ
 section p = section_id p.kind ∷ sized p.body
 
--- the order of the sections, and their bodies; a section of an empty list is absent
 abbrev pub order : List SectionKind
 order = Types ∷ Functions ∷ Exports ∷ Codes ∷ []
 
-abbrev pub bodies : {N : Type 0} → AbstractModule N → List (Option (List ℕ))
-bodies m =
-    if_any (counted func_type) m.types
-    ∷ if_any (counted type_index) m.functions
-    ∷ if_any (counted export_item) m.exports
-    ∷ if_any (counted code_item) m.functions
-    ∷ []
+-- what a section holds; that of an empty list is absent (5.5.4, 5.5.6, 5.5.10, 5.5.13)
+abbrev pub body_of : {N : Type 0} → AbstractModule N → SectionKind → Option (List ℕ)
+body_of m Types = if_any (counted func_type) m.types
+body_of m Functions = if_any (counted type_index) m.functions
+body_of m Exports = if_any (counted export_item) m.exports
+body_of m Codes = if_any (counted code_item) m.functions
 
 abbrev pub sections : {N : Type 0} → AbstractModule N → List (Part SectionKind)
-sections m = present order (bodies m)
+sections m = present (body_of m) order
 
 -- the magic number and the version
 abbrev pub header : List ℕ
@@ -107,8 +105,9 @@ pub record ExportFits (e : Export) : Type 0 where
   pub index : e.index < 2 ^ 32
 
 -- the size of a section
-abbrev pub PartFits : {K : Type 0} → Part K → Type 0
-PartFits p = length p.body < 2 ^ 32
+abbrev pub SizeFits : Option (List ℕ) → Type 0
+SizeFits None = Unit {0}
+SizeFits (Some body) = length body < 2 ^ 32
 
 pub record Fits {N : Type 0} (m : AbstractModule N) : Type 0 where
   pub type_count : length m.types < 2 ^ 32
@@ -117,7 +116,7 @@ pub record Fits {N : Type 0} (m : AbstractModule N) : Type 0 where
   pub functions : All FunctionFits m.functions
   pub export_count : length m.exports < 2 ^ 32
   pub exports : All ExportFits m.exports
-  pub sizes : All PartFits (sections m)
+  pub sizes : (k : SectionKind) → SizeFits (body_of m k)
 
 -- each instruction is one of the table, with operands in range
 pub record IsFunction (f : Function) : Type 0 where

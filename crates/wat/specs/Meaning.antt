@@ -15,7 +15,7 @@ instr_of i = record { opcode = i.entry.opcode; operands = operands_of i.operands
 abbrev pub no_params : FuncType
 no_params = record { params = []; results = [] }
 
--- A function that names no type implies one, which stands after the types that are written (6.6.4). Here each has the same.
+-- A function that names no type implies one, which stands after the types that are written (6.6). Here each has the same.
 abbrev pub implied_by : {N P : Type 0} → List (TreeFunc N P) → List FuncType
 implied_by [] = []
 implied_by (f ∷ fs) = no_params ∷ []

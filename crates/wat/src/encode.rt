@@ -1,9 +1,9 @@
 //! The encoder: the binary of a tree.
 
-ghost use Rattle.std.specs.Prelude.{◌≡◌, ℕ, ◌<◌, ◌^◌, ◌++◌, [], ◌∷◌, List, length, map, IfOk, OnOk, OnErr, All, IsErrOf};
+ghost use Rattle.std.specs.Prelude.{◌≡◌, ℕ, ◌<◌, ◌^◌, ◌++◌, [], ◌∷◌, List, length, map, IfOk, OnOk, All, IsErrOf};
 ghost use Rattle.std.specs.List.{flat_map};
 ghost use Rattle.wasm_encoder_base.specs.Bytes.{counted, sized};
-ghost use Rattle.wasm_encoder_base.specs.Instr.{instr_bytes, expr_bytes, IsInstr};
+ghost use Rattle.wasm_encoder_base.specs.Instr.{instr_bytes, IsInstr};
 ghost use Rattle.wasm_encoder_base.specs.Unique.{Any};
 ghost use Rattle.wat.specs.Parts.{if_any};
 ghost use Rattle.wat.specs.Layout.{func_type, FuncTypeFits, type_index, export_item, ExportFits, code_body, code_item, FunctionFits, IsFunction, Fits, Lays};

@@ -183,24 +183,33 @@ fn texts_of_faults(rt: HostRuntime) -> Result<(), Fail> {
     Ok(())
 }
 
-/// With a growth refused (`bin/refuse`) the answer is `Memory`, else the binary.
+/// With a growth refused (`bin/refuse`) the answer is `Memory`, and the test then fails by its result; else it is the
+/// binary.
 #[test]
-fn refused_growths(rt: HostRuntime) {
-    let text =
-        "(module (func (export \"a\") (export \"b\") nop i32.const 1 drop) (func (export \"c\")))";
+fn refused_growths(rt: HostRuntime) -> Result<(), Fail> {
+    let text = "(module (func (export \"a\") nop i32.const 1 drop) (func (export \"b\")))";
     match assemble(rt.alloc(), text.as_bytes()) {
-        Ok(binary) => assert_eq!(rt; binary.len(), 47),
-        Err(Fault::Memory) => {}
-        Err(_) => assert!(rt; false, "another fault"),
+        Ok(binary) => assert_eq!(rt; binary.len(), 43),
+        Err(fault) => {
+            assert!(rt; matches!(&fault, Fault::Memory), "{fault}");
+            return Err(fault.into());
+        }
     }
+    Ok(())
 }
 
 /// The same for a text that spells no module.
 #[test]
-fn refused_growths_of_a_fault(rt: HostRuntime) {
+fn refused_growths_of_a_fault(rt: HostRuntime) -> Result<(), Fail> {
     match assemble(rt.alloc(), b"(module (func (export \"a\") drop) $)") {
-        Err(Fault::Spelling(error)) => assert_eq!(rt; error.span().offset(), 33),
-        Err(Fault::Memory) => {}
-        _ => assert!(rt; false, "another answer"),
+        Ok(_binary) => assert!(rt; false),
+        Err(fault) => match &fault {
+            Fault::Spelling(error) => assert_eq!(rt; error.span().offset(), 33),
+            _ => {
+                assert!(rt; matches!(&fault, Fault::Memory), "{fault}");
+                return Err(fault.into());
+            }
+        },
     }
+    Ok(())
 }
