@@ -1,7 +1,15 @@
 -- One more byte of LEB128, with no bound on how many.
-use Rattle.std.proofs.Common.{ℕ, zero, suc, ◌≡◌, ◌+◌, ◌/◌, ◌%◌, ◌<◌, ◌≤◌, Bool, false, [], ◌∷◌, length, refl, sym, ap, ◌∙◌, ⊎_elim, arith}
+use Rattle.std.proofs.Common.{ℕ, zero, suc, ◌≡◌, ◌+◌, ◌/◌, ◌%◌, ◌<◌, ◌≤◌, Bool, true, false, [], ◌∷◌, length, refl, sym, ap, ◌∙◌, ⊎_elim, arith}
 use Rattle.std.proofs.lemmas.Bool.{lt-ltb, le-ltb, cases_lt}
 use Rattle.wasm_encoder_base.specs.Leb.{seven, digits, leb, uleb}
+
+pub seven-below : (flip : Bool) (d : ℕ) → d < 128 → seven flip d < 128
+seven-below false d h = h
+seven-below true d h = omega arith
+
+pub seven-twice : (flip : Bool) (d : ℕ) → d < 128 → seven flip (seven flip d) ≡ d
+seven-twice false d h = refl
+seven-twice true d h = omega arith
 
 digits-last : (more : ℕ) (flip : Bool) (limit n : ℕ) → n < limit → digits more flip limit n ≡ seven flip n ∷ []
 unfolding digits

@@ -1,6 +1,10 @@
 pub mod LebSteps
+pub mod Mapped
+pub mod ReadSteps
 pub mod Shortest
 pub mod UniqueBytes
 pub mod UniqueInstr
 pub mod UniqueLeb
+pub mod UniqueOperands
 pub mod UniqueParts
+pub mod UniqueTypes

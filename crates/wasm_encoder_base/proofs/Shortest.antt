@@ -7,7 +7,7 @@ use Rattle.std.proofs.lemmas.Int.{ints}
 use Rattle.wasm_encoder_base.specs.Leb.{seven, leb, uleb, sleb}
 use Rattle.wasm_encoder_base.specs.Decodes.{IsCode, unsigned_of, signed_of, IsShortest}
 use Rattle.wasm_encoder_base.specs.Laws.{ShortestUnsigned, ShortestSigned}
-use Rattle.wasm_encoder_base.proofs.LebSteps.{leb-last, leb-more}
+use Rattle.wasm_encoder_base.proofs.LebSteps.{seven-below, seven-twice, leb-last, leb-more}
 
 -- a code whose last byte stands for less than the limit
 EndsBelow : Bool → ℕ → List ℕ → Type 0
@@ -20,14 +20,6 @@ size_of : Bool → List ℕ → ℕ
 size_of flip [] = 0
 size_of flip (b ∷ []) = seven flip b
 size_of flip (b ∷ c ∷ bytes) = seven flip (b - 128) + 128 * size_of flip (c ∷ bytes)
-
-seven-below : (flip : Bool) (d : ℕ) → d < 128 → seven flip d < 128
-seven-below false d h = h
-seven-below true d h = omega arith
-
-seven-twice : (flip : Bool) (d : ℕ) → d < 128 → seven flip (seven flip d) ≡ d
-seven-twice false d h = refl
-seven-twice true d h = omega arith
 
 ends-cons : (flip : Bool) (limit b : ℕ) (bytes : List ℕ) → 128 ≤ b → b < 256 → EndsBelow flip limit bytes → EndsBelow flip limit (b ∷ bytes)
 unfolding EndsBelow

@@ -1,35 +1,37 @@
 -- Instructions are told apart by their bytes: no opcode of the table begins another.
-use Rattle.std.proofs.Common.{ℕ, ◌≡◌, ◌≢◌, ◌⊎◌, Bool, true, false, eqb, List, [], ◌∷◌, ◌++◌, Option, Some, None, refl, sym, ap, ◌∙◌, subst, inl, inr, ⊎_elim, append_assoc, flat_map}
+use Rattle.std.proofs.Common.{ℕ, zero, suc, ◌≡◌, ◌≢◌, ◌⊎◌, Bool, true, false, List, [], ◌∷◌, ◌++◌, Option, Some, None, refl, sym, ap, ◌∙◌, subst, inl, inr, ⊎_elim, append_assoc, flat_map, length, filter}
 use Rattle.std.proofs.lemmas.Bool.{eq-eqb}
 use Rattle.std.proofs.lemmas.List.{append_cancel_right}
 use Rattle.std.specs.Cmp.Lexicographic.{same_text as text_equal}
 use Rattle.std.specs.List.{AllByRecursion}
-use Rattle.wasm_encoder_base.specs.Instr.{Instr, Operands, NoOperands, I32, operand_bytes, instr_bytes, expr_bytes, row_among, row_at, row_of, in_range, IsInstr}
+use Rattle.std.specs.Option.{option_map}
+use Rattle.wasm_encoder_base.specs.Leb.{uleb, leb, digits}
+use Rattle.wasm_encoder_base.specs.Instr.{Instr, Kind, Nothing, kind_of, kind_of_row, operand_bytes, instr_bytes, expr_bytes, row_among, row_at, kind_at, IsInstr}
+use Rattle.wasm_encoder_base.specs.Balanced.{Turn, Opens, Closes, Stays, turn_of, turned, IsBalanced}
 use Rattle.wasm_encoder_base.specs.Table.{Entry, Row, table, same_text}
+use Rattle.wasm_encoder_base.specs.Distinct.{opcodes, mnemonics, single_mnemonic, are_distinct, begins, apart_from, are_apart}
 use Rattle.wasm_encoder_base.specs.Unique.{Unique, Injective}
-use Rattle.wasm_encoder_base.proofs.UniqueLeb.{unique_sleb}
+use Rattle.wasm_encoder_base.proofs.UniqueOperands.{operands_one}
 use Rattle.wasm_encoder_base.proofs.UniqueParts.{cons_head, cons_tail, append_cancel, injective_all}
 
--- tests that the check computes
-abbrev begins : List ℕ → List ℕ → Bool
-begins [] ys = true
-begins (x ∷ xs) [] = false
-begins (x ∷ xs) (y ∷ ys) = elim (eqb x y) [ true ↦ begins xs ys | false ↦ false ]
-
-abbrev apart_from : List ℕ → List Entry → Bool
-apart_from x [] = true
-apart_from x (e ∷ es) = elim (begins x e.opcode) [ true ↦ false | false ↦ elim (begins e.opcode x) [ true ↦ false | false ↦ apart_from x es ] ]
-
-abbrev are_apart : List Entry → Bool
-are_apart [] = true
-are_apart (e ∷ es) = elim (apart_from e.opcode es) [ true ↦ are_apart es | false ↦ false ]
-
-opcodes-apart : are_apart table ≡ true
-unfolding table
+pub opcodes-apart : are_apart (opcodes table) ≡ true
+unfolding table uleb leb digits
 opcodes-apart = refl
 
+pub opcodes-distinct : are_distinct (opcodes table) ≡ true
+unfolding table uleb leb digits
+opcodes-distinct = refl
+
+pub mnemonics-distinct : are_distinct (mnemonics (filter single_mnemonic table)) ≡ true
+unfolding table uleb leb digits
+mnemonics-distinct = refl
+
+pub table-entries : length table ≡ 575
+unfolding table uleb leb digits
+table-entries = refl
+
 no-empty-opcode : row_at [] ≡ None
-unfolding row_at table
+unfolding row_at table uleb leb digits
 no-empty-opcode = refl
 
 -- what a test that chooses by another knows
@@ -56,11 +58,11 @@ begins-either (x ∷ xs) (y ∷ ys) r s e =
     ⊎_elim (λ p. inl (rw (eq-eqb x y (cons_head e), begins) p)) (λ p. inr (rw (eq-eqb y x (sym (cons_head e)), begins) p)) (begins-either xs ys r s (cons_tail e))
 
 -- a text apart from those of a list that has this one
-apart-at : (x b : List ℕ) (es : List Entry) (row : Row) → apart_from x es ≡ true → row_among b es ≡ Some row → (begins x b ≡ false) × (begins b x ≡ false)
+apart-at : (x b : List ℕ) (es : List Entry) (row : Row) → apart_from x (opcodes es) ≡ true → row_among b es ≡ Some row → (begins x b ≡ false) × (begins b x ≡ false)
 apart-at x b [] row p q = cc
 apart-at x b (y ∷ ys) row p q =
     let h = neither-true (begins x y.opcode) _ p in
-    let k = neither-true (begins y.opcode x) (apart_from x ys) h.1 in
+    let k = neither-true (begins y.opcode x) (apart_from x (opcodes ys)) h.1 in
     ⊎_elim (λ e. let f = same-text b y.opcode e in rw f (h.0, k.0)) (λ e. apart-at x b ys row k.1 e) (row-cases (same_text b y.opcode) y.row row (row_among b ys) q)
 
 true-false : {Z : Type 0} (b : Bool) → b ≡ true → b ≡ false → Z
@@ -71,10 +73,10 @@ not-apart : {Z : Type 0} (a b r s : List ℕ) → a ++ r ≡ b ++ s → begins a
 not-apart a b r s e p q = ⊎_elim (λ m. true-false (begins a b) m p) (λ m. true-false (begins b a) m q) (begins-either a b r s e)
 
 -- two opcodes of a list of which none begins another
-apart-same : (es : List Entry) (a b r s : List ℕ) (j k : Row) → are_apart es ≡ true → row_among a es ≡ Some j → row_among b es ≡ Some k → a ++ r ≡ b ++ s → a ≡ b
+apart-same : (es : List Entry) (a b r s : List ℕ) (j k : Row) → are_apart (opcodes es) ≡ true → row_among a es ≡ Some j → row_among b es ≡ Some k → a ++ r ≡ b ++ s → a ≡ b
 apart-same [] a b r s j k t p q e = cc
 apart-same (x ∷ xs) a b r s j k t p q e =
-    let u = both-true (apart_from x.opcode xs) (are_apart xs) t in
+    let u = both-true (apart_from x.opcode (opcodes xs)) (are_apart (opcodes xs)) t in
     ⊎_elim
     (λ f. ⊎_elim (λ g. same-text a x.opcode f ∙ sym (same-text b x.opcode g))
     (λ g. let z = same-text a x.opcode f in let w = apart-at x.opcode b xs k u.0 g in not-apart x.opcode b r s (subst (λ v. v ++ r ≡ b ++ s) z e) w.0 w.1)
@@ -89,23 +91,29 @@ opcode-one : (a b r s : List ℕ) (j k : Row) → row_at a ≡ Some j → row_at
 unfolding row_at
 opcode-one a b r s j k p q e = apart-same table a b r s j k opcodes-apart p q e
 
-some-one : {x y : Row} → Some x ≡ Some y → x ≡ y
-some-one e = cc
+some_one : {A : Type 0} {x y : A} → Some x ≡ Some y → x ≡ y
+some_one e = cc
 
--- operands of one row
-operands-one : (x y : Operands) (r s : List ℕ) → row_of x ≡ row_of y → in_range x → in_range y → operand_bytes x ++ r ≡ operand_bytes y ++ s → (x ≡ y) × (r ≡ s)
-operands-one NoOperands NoOperands r s k p q e = (refl, e)
-operands-one (I32 a) (I32 b) r s k p q e = let h = unique_sleb.reads a b r s tt tt e in (ap I32 h.0, h.1)
-operands-one _ _ r s k p q e = cc
+-- an opcode with operands has a row
+has_row : (k : Kind) (row : Option Row) → option_map kind_of_row row ≡ Some k → (r : Row) × (row ≡ Some r)
+has_row k (Some r) e = (r, refl)
+has_row k None e = absurd cc
+
+row_listed : (o : List ℕ) (k : Kind) → kind_at o ≡ Some k → (r : Row) × (row_at o ≡ Some r)
+row_listed o k e = has_row k (row_at o) e
+
+-- opcodes of the table are told apart, whatever follows
+pub opcode_listed : (a b r s : List ℕ) (j k : Kind) → kind_at a ≡ Some j → kind_at b ≡ Some k → a ++ r ≡ b ++ s → a ≡ b
+opcode_listed a b r s j k p q e = let u = row_listed a j p in let v = row_listed b k q in opcode-one a b r s u.0 v.0 u.1 v.1 e
 
 pub unique_instr : Unique IsInstr instr_bytes
 unique_instr = record {
   reads = λ i j r s p q e. (
       let f : i.opcode ++ (operand_bytes i.operands ++ r) ≡ j.opcode ++ (operand_bytes j.operands ++ s) = sym (append_assoc i.opcode (operand_bytes i.operands) r) ∙ e ∙ append_assoc j.opcode (operand_bytes j.operands) s in
-      let o = opcode-one i.opcode j.opcode _ _ _ _ p.listed q.listed f in
-      let k : row_of i.operands ≡ row_of j.operands = some-one (sym p.listed ∙ ap row_at o ∙ q.listed) in
+      let o = opcode_listed i.opcode j.opcode _ _ _ _ p.listed q.listed f in
+      let k : kind_of i.operands ≡ kind_of j.operands = some_one (sym p.listed ∙ ap kind_at o ∙ q.listed) in
       let rest = append_cancel j.opcode (operand_bytes i.operands ++ r) (operand_bytes j.operands ++ s) (ap (λ v. v ++ (operand_bytes i.operands ++ r)) (sym o) ∙ f) in
-      let h = operands-one i.operands j.operands r s k p.ranges q.ranges rest in
+      let h = operands_one i.operands j.operands r s k p.ranges q.ranges rest in
       (λ t. record { opcode = o t; operands = h.0 t }, h.1));
 }
 
@@ -118,8 +126,42 @@ append-full [] b e = refl
 append-full (x ∷ a) b e = cc
 
 instr-full : (i : Instr) → IsInstr i → instr_bytes i ≢ []
-instr-full i p e = opcode-full i.opcode (row_of i.operands) p.listed (append-full i.opcode (operand_bytes i.operands) e)
+instr-full i p e = let u = row_listed i.opcode (kind_of i.operands) p.listed in opcode-full i.opcode u.0 u.1 (append-full i.opcode (operand_bytes i.operands) e)
 
 -- a body that ends where its bytes end
 pub injective_expr : Injective (AllByRecursion IsInstr) expr_bytes
 injective_expr = record { reads = λ x y p q e. (injective_all unique_instr instr-full).reads x y p q (append_cancel_right (flat_map instr_bytes x) (flat_map instr_bytes y) (0x0B ∷ []) e) }
+
+-- the end is an instruction
+end_listed : kind_at (0x0B ∷ []) ≡ Some Nothing
+unfolding row_at table uleb leb digits
+end_listed = refl
+
+-- no instruction that may stand where no block is open begins with the end
+not_end : (i : Instr) (is : List Instr) (d : ℕ) (r s : List ℕ) → d ≡ 0 → IsInstr i → IsBalanced (i ∷ is) d → 0x0B ∷ r ≡ (i.opcode ++ operand_bytes i.operands) ++ s → ⊥
+not_end i is d r s z p b e =
+    let f : (0x0B ∷ []) ++ r ≡ i.opcode ++ (operand_bytes i.operands ++ s) = e ∙ append_assoc i.opcode (operand_bytes i.operands) s in
+    let o : 0x0B ∷ [] ≡ i.opcode = opcode_listed (0x0B ∷ []) i.opcode r (operand_bytes i.operands ++ s) Nothing (kind_of i.operands) end_listed p.listed f in
+    let c : turned (turn_of i.opcode) (IsBalanced is) 0 = subst (λ n. turned (turn_of i.opcode) (IsBalanced is) n) z b in
+    subst (λ v. turned (turn_of v) (IsBalanced is) 0) (sym o) c
+
+turned_both : (t : Turn) (P Q : ℕ → Type 0) (d : ℕ) → turned t P d → turned t Q d → (e : ℕ) × (P e × Q e)
+turned_both Opens P Q d p q = (suc d, (p, q))
+turned_both Closes P Q zero p q = absurd p
+turned_both Closes P Q (suc d) p q = (d, (p, q))
+turned_both Stays P Q d p q = (d, (p, q))
+
+expr_one : (is js : List Instr) (d : ℕ) (r s : List ℕ) → AllByRecursion IsInstr is → AllByRecursion IsInstr js → IsBalanced is d → IsBalanced js d → flat_map instr_bytes is ++ (0x0B ∷ r) ≡ flat_map instr_bytes js ++ (0x0B ∷ s) → (is ≡ js) × (r ≡ s)
+expr_one [] [] d r s p q b c e = (refl, cons_tail e)
+expr_one [] (j ∷ js) d r s p q b c e = absurd (not_end j js d r (flat_map instr_bytes js ++ (0x0B ∷ s)) b q.0 c (e ∙ append_assoc (instr_bytes j) (flat_map instr_bytes js) (0x0B ∷ s)))
+expr_one (i ∷ is) [] d r s p q b c e = absurd (not_end i is d s (flat_map instr_bytes is ++ (0x0B ∷ r)) c p.0 b (sym e ∙ append_assoc (instr_bytes i) (flat_map instr_bytes is) (0x0B ∷ r)))
+expr_one (i ∷ is) (j ∷ js) d r s p q b c e =
+    let h = unique_instr.reads i j (flat_map instr_bytes is ++ (0x0B ∷ r)) (flat_map instr_bytes js ++ (0x0B ∷ s)) p.0 q.0 (sym (append_assoc (instr_bytes i) (flat_map instr_bytes is) (0x0B ∷ r)) ∙ e ∙ append_assoc (instr_bytes j) (flat_map instr_bytes js) (0x0B ∷ s)) in
+    let a : turned (turn_of j.opcode) (IsBalanced is) d = subst (λ (v : Instr). turned (turn_of v.opcode) (IsBalanced is) d) h.0 b in
+    let t = turned_both (turn_of j.opcode) (IsBalanced is) (IsBalanced js) d a c in
+    let k = expr_one is js t.0 r s p.1 q.1 t.1.0 t.1.1 h.1 in
+    (λ n. h.0 n ∷ k.0 n, k.1)
+
+-- an expression, whatever follows it
+pub unique_expr : Unique (λ (is : List Instr). AllByRecursion IsInstr is × IsBalanced is 0) expr_bytes
+unique_expr = record { reads = λ is js r s p q e. expr_one is js 0 r s p.0 q.0 p.1 q.1 (sym (append_assoc (flat_map instr_bytes is) (0x0B ∷ []) r) ∙ e ∙ append_assoc (flat_map instr_bytes js) (0x0B ∷ []) s) }

@@ -3,19 +3,15 @@ use Rattle.std.proofs.Common.{ℕ, zero, suc, ◌≡◌, ◌+◌, ◌-◌, ◌/�
 use Rattle.std.proofs.lemmas.Bool.{cases_lt}
 use Rattle.wasm_encoder_base.specs.Leb.{seven, leb, uleb, sleb}
 use Rattle.wasm_encoder_base.specs.Unique.{Unique, Any}
-use Rattle.wasm_encoder_base.proofs.LebSteps.{leb-last, leb-more}
+use Rattle.wasm_encoder_base.proofs.LebSteps.{seven-below, leb-last, leb-more}
 use Rattle.wasm_encoder_base.proofs.UniqueParts.{cons_head, cons_tail}
 
 seven-one : (flip : Bool) (m n : ℕ) → m < 128 → n < 128 → seven flip m ≡ seven flip n → m ≡ n
 seven-one false m n p q e = e
 seven-one true m n p q e = omega arith
 
-seven-low : (flip : Bool) (m : ℕ) → m < 128 → seven flip m < 128
-seven-low false m p = p
-seven-low true m p = omega arith
-
 -- with a bound k on both numbers
-leb-one : (k : ℕ) (flip : Bool) (limit m n : ℕ) (r s : List ℕ) → 0 < limit → limit ≤ 128 → m < k → n < k → leb flip limit m ++ r ≡ leb flip limit n ++ s → (m ≡ n) × (r ≡ s)
+pub leb-one : (k : ℕ) (flip : Bool) (limit m n : ℕ) (r s : List ℕ) → 0 < limit → limit ≤ 128 → m < k → n < k → leb flip limit m ++ r ≡ leb flip limit n ++ s → (m ≡ n) × (r ≡ s)
 leb-one zero flip limit m n r s p q a b e = absurd (omega arith)
 leb-one (suc k) flip limit m n r s p q a b e =
     ⊎_elim
@@ -23,11 +19,11 @@ leb-one (suc k) flip limit m n r s p q a b e =
     (λ y. (let f : seven flip m ∷ r ≡ seven flip n ∷ s = ap (λ l. l ++ r) (sym (leb-last flip limit m x)) ∙ e ∙ ap (λ l. l ++ s) (leb-last flip limit n y) in
     (seven-one flip m n (omega arith) (omega arith) (cons_head f), cons_tail f)))
     (λ y. (let f : seven flip m ∷ r ≡ (128 + seven flip (n % 128)) ∷ (leb flip limit (n / 128) ++ s) = ap (λ l. l ++ r) (sym (leb-last flip limit m x)) ∙ e ∙ ap (λ l. l ++ s) (leb-more flip limit n p y) in
-    absurd (omega (arith, cons_head f, seven-low flip m (omega arith)))))
+    absurd (omega (arith, cons_head f, seven-below flip m (omega arith)))))
     (cases_lt n limit))
     (λ x. ⊎_elim
     (λ y. (let f : (128 + seven flip (m % 128)) ∷ (leb flip limit (m / 128) ++ r) ≡ seven flip n ∷ s = ap (λ l. l ++ r) (sym (leb-more flip limit m p x)) ∙ e ∙ ap (λ l. l ++ s) (leb-last flip limit n y) in
-    absurd (omega (arith, cons_head f, seven-low flip n (omega arith)))))
+    absurd (omega (arith, cons_head f, seven-below flip n (omega arith)))))
     (λ y. (let f : (128 + seven flip (m % 128)) ∷ (leb flip limit (m / 128) ++ r) ≡ (128 + seven flip (n % 128)) ∷ (leb flip limit (n / 128) ++ s) = ap (λ l. l ++ r) (sym (leb-more flip limit m p x)) ∙ e ∙ ap (λ l. l ++ s) (leb-more flip limit n p y) in
     let low : m % 128 ≡ n % 128 = seven-one flip (m % 128) (n % 128) (omega arith) (omega arith) (omega (arith, cons_head f)) in
     let rest : (m / 128 ≡ n / 128) × (r ≡ s) = leb-one k flip limit (m / 128) (n / 128) r s p q (omega arith) (omega arith) (cons_tail f) in
@@ -36,7 +32,7 @@ leb-one (suc k) flip limit m n r s p q a b e =
     (cases_lt m limit)
 
 -- the last byte of a number that isn't negative is below 64, that of a negative one isn't
-signs-apart : (k m n : ℕ) (r s : List ℕ) → m < k → n < k → leb false 64 m ++ r ≡ leb true 64 n ++ s → ⊥
+pub signs-apart : (k m n : ℕ) (r s : List ℕ) → m < k → n < k → leb false 64 m ++ r ≡ leb true 64 n ++ s → ⊥
 signs-apart zero m n r s a b e = omega arith
 signs-apart (suc k) m n r s a b e =
     ⊎_elim

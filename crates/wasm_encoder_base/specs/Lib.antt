@@ -1,7 +1,13 @@
+pub mod Balanced
 pub mod Bytes
 pub mod Decodes
+pub mod Distinct
 pub mod Instr
 pub mod Laws
 pub mod Leb
+pub mod Reading
+pub mod Row
 pub mod Table
+pub mod Types
 pub mod Unique
+pub mod Views

@@ -181,3 +181,25 @@ fn put_all<T: Encode>(items: &[T], sink: &mut Vec<u8>) -> Result<(), EncodeError
     }
     Ok(())
 }
+
+/// Appends two spellings, one after the other; refused, the sink's bytes are unchanged.
+pub fn encode_both<T: Encode, U: Encode>(
+    first: &T,
+    second: &U,
+    sink: &mut Vec<u8>,
+) -> Result<(), EncodeError>
+    requires first { T.can_encode first.now }
+    requires second { U.can_encode second.now }
+    ensures spelled { OnOk result (sink.new.items ≡ sink.old.items ++ (T.spelling first.now ++ U.spelling second.now)) }
+    ensures fits { OnOk result (T.fits first.now × U.fits second.now) }
+    ensures unchanged { OnErr result (sink.new.items ≡ sink.old.items) }
+    ensures too_large { IsErrOf result EncodeError.TooLarge → T.fits first.now → U.fits second.now → ⊥ }
+{
+    let start = sink.len();
+    first.encode(sink)?;
+    let result = second.encode(sink);
+    if result.is_err() {
+        sink.truncate(start);
+    }
+    result
+}

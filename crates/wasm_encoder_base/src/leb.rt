@@ -40,7 +40,7 @@ pub fn push_signed(sink: &mut Vec<u8>, n: i64) -> Result<(), AllocError>
 }
 
 /// Seven bits, turned over where `flip`.
-fn seven(flip: bool, d: u8) -> u8
+pub fn seven(flip: bool, d: u8) -> u8
     requires { d < 128 }
     ensures value { result ≡ seven flip d }
     ensures low { result < 128 }

@@ -2,7 +2,8 @@
 use Rattle.std.proofs.Common.{◌≡◌, ℕ, zero, suc, ◌≤◌, ◌<◌, ◌+◌, Bool, true, false, List, [], ◌∷◌, ◌++◌, length, Option, Some, None, ◌⊎◌, inl, inr, refl, sym, ◌∙◌, ap, subst, arith, append_assoc, cond, length-append, append-nil, not, nat_eq}
 use Rattle.std.specs.Prelude.{is_some}
 use Rattle.std.proofs.lemmas.Bool.{cases_Bool}
-use Rattle.wasm_encoder_base.specs.Table.{Entry, find, table, same_text}
+use Rattle.wasm_encoder_base.specs.Table.{Entry, find, same_text}
+use Rattle.wat.specs.Profile.{profile}
 use Rattle.wat.specs.Tokens.{Tok, Open, Close, Id, Word, Mark, Integer, Text, Other, Broken, Literal}
 use Rattle.wat.specs.Grammar.{an_open, first, Reader, ◌>>=◌, look, under, Texts, Mnemonic, Begun, Any, holds, any_is, is_mnemonic, the_end, starts_with, Test, On, any_fits, at, apart, join, faults, ask, Syntax, one_of, token, that_word, words, that_one, word, entry_but, op, after, begun, that_id, id, that_integer, integer, that_text, string, nothing, next, seq, wide, seen, only, maybe_reads, maybe, many_reads, many_spells, many, that_open, that_close, paren_reads, unders, paren, led, group, either_reads, either, a_word, an_id, an_integer, a_string, sub, this_word}
 use Rattle.wat.proofs.Looks.{bind_ok, some_one, absurd_of, two, join_no, join_left, join_right, in_join, apart_no2, asked, under_in, sub_law, within, within_self}
@@ -255,8 +256,8 @@ some_is o a e = rw e refl
 
 op_is : (but : List (List ℕ)) (w : List ℕ) (a : Entry) → entry_but but w ≡ Some a → holds (Mnemonic but) w ≡ true
 op_is but w a e = elim (cases_Bool (any_is w but)) [
-  | inl y ↦ (let q : None ≡ Some a = sym (ap (λ b. cond b None (find w table)) y) ∙ e in cc)
-  | inr n ↦ two (is_mnemonic w) (not (any_is w but)) (some_is (find w table) a (sym (ap (λ b. cond b None (find w table)) n) ∙ e)) (ap not n)
+  | inl y ↦ (let q : None ≡ Some a = sym (ap (λ b. cond b None (find w profile)) y) ∙ e in cc)
+  | inr n ↦ two (is_mnemonic w) (not (any_is w but)) (some_is (find w profile) a (sym (ap (λ b. cond b None (find w profile)) n) ∙ e)) (ap not n)
 ]
 
 after_is : (p w v : List ℕ) → after p w ≡ Some v → starts_with p w ≡ true

@@ -3,7 +3,8 @@ use Rattle.std.proofs.Common.{◌≡◌, ℕ, Bool, true, false, List, [], ◌�
 use Rattle.std.specs.Prelude.{is_some}
 use Rattle.std.proofs.lemmas.Bool.{cases_Bool, eqb-true, eq-eqb}
 use Rattle.std.specs.Cmp.Lexicographic.{bytes_decides}
-use Rattle.wasm_encoder_base.specs.Table.{Entry, find, table, same_text}
+use Rattle.wasm_encoder_base.specs.Table.{Entry, find, same_text}
+use Rattle.wat.specs.Profile.{profile}
 use Rattle.wat.specs.Tokens.{Tok}
 use Rattle.wat.specs.Grammar.{◌>>=◌, an_open, same, ends, Look, under, Texts, This, Mnemonic, Begun, Any, holds, meet, is_mnemonic, any_starts, starts_with, Test, On, NotEnd, fits, clash, any_fits, at, any_clash, apart, join, faults, ask, under_test, unders, covers_text, covers, any_covers, sub}
 
@@ -71,8 +72,8 @@ meet_law (This v) u w n h = meet_this v u w n h
 meet_law (Mnemonic but) (This v) w n h = meet_that (Mnemonic but) v w n h
 meet_law (Begun p) (This v) w n h = meet_that (Begun p) v w n h
 meet_law Any (This v) w n h = meet_that Any v w n h
-meet_law (Begun p) (Mnemonic but) w n h = no_both (is_mnemonic w) _ (no_entry p w table n h)
-meet_law (Mnemonic but) (Begun p) w n h = elim (cases_Bool (starts_with p w)) [ inl y ↦ absurd_of (is_mnemonic w) (both (is_mnemonic w) _ h).0 (no_entry p w table n y) | inr z ↦ z ]
+meet_law (Begun p) (Mnemonic but) w n h = no_both (is_mnemonic w) _ (no_entry p w profile n h)
+meet_law (Mnemonic but) (Begun p) w n h = elim (cases_Bool (starts_with p w)) [ inl y ↦ absurd_of (is_mnemonic w) (both (is_mnemonic w) _ h).0 (no_entry p w profile n y) | inr z ↦ z ]
 meet_law (Begun p) (Begun q) w n h = elim (cases_Bool (starts_with q w)) [ inl y ↦ absurd_of _ (comparable p q w h y) n | inr z ↦ z ]
 meet_law _ _ w n h = cc
 

@@ -1,14 +1,15 @@
 -- Mnemonics and the entries of the table.
 use Rattle.std.proofs.Common.{◌≡◌, ℕ, suc, ◌+◌, ◌<◌, List, [], ◌∷◌, length, Some, refl, sym, ◌∙◌, ap, cond, map, drop, get_or, add-one}
 use Rattle.std.proofs.Math.Seq.{drop-cons}
-use Rattle.wasm_encoder_base.specs.Table.{find, table, same_text}
+use Rattle.wasm_encoder_base.specs.Table.{find, same_text}
+use Rattle.wat.specs.Profile.{profile}
 use Rattle.wat.specs.declared.mnemonic.Mnemonic.{Mnemonic}
 use Rattle.wat.specs.declared.mnemonic.Mnemonic.TheVariants.{Nop, Drop, I32Const}
 use Rattle.wat.specs.Trees.{mnemonic_text, entry_of}
 
 -- an entry is found under its mnemonic
 pub named : (m : Mnemonic) → (entry_of m).mnemonic ≡ mnemonic_text m
-unfolding table
+unfolding profile
 named Nop = refl
 named Drop = refl
 named I32Const = refl
@@ -22,6 +23,6 @@ find_here w t ms i d h e =
     ∙ ap (λ k. cond (same_text w t) (Some (entry_of (get_or ms i d))) (find w (map entry_of (drop k ms)))) (sym (add-one i))
 
 -- these are the table
-pub all_of_them : map entry_of (Nop ∷ Drop ∷ I32Const ∷ []) ≡ table
-unfolding table
+pub all_of_them : map entry_of (Nop ∷ Drop ∷ I32Const ∷ []) ≡ profile
+unfolding profile
 all_of_them = refl

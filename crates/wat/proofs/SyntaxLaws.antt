@@ -13,13 +13,13 @@ module _ {N P : Type 0} where
   i32_laws = seen_laws _ _ (only_laws _ _ integer_laws)
 
   operands_laws : (r : Row) → Lawful (operands {N = N} {P = P} r)
-  operands_laws rows.Plain = seen_laws _ _ nothing_laws
   operands_laws rows.I32 = seen_laws _ _ i32_laws
+  operands_laws _ = seen_laws _ _ nothing_laws
 
   -- in the bounds of all rows
   bounded_laws : (r : Row) → Lawful (wide row_starts true row_stops (operands {N = N} {P = P} r))
-  bounded_laws rows.Plain = bound_laws _ _ _ (operands_laws rows.Plain) refl refl
   bounded_laws rows.I32 = bound_laws _ _ _ (operands_laws rows.I32) refl refl
+  bounded_laws r = bound_laws _ _ _ (operands_laws r) refl refl
 
   pub instruction_laws : Lawful (instruction {N = N} {P = P})
   instruction_laws = seen_laws _ _ (next_laws (op []) (λ e. operands e.0.row) row_starts true row_stops (op_laws []) (λ e. bounded_laws e.0.row) refl)

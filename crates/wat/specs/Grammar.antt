@@ -1,7 +1,8 @@
 -- A small language of grammars. Each production says which tokens spell a value, and how it is read.
 -- What is promised of a text cites `spells` alone: looks, tests and `reads` say how a reader decides, and the laws join the two.
 use Rattle.std.specs.Prelude.{◌≡◌, ℕ, zero, suc, Bool, true, false, if◌then◌else◌, List, [], ◌∷◌, ◌++◌, length, Option, Some, None, is_some, ◌&&◌, ◌||◌, nat_eq, not, ◌⊎◌, ◌<◌}
-use Rattle.wasm_encoder_base.specs.Table.{Entry, find, table, same_text}
+use Rattle.wasm_encoder_base.specs.Table.{Entry, find, same_text}
+use Rattle.wat.specs.Profile.{profile}
 use Rattle.wat.specs.Tokens.{Tok, Open, Close, Id, Word, Mark, Integer, Text, Other, Broken, Literal}
 
 -- a value and the tokens after it, or nothing
@@ -104,7 +105,7 @@ any_starts p (e ∷ es) = starts_with p e.mnemonic || any_starts p es
 
 -- whether a word is an instruction's
 abbrev pub is_mnemonic : List ℕ → Bool
-is_mnemonic w = is_some (find w table)
+is_mnemonic w = is_some (find w profile)
 
 -- What a text may be: this one, an instruction's except some, one that begins so, any.
 pub data Texts : Type 0 where
@@ -124,8 +125,8 @@ holds Any w = true
 abbrev pub meet : Texts → Texts → Bool
 meet (This v) t = holds t v
 meet t (This v) = holds t v
-meet (Begun p) (Mnemonic but) = any_starts p table
-meet (Mnemonic but) (Begun p) = any_starts p table
+meet (Begun p) (Mnemonic but) = any_starts p profile
+meet (Mnemonic but) (Begun p) = any_starts p profile
 meet (Begun p) (Begun q) = starts_with p q || starts_with q p
 meet s t = true
 
@@ -246,9 +247,9 @@ that_one v _ = None
 abbrev pub word : {N P : Type 0} → List ℕ → Syntax N P P
 word v = token (that_one v) (this_word v ∷ [])
 
--- the entry of a word that the table lists, except some words
+-- the entry of a word that the profile lists, except some words
 abbrev pub entry_but : List (List ℕ) → List ℕ → Option Entry
-entry_but but w = if any_is w but then None else find w table
+entry_but but w = if any_is w but then None else find w profile
 
 abbrev pub op : {N P : Type 0} → List (List ℕ) → Syntax N P (Entry × P)
 op but = words (entry_but but) (Mnemonic but)

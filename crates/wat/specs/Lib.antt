@@ -11,6 +11,7 @@ pub mod Lexeme
 pub mod Meaning
 pub mod Means
 pub mod Parts
+pub mod Profile
 pub mod Reading
 pub mod Scan
 pub mod Span

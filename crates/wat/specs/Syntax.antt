@@ -23,8 +23,8 @@ module _ {N P : Type 0} where
 
   -- INSTRUCTIONS (6.5): a mnemonic of the table and the operands of its row.
   abbrev pub operands : Row → Syntax N P (Operands N P)
-  operands rows.Plain = seen (λ _. NoOperands) nothing
   operands rows.I32 = seen I32 i32_literal
+  operands _ = seen (λ _. NoOperands) nothing
 
   abbrev pub instruction_of : (Entry × P) × Operands N P → Instruction N P
   instruction_of i = record { place = i.0.1; entry = i.0.0; operands = i.1 }

@@ -1,6 +1,7 @@
 -- What the grammar sees of the code's trees.
 use Rattle.std.specs.Prelude.{ℕ, List, map}
-use Rattle.wasm_encoder_base.specs.Table.{Entry, nop_entry, drop_entry, i32_const_entry}
+use Rattle.wasm_encoder_base.specs.Table.{Entry}
+use Rattle.wat.specs.Profile.{nop_entry, drop_entry, i32_const_entry}
 use Rattle.wat.specs.Tree.{Operands, NoOperands, I32}
 use Rattle.wat.specs.Tree as spec
 use Rattle.wat.specs.declared.mnemonic.Mnemonic.{Mnemonic}

@@ -1,6 +1,7 @@
 //! The mnemonics of instructions.
 ghost use Rattle.std.specs.Prelude.{◌≡◌, map, option_map};
-ghost use Rattle.wasm_encoder_base.specs.Table.{find, table};
+ghost use Rattle.wasm_encoder_base.specs.Table.{find};
+ghost use Rattle.wat.specs.Profile.{profile};
 ghost use Rattle.wat.specs.Trees.{entry_of, mnemonic_text};
 
 #[derive(Clone, Copy, Debug, PartialEq, Eq)]
@@ -16,7 +17,7 @@ const MNEMONICS: [Mnemonic; 3] = [Mnemonic::Nop, Mnemonic::Drop, Mnemonic::I32Co
 impl Mnemonic {
     /// The mnemonic that is written so.
     pub fn of(text: &[u8]) -> Option<Mnemonic>
-        ensures { option_map entry_of result ≡ find text.now table }
+        ensures { option_map entry_of result ≡ find text.now profile }
     {
         find_among(&MNEMONICS, text)
     }

@@ -1,7 +1,6 @@
 use Rattle.wasm_encoder_base.proofs.UniqueLeb.{unique_uleb, unique_sleb}
 use Rattle.wasm_encoder_base.proofs.UniqueBytes.{unique_counted, unique_name}
-use Rattle.wasm_encoder_base.proofs.UniqueInstr.{unique_instr}
 use Rattle.wasm_encoder_base.proofs.laws.one_reading.Goals as goal
 
 pub returns : goal.returns
-returns c = record { unsigned = unique_uleb; signed = unique_sleb; names = unique_name; lists = unique_counted unique_uleb; instructions = unique_instr }
+returns c = record { unsigned = unique_uleb; signed = unique_sleb; names = unique_name; lists = unique_counted unique_uleb }

@@ -1,0 +1,73 @@
+//! Lists that are borrowed or owned.
+
+ghost use Rattle.std.specs.Prelude.{◌≡◌, ℕ, length, nat_eq};
+
+use std::alloc::Global;
+use std::borrow::CowSlice;
+use std::marker::Model;
+
+/// A list, borrowed or owned. Contracts see its items.
+#[derive(Debug, Drop)]
+pub struct Items<'a, T> {
+    items: CowSlice<'a, T, Global>,
+}
+
+/// Bytes, borrowed or owned.
+pub type Bytes<'a> = Items<'a, u8>;
+
+impl<'a, T> Model for Items<'a, T> {
+    ghost use Rattle.std.specs.Prelude.{List};
+    ghost use Rattle.std.specs.Cow.{cow_slice_items};
+
+    ghost Value = { List T };
+
+    ghost view = { λ s. cow_slice_items s.items };
+}
+
+impl<'a, T> Items<'a, T> {
+    /// The items of a slice, without a copy.
+    pub fn borrowed(items: &'a [T]) -> Self
+        ensures { result ≡ items.entry.now }
+    {
+        Items {
+            items: CowSlice::Borrowed(items),
+        }
+    }
+
+    /// The items of a vector, whose memory they keep.
+    pub fn owned(items: Vec<T>) -> Self
+        ensures { result ≡ items.items }
+    {
+        Items {
+            items: CowSlice::Owned(items),
+        }
+    }
+
+    /// Whether the items belong to somebody else.
+    pub fn is_borrowed(&self) -> bool {
+        match &self.items {
+            CowSlice::Borrowed(_) => true,
+            CowSlice::Owned(_) => false,
+        }
+    }
+
+    /// The items.
+    pub fn as_slice(&self) -> &[T]
+        ensures { result.now ≡ self.now }
+    {
+        self.items.as_slice()
+    }
+
+    /// How many items there are.
+    pub fn len(&self) -> usize
+        ensures { result ≡ length self.now }
+    {
+        self.as_slice().len()
+    }
+
+    pub fn is_empty(&self) -> bool
+        ensures { result ≡ nat_eq (length self.now) 0 }
+    {
+        self.as_slice().is_empty()
+    }
+}
