@@ -15,7 +15,7 @@ use Rattle.wat.specs.AbstractModule.{AbstractModule}
 use Rattle.wat.specs.Parts.{part_if, present, if_any}
 use Rattle.wat.specs.Layout.{func_type, FuncTypeFits, type_index, export_item, ExportFits, code_item, FunctionFits, SectionKind, Types, Functions, Exports, Codes, section_id, section, order, body_of, SizeFits, header, layout, Fits}
 use Rattle.wat.specs.Encoding.{slot, SectionFits}
-use Rattle.wat.proofs.Counted.{counted-map}
+use Rattle.wat.proofs.CountedLists.{counted-map}
 
 -- a section of views
 slot_to : {A B : Type 0} (e : B → List ℕ) (view : A → B) (xs : List A) (ys : List B) → map view xs ≡ ys → if_any (counted (λ x. e (view x))) xs ≡ if_any (counted e) ys

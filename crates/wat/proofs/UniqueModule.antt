@@ -14,7 +14,7 @@ use Rattle.wat.specs.AbstractModule.{ValType, I32, FuncType, Function, ExportKin
 use Rattle.wat.specs.Parts.{Part, if_any}
 use Rattle.wat.specs.Layout.{val_code, val_type, func_type, export_code, export_item, Run, same_type, joins, joined, run_bytes, code_item, type_index, SectionKind, Types, Functions, Exports, Codes, section_id, section, order, body_of, sections, header, layout, IsFunction}
 use Rattle.wat.specs.Laws.{OneReading, OneBinary}
-use Rattle.wat.proofs.Counted.{counted-map}
+use Rattle.wat.proofs.CountedLists.{counted-map}
 use Rattle.wat.proofs.UniqueSections.{stands_in, present_parts, if_any_parts, some_parts, some_is_not_none}
 
 -- enums

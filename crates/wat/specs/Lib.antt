@@ -1,6 +1,7 @@
 pub mod AbstractModule
 pub mod Answering
 pub mod Complaint
+pub mod Counted
 pub mod Encoding
 pub mod Grammar
 pub mod Headline
@@ -12,7 +13,10 @@ pub mod Meaning
 pub mod Means
 pub mod Parts
 pub mod Profile
+pub mod Program
 pub mod Reading
+pub mod Render
+pub mod Run
 pub mod Scan
 pub mod Span
 pub mod Syntax

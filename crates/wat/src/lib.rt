@@ -2,6 +2,7 @@
 #![tactic(auto)]
 
 mod assembler;
+mod counted;
 mod encode;
 mod error;
 mod fault;
@@ -12,17 +13,26 @@ mod mnemonic;
 mod parse;
 mod parse_fault;
 mod parser;
+mod program;
+mod renderer;
+mod runner;
 mod span;
 mod syntax;
 mod token;
 mod tree;
 
 pub use assembler::assemble;
+pub use counted::Counted;
 pub use error::Error;
 pub use fault::Fault;
+pub use program::run_program;
+pub use renderer::render;
+pub use runner::run;
 pub use span::Span;
 
 #[cfg(test)]
 mod encode_tests;
+#[cfg(test)]
+mod run_tests;
 #[cfg(test)]
 mod tests;

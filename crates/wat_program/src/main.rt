@@ -1,24 +1,15 @@
-//! The program: assembles standard input to standard output.
+//! The assembler as a program: a text on standard input, its binary on standard output.
+//!
+//! Arguments are ignored. Nothing is buffered here: each `write` is handed all that is left, so that what a fault says
+//! went out did.
 #![tactic(auto)]
 
-use std::io::{self, Read, Write};
 use std::process::ExitCode;
-use wat::assemble;
+use wat::{Counted, run_program};
 
-/// What is wrong goes to standard error, and the status is then 1.
-fn main(rt: HostRuntime) -> io::Result<ExitCode> {
-    let mut input = Vec::new(rt.alloc());
-    rt.reader().read_to_end(&mut input)?;
-    match assemble(rt.alloc(), input.as_slice()) {
-        Ok(binary) => {
-            let mut output = io::writer(&rt);
-            output.write_all(binary.as_slice())?;
-            output.flush()?;
-            Ok(ExitCode::SUCCESS)
-        }
-        Err(fault) => {
-            eprintln!(rt; "{fault}")?;
-            Ok(ExitCode::FAILURE)
-        }
-    }
+fn main(rt: HostRuntime) -> ExitCode {
+    let mut input = Counted::new(rt.stdin());
+    let mut output = Counted::new(rt.stdout());
+    let status = run_program(rt.alloc(), &mut input, &mut output, &mut rt.stderr());
+    ExitCode::from(status)
 }

@@ -1,0 +1,66 @@
+use Rattle.std.proofs.Common.{◌≤◌, ◌++◌, length, sym, subst, ap, ◌∙◌, arith, refl, Bool}
+use Rattle.std.specs.Io.KnownBytes.{Consumes}
+use Rattle.std.proofs.KnownBytes.{Consumes-nil, Consumes-trans}
+use Rattle.wat.proofs.Known.{whole_at_bound, whole_after_last, consumed_more, within_more}
+use Rattle.wat.proofs.Faults.{same_failures}
+use Rattle.wat.proofs.runner.read_into.Goals as goal
+
+pub loop-input-init : goal.loop-input-init
+loop-input-init g c = record {
+  bounded = omega (arith, c.args.input.now.ok.0, ap length c.requires);
+  consumed = subst (Consumes _ _) (sym c.requires) (Consumes-nil _);
+  failures = refl;
+  piece = c.in-Ok.ensures.len;
+}
+
+pub loop-input-preserved : goal.loop-input-preserved
+loop-input-preserved g c =
+    let before = c.loop-input.invariant in
+    let given = c.in-Ok-true.ensures.given in
+    let fits : length (c.loop-input.input.items ++ given.0) ≤ c.args.bound =
+    within_more c.loop-input.input.items given.0 c.as_mut_slice.result.now c.min-room.result c.args.bound (omega (arith, c.loop-input.input.ok.0))
+    (omega (arith, c.loop-input.input.ok.0)) given.2 in
+    record {
+      bounded = omega (arith, c.read_piece.new.input.ok.0, ap length given.3, fits);
+      consumed = consumed_more _ _ _ _ _ _ before.consumed given.1 given.3;
+      failures = c.in-Ok-true.ensures.failures ∙ before.failures;
+      piece = before.piece;
+    }
+
+pub returns-in-Ok-false-clause-given : goal.returns-in-Ok-false-clause-given
+returns-in-Ok-false-clause-given g c =
+    let before = c.loop-input.invariant in
+    let given = c.in-Ok-false.ensures.given in
+    let fits : length (c.loop-input.input.items ++ given.0) ≤ c.args.bound =
+    within_more c.loop-input.input.items given.0 c.as_mut_slice.result.now c.min-room.result c.args.bound (omega (arith, c.loop-input.input.ok.0))
+    (omega (arith, c.loop-input.input.ok.0)) given.2 in
+    (_, Consumes-trans _ _ _ _ _ before.consumed given.1, fits)
+
+pub returns-in-Ok-false-clause-whole : goal.returns-in-Ok-false-clause-whole
+returns-in-Ok-false-clause-whole g c =
+    let before = c.loop-input.invariant in
+    let given = c.in-Ok-false.ensures.given in
+    let fits : length (c.loop-input.input.items ++ given.0) ≤ c.args.bound =
+    within_more c.loop-input.input.items given.0 c.as_mut_slice.result.now c.min-room.result c.args.bound (omega (arith, c.loop-input.input.ok.0))
+    (omega (arith, c.loop-input.input.ok.0)) given.2 in
+    whole_after_last _ _ _ _ _ _ _ before.consumed given.1 given.3 (rw c.in-Ok-false.field-0-test at c.in-Ok-false.ensures.more) fits
+
+pub returns-in-Err-clause-given : goal.returns-in-Err-clause-given
+returns-in-Err-clause-given g c =
+    let before = c.loop-input.invariant in
+    let given = c.in-Err.ensures.given in
+    let fits : length (c.loop-input.input.items ++ given.0) ≤ c.args.bound =
+    within_more c.loop-input.input.items given.0 c.as_mut_slice.result.now c.min-room.result c.args.bound (omega (arith, c.loop-input.input.ok.0))
+    (omega (arith, c.loop-input.input.ok.0)) given.2 in
+    (_, Consumes-trans _ _ _ _ _ before.consumed given.1, fits)
+
+pub returns-in-Err-clause-failures : goal.returns-in-Err-clause-failures
+returns-in-Err-clause-failures g c =
+    let before = c.loop-input.invariant in
+    same_failures Bool (Unit {0}) c.args.reader.now.failures c.loop-input.reader.failures _ c.in-Err.fault
+    c.in-Err.ensures.failures before.failures
+
+pub returns-clause-whole : goal.returns-clause-whole
+returns-clause-whole g c =
+    let before = c.loop-input.invariant in
+    whole_at_bound _ _ _ _ before.consumed (omega (arith, c.loop-input.input.ok.0))
