@@ -1,3 +1,4 @@
+pub mod Examples
 pub mod LebSteps
 pub mod Mapped
 pub mod ReadSteps

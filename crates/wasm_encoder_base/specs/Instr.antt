@@ -9,20 +9,20 @@ use Rattle.wasm_encoder_base.specs.Types.{HeapType, RefType, ValType, heap_bytes
 use Rattle.wasm_encoder_base.specs.Table.{Entry, Row, table, same_text}
 use Rattle.wasm_encoder_base.specs.Row as rows
 
--- block types (5.4.1)
+-- block types
 pub data BlockType : Type 0 where
   NoResult : BlockType
   Result : ValType → BlockType
   FunctionType : (index : ℕ) → BlockType
 
--- catch clauses (5.4.1)
+-- catch clauses
 pub data Catch : Type 0 where
   CatchTag : (tag label : ℕ) → Catch
   CatchTagRef : (tag label : ℕ) → Catch
   CatchAll : (label : ℕ) → Catch
   CatchAllRef : (label : ℕ) → Catch
 
--- memory arguments (5.4.6); the alignment is the logarithm of bytes
+-- memory arguments; the alignment is the logarithm of bytes
 pub record MemArg : Type 0 where
   pub align : ℕ
   pub offset : ℕ
@@ -102,7 +102,7 @@ operand_bytes Fence = 0x00 ∷ []
 abbrev pub instr_bytes : Instr → List ℕ
 instr_bytes i = i.opcode ++ operand_bytes i.operands
 
--- instructions and the end (5.4.10)
+-- instructions and the end
 abbrev pub expr_bytes : List Instr → List ℕ
 expr_bytes is = flat_map instr_bytes is ++ 0x0B ∷ []
 

@@ -2,6 +2,7 @@ pub mod Balanced
 pub mod Bytes
 pub mod Decodes
 pub mod Distinct
+pub mod Examples
 pub mod Instr
 pub mod Laws
 pub mod Leb

@@ -59,7 +59,7 @@ fd n = 0xFD ∷ uleb n
 abbrev pub fe : ℕ → List ℕ
 fe n = 0xFE ∷ uleb n
 
--- control, parametric instructions, variables (5.4.2 to 5.4.5)
+-- control, parametric instructions, variables
 abbrev pub control : List Entry
 control =
     run one Plain 0x00 "" "unreachable nop"
@@ -86,7 +86,7 @@ control =
     ++ run one (Index Globals) 0x23 "global." "get set"
     ++ run one (OptionalIndex Tables) 0x25 "table." "get set"
 
--- loads, stores, memory size, constants (5.4.7, 5.4.8)
+-- loads, stores, memory size, constants
 abbrev pub access : List Entry
 access =
     run one (Mem 4) 0x28 "" "i32.load"
@@ -113,7 +113,7 @@ access =
     ++ run one F32 0x43 "" "f32.const"
     ++ run one F64 0x44 "" "f64.const"
 
--- comparisons of numbers (5.4.8)
+-- comparisons of numbers
 abbrev pub compare : List Entry
 compare =
     run one Plain 0x45 "i32." "eqz eq ne lt_s lt_u gt_s gt_u le_s le_u ge_s ge_u"
@@ -121,7 +121,7 @@ compare =
     ++ run one Plain 0x5B "f32." "eq ne lt gt le ge"
     ++ run one Plain 0x61 "f64." "eq ne lt gt le ge"
 
--- arithmetic (5.4.8)
+-- arithmetic
 abbrev pub numeric : List Entry
 numeric =
     run one Plain 0x67 "i32." "clz ctz popcnt add sub mul div_s div_u rem_s rem_u and or xor shl shr_s shr_u rotl rotr"
@@ -129,7 +129,7 @@ numeric =
     ++ run one Plain 0x8B "f32." "abs neg ceil floor trunc nearest sqrt add sub mul div min max copysign"
     ++ run one Plain 0x99 "f64." "abs neg ceil floor trunc nearest sqrt add sub mul div min max copysign"
 
--- conversions (5.4.8)
+-- conversions
 abbrev pub convert : List Entry
 convert =
     run one Plain 0xA7 "i32." "wrap_i64 trunc_f32_s trunc_f32_u trunc_f64_s trunc_f64_u"
@@ -140,7 +140,7 @@ convert =
     ++ run one Plain 0xC0 "i32." "extend8_s extend16_s"
     ++ run one Plain 0xC2 "i64." "extend8_s extend16_s extend32_s"
 
--- references, structures, arrays (5.4.6)
+-- references, structures, arrays
 abbrev pub references : List Entry
 references =
     run one Heap 0xD0 "" "ref.null"
@@ -182,7 +182,7 @@ bulk =
     ++ run fc (OptionalIndex Tables) 15 "table." "grow size fill"
     ++ run fc Plain 19 "i64." "add128 sub128 mul_wide_s mul_wide_u"
 
--- vectors (5.4.9)
+-- vectors
 abbrev pub vector : List Entry
 vector =
     run fd (Mem 16) 0 "v128." "load"

@@ -4,7 +4,7 @@ use Rattle.std.specs.List.{AllByRecursion}
 use Rattle.wasm_encoder_base.specs.Leb.{sleb, uleb}
 use Rattle.wasm_encoder_base.specs.Bytes.{counted}
 
--- heap types (5.3.2); a concrete one is the index of a type
+-- heap types; a concrete one is the index of a type
 pub data AbstractHeapType : Type 0 where
   FuncHeap : AbstractHeapType
   ExternHeap : AbstractHeapType
@@ -23,12 +23,12 @@ pub data HeapType : Type 0 where
   Abstract : AbstractHeapType → HeapType
   Concrete : ℕ → HeapType
 
--- reference types (5.3.3)
+-- reference types
 pub record RefType : Type 0 where
   pub nullable : Bool
   pub heap_type : HeapType
 
--- value types (5.3.4)
+-- value types
 pub data ValType : Type 0 where
   I32Type : ValType
   I64Type : ValType
@@ -37,7 +37,7 @@ pub data ValType : Type 0 where
   V128Type : ValType
   Reference : RefType → ValType
 
--- composite types (5.3.5)
+-- composite types
 pub record FuncType : Type 0 where
   pub params : List ValType
   pub results : List ValType
@@ -56,7 +56,7 @@ pub data CompositeType : Type 0 where
   Array : FieldType → CompositeType
   Struct : List FieldType → CompositeType
 
--- sub types (5.3.6)
+-- sub types
 pub record SubType : Type 0 where
   pub is_final : Bool
   pub supertype : Option ℕ

@@ -1,5 +1,6 @@
 //! Laws of the spellings: functions without parameters whose contracts are the laws. They do nothing.
 
+ghost use Rattle.wasm_encoder_base.specs.Examples.{CallIndirect, BrTable, Load, BrOnCast, Try, Float};
 ghost use Rattle.wasm_encoder_base.specs.Laws.{ShortestUnsigned, ShortestSigned, OneUnsigned, OneSigned, OneName, OneList, OneHeapType, OneRefType, OneValType, OneFieldType, OneFuncType, OneSubType, OneInstruction, OneExpression, EntryCount, OpcodesDistinct, OpcodesApart, MnemonicsDistinct};
 
 /// What is written for a number is the byte list that decodes to it and than which no shorter one does,
@@ -41,4 +42,14 @@ pub fn distinct_entries()
     ensures opcodes { OpcodesDistinct }
     ensures none_begins_another { OpcodesApart }
     ensures mnemonics { MnemonicsDistinct }
+{}
+
+/// A few instructions of the table and their bytes, by hand.
+pub fn examples()
+    ensures indices { CallIndirect }
+    ensures labels { BrTable }
+    ensures memory_argument { Load }
+    ensures reference_types { BrOnCast }
+    ensures catch_clauses { Try }
+    ensures float { Float }
 {}

@@ -1,0 +1,5 @@
+use Rattle.wasm_encoder_base.proofs.Examples.{call_indirect, br_table, load, br_on_cast, try, float}
+use Rattle.wasm_encoder_base.proofs.laws.examples.Goals as goal
+
+pub returns : goal.returns
+returns c = record { indices = call_indirect; labels = br_table; memory_argument = load; reference_types = br_on_cast; catch_clauses = try; float = float }

@@ -1,0 +1,5 @@
+pub mod Front
+pub mod Joined
+pub mod Places
+pub mod Runs
+pub mod Unique

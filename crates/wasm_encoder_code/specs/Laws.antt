@@ -1,0 +1,31 @@
+-- The laws that the crate's law functions prove.
+use Rattle.std.specs.Prelude.{ℕ, ◌≡◌, ◌≤◌, List, [], ◌∷◌, ◌++◌, drop, length}
+use Rattle.std.specs.List.{flat_map, AllByRecursion}
+use Rattle.wasm_encoder_base.specs.Balanced.{IsBalanced}
+use Rattle.wasm_encoder_base.specs.Instr.{Instr, IsInstr, instr_bytes, expr_bytes}
+use Rattle.wasm_encoder_code.specs.Body.{Body, IsBody, body_bytes, place_of}
+
+-- b is the spelling of x, which meets P
+pub record IsSpelling {A : Type 0} (P : A → Type 0) (spell : A → List ℕ) (b : List ℕ) (x : A) : Type 0 where
+  pub meets : P x
+  pub bytes : b ≡ spell x
+
+-- Each value has one byte string, and one byte string is that of at most one value.
+pub record IsOneToOne {A : Type 0} (P : A → Type 0) (spell : A → List ℕ) : Type 0 where
+  pub one_string : (x : A) (b c : List ℕ) → IsSpelling P spell b x → IsSpelling P spell c x → b ≡ c
+  pub one_value : (b : List ℕ) (x y : A) → IsSpelling P spell b x → IsSpelling P spell b y → x ≡ y
+
+abbrev pub OneBody : Type 0
+OneBody = IsOneToOne IsBody body_bytes
+
+-- the instructions of a constant expression; the end closes no block opened in them
+pub record IsExpression (is : List Instr) : Type 0 where
+  pub instructions : AllByRecursion IsInstr is
+  pub balanced : IsBalanced is 0
+
+abbrev pub OneExpression : Type 0
+OneExpression = IsOneToOne IsExpression expr_bytes
+
+-- At the place of instruction k the bytes of it and of those after it begin, up to the end.
+abbrev pub PlaceBegins : Type 0
+PlaceBegins = (b : Body) (k : ℕ) → drop (place_of b k) (body_bytes b) ≡ expr_bytes (drop k b.instructions)

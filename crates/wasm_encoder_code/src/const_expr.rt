@@ -1,0 +1,306 @@
+ghost use Rattle.std.specs.Prelude.{◌≡◌, ◌++◌, [], ◌∷◌, IfOk, IfErr, OnOk, OnErr, IsErrOf, IfSome, IfNone, List, ℕ, ◌<◌, ◌^◌, All};
+ghost use Rattle.std.specs.List.{flat_map};
+ghost use Rattle.wasm_encoder_base.specs.Instr.{instr_bytes};
+ghost use Rattle.wasm_encoder_instr.specs.Instruction.{instr_view, can_encode_instr, fits_instr};
+ghost use Rattle.wasm_encoder_base.specs.Leb.{uleb};
+ghost use Rattle.wasm_encoder_base.specs.Reading.{StandsInFront};
+
+use std::alloc::{AllocError, Global};
+use std::marker::Model;
+use wasm_encoder_base::{Encode, EncodeError, HeapType, Ieee32, Ieee64, read_u32};
+use wasm_encoder_instr::{GcOp, Instruction, NumericOp, VectorArgOp};
+
+/// A constant expression: the bytes of its instructions, without the `end`. Contracts see the bytes.
+#[derive(Debug, Drop)]
+pub struct ConstExpr {
+    bytes: Vec<u8>,
+}
+
+impl Model for ConstExpr {
+    ghost use Rattle.std.specs.Prelude.{List, ℕ};
+
+    ghost Value = { List ℕ };
+
+    ghost view = { λ expression. expression.bytes.items };
+}
+
+/// The bytes and the `end`.
+impl Encode for ConstExpr {
+    ghost can_encode = { λ _. Unit {0} };
+
+    ghost fits = { λ _. Unit {0} };
+
+    ghost spelling = { λ expression. expression ++ 0x0B ∷ [] };
+
+    fn encode(&self, sink: &mut Vec<u8>) -> Result<(), EncodeError> {
+        let start = sink.len();
+        sink.extend_from_slice(self.bytes.as_slice())?;
+        if sink.push(0x0B).is_err() {
+            sink.truncate(start);
+            return Err(EncodeError::Memory);
+        }
+        Ok(())
+    }
+}
+
+impl ConstExpr {
+    /// No instructions.
+    pub fn empty(alloc: Global) -> Self
+        ensures { result ≡ [] }
+    {
+        ConstExpr {
+            bytes: Vec::new(alloc),
+        }
+    }
+
+    /// The bytes as they are.
+    pub fn raw(alloc: Global, bytes: &[u8]) -> Result<Self, EncodeError>
+        ensures ok { IfOk result (λ expression. expression ≡ bytes.now) }
+        ensures too_large { IsErrOf result EncodeError.TooLarge → ⊥ }
+    {
+        let bytes = Vec::from_slice(alloc, bytes)?;
+        Ok(ConstExpr { bytes })
+    }
+
+    /// The instructions.
+    pub fn extended(alloc: Global, instructions: &[Instruction]) -> Result<Self, EncodeError>
+        requires { All can_encode_instr instructions.now }
+        ensures ok { IfOk result (λ expression. expression ≡ flat_map (λ i. instr_bytes (instr_view i)) instructions.now) }
+        ensures fits { OnOk result (All fits_instr instructions.now) }
+        ensures too_large { IsErrOf result EncodeError.TooLarge → All fits_instr instructions.now → ⊥ }
+    {
+        let bytes = spelled(alloc, instructions)?;
+        Ok(ConstExpr { bytes })
+    }
+
+    /// The same bytes, in a vector of their own.
+    pub fn clone(&self) -> Result<Self, AllocError>
+        ensures { IfOk result (λ expression. expression ≡ self.now) }
+    {
+        let bytes = self.bytes.clone()?;
+        Ok(ConstExpr { bytes })
+    }
+
+    /// The function's index, where the bytes begin with a `ref.func`, whatever follows it.
+    pub fn get_ref_func(&self) -> Option<u32>
+        ensures found { IfSome result (λ index. StandsInFront (0xD2 ∷ uleb index) self.now) }
+        ensures none { IfNone result ((n : ℕ) → n < 2 ^ 32 → StandsInFront (0xD2 ∷ uleb n) self.now → ⊥) }
+    {
+        match self.bytes.as_slice() {
+            [0xD2, rest @ ..] => index_at(rest),
+            _ => None,
+        }
+    }
+
+    /// With a further instruction; refused, the expression is dropped.
+    fn with_instruction(self, instruction: &Instruction) -> Result<Self, EncodeError>
+        requires { can_encode_instr instruction.now }
+        ensures ok { IfOk result (λ expression. expression ≡ self ++ instr_bytes (instr_view instruction.now)) }
+        ensures too_large { IsErrOf result EncodeError.TooLarge → fits_instr instruction.now → ⊥ }
+    {
+        let ConstExpr { mut bytes } = self;
+        instruction.encode(&mut bytes)?;
+        Ok(ConstExpr { bytes })
+    }
+
+    /// `global.get`
+    pub fn global_get(alloc: Global, global: u32) -> Result<Self, EncodeError>
+        ensures ok { IfOk result (λ expression. expression ≡ instr_bytes (instr_view (Instruction.GlobalGet global))) }
+        ensures too_large { IsErrOf result EncodeError.TooLarge → ⊥ }
+    {
+        ConstExpr::empty(alloc).with_instruction(&Instruction::GlobalGet(global))
+    }
+
+    /// `ref.null`
+    pub fn ref_null(alloc: Global, heap_type: HeapType) -> Result<Self, EncodeError>
+        ensures ok { IfOk result (λ expression. expression ≡ instr_bytes (instr_view (Instruction.Gc (GcOp.RefNull heap_type)))) }
+        ensures too_large { IsErrOf result EncodeError.TooLarge → ⊥ }
+    {
+        ConstExpr::empty(alloc).with_instruction(&Instruction::Gc(GcOp::RefNull(heap_type)))
+    }
+
+    /// `ref.func`
+    pub fn ref_func(alloc: Global, function: u32) -> Result<Self, EncodeError>
+        ensures ok { IfOk result (λ expression. expression ≡ instr_bytes (instr_view (Instruction.Gc (GcOp.RefFunc function)))) }
+        ensures too_large { IsErrOf result EncodeError.TooLarge → ⊥ }
+    {
+        ConstExpr::empty(alloc).with_instruction(&Instruction::Gc(GcOp::RefFunc(function)))
+    }
+
+    /// `i32.const`
+    pub fn i32_const(alloc: Global, value: i32) -> Result<Self, EncodeError>
+        ensures ok { IfOk result (λ expression. expression ≡ instr_bytes (instr_view (Instruction.I32Const value))) }
+        ensures too_large { IsErrOf result EncodeError.TooLarge → ⊥ }
+    {
+        ConstExpr::empty(alloc).with_instruction(&Instruction::I32Const(value))
+    }
+
+    /// `i64.const`
+    pub fn i64_const(alloc: Global, value: i64) -> Result<Self, EncodeError>
+        ensures ok { IfOk result (λ expression. expression ≡ instr_bytes (instr_view (Instruction.I64Const value))) }
+        ensures too_large { IsErrOf result EncodeError.TooLarge → ⊥ }
+    {
+        ConstExpr::empty(alloc).with_instruction(&Instruction::I64Const(value))
+    }
+
+    /// `f32.const`
+    pub fn f32_const(alloc: Global, value: Ieee32) -> Result<Self, EncodeError>
+        ensures ok { IfOk result (λ expression. expression ≡ instr_bytes (instr_view (Instruction.F32Const value))) }
+        ensures too_large { IsErrOf result EncodeError.TooLarge → ⊥ }
+    {
+        ConstExpr::empty(alloc).with_instruction(&Instruction::F32Const(value))
+    }
+
+    /// `f64.const`
+    pub fn f64_const(alloc: Global, value: Ieee64) -> Result<Self, EncodeError>
+        ensures ok { IfOk result (λ expression. expression ≡ instr_bytes (instr_view (Instruction.F64Const value))) }
+        ensures too_large { IsErrOf result EncodeError.TooLarge → ⊥ }
+    {
+        ConstExpr::empty(alloc).with_instruction(&Instruction::F64Const(value))
+    }
+
+    /// `v128.const`
+    pub fn v128_const(alloc: Global, value: i128) -> Result<Self, EncodeError>
+        ensures ok { IfOk result (λ expression. expression ≡ instr_bytes (instr_view (Instruction.VectorArg (VectorArgOp.V128Const value)))) }
+        ensures too_large { IsErrOf result EncodeError.TooLarge → ⊥ }
+    {
+        ConstExpr::empty(alloc).with_instruction(&Instruction::VectorArg(VectorArgOp::V128Const(
+            value,
+        )))
+    }
+
+    /// `global.get` at the end; refused, the expression is dropped.
+    pub fn with_global_get(self, global: u32) -> Result<Self, EncodeError>
+        ensures ok { IfOk result (λ expression. expression ≡ self ++ instr_bytes (instr_view (Instruction.GlobalGet global))) }
+        ensures too_large { IsErrOf result EncodeError.TooLarge → ⊥ }
+    {
+        self.with_instruction(&Instruction::GlobalGet(global))
+    }
+
+    /// `ref.null` at the end; refused, the expression is dropped.
+    pub fn with_ref_null(self, heap_type: HeapType) -> Result<Self, EncodeError>
+        ensures ok { IfOk result (λ expression. expression ≡ self ++ instr_bytes (instr_view (Instruction.Gc (GcOp.RefNull heap_type)))) }
+        ensures too_large { IsErrOf result EncodeError.TooLarge → ⊥ }
+    {
+        self.with_instruction(&Instruction::Gc(GcOp::RefNull(heap_type)))
+    }
+
+    /// `ref.func` at the end; refused, the expression is dropped.
+    pub fn with_ref_func(self, function: u32) -> Result<Self, EncodeError>
+        ensures ok { IfOk result (λ expression. expression ≡ self ++ instr_bytes (instr_view (Instruction.Gc (GcOp.RefFunc function)))) }
+        ensures too_large { IsErrOf result EncodeError.TooLarge → ⊥ }
+    {
+        self.with_instruction(&Instruction::Gc(GcOp::RefFunc(function)))
+    }
+
+    /// `i32.const` at the end; refused, the expression is dropped.
+    pub fn with_i32_const(self, value: i32) -> Result<Self, EncodeError>
+        ensures ok { IfOk result (λ expression. expression ≡ self ++ instr_bytes (instr_view (Instruction.I32Const value))) }
+        ensures too_large { IsErrOf result EncodeError.TooLarge → ⊥ }
+    {
+        self.with_instruction(&Instruction::I32Const(value))
+    }
+
+    /// `i64.const` at the end; refused, the expression is dropped.
+    pub fn with_i64_const(self, value: i64) -> Result<Self, EncodeError>
+        ensures ok { IfOk result (λ expression. expression ≡ self ++ instr_bytes (instr_view (Instruction.I64Const value))) }
+        ensures too_large { IsErrOf result EncodeError.TooLarge → ⊥ }
+    {
+        self.with_instruction(&Instruction::I64Const(value))
+    }
+
+    /// `f32.const` at the end; refused, the expression is dropped.
+    pub fn with_f32_const(self, value: Ieee32) -> Result<Self, EncodeError>
+        ensures ok { IfOk result (λ expression. expression ≡ self ++ instr_bytes (instr_view (Instruction.F32Const value))) }
+        ensures too_large { IsErrOf result EncodeError.TooLarge → ⊥ }
+    {
+        self.with_instruction(&Instruction::F32Const(value))
+    }
+
+    /// `f64.const` at the end; refused, the expression is dropped.
+    pub fn with_f64_const(self, value: Ieee64) -> Result<Self, EncodeError>
+        ensures ok { IfOk result (λ expression. expression ≡ self ++ instr_bytes (instr_view (Instruction.F64Const value))) }
+        ensures too_large { IsErrOf result EncodeError.TooLarge → ⊥ }
+    {
+        self.with_instruction(&Instruction::F64Const(value))
+    }
+
+    /// `v128.const` at the end; refused, the expression is dropped.
+    pub fn with_v128_const(self, value: i128) -> Result<Self, EncodeError>
+        ensures ok { IfOk result (λ expression. expression ≡ self ++ instr_bytes (instr_view (Instruction.VectorArg (VectorArgOp.V128Const value)))) }
+        ensures too_large { IsErrOf result EncodeError.TooLarge → ⊥ }
+    {
+        self.with_instruction(&Instruction::VectorArg(VectorArgOp::V128Const(value)))
+    }
+
+    /// `i32.add` at the end; refused, the expression is dropped.
+    pub fn with_i32_add(self) -> Result<Self, EncodeError>
+        ensures ok { IfOk result (λ expression. expression ≡ self ++ instr_bytes (instr_view (Instruction.Numeric NumericOp.I32Add))) }
+        ensures too_large { IsErrOf result EncodeError.TooLarge → ⊥ }
+    {
+        self.with_instruction(&Instruction::Numeric(NumericOp::I32Add))
+    }
+
+    /// `i32.sub` at the end; refused, the expression is dropped.
+    pub fn with_i32_sub(self) -> Result<Self, EncodeError>
+        ensures ok { IfOk result (λ expression. expression ≡ self ++ instr_bytes (instr_view (Instruction.Numeric NumericOp.I32Sub))) }
+        ensures too_large { IsErrOf result EncodeError.TooLarge → ⊥ }
+    {
+        self.with_instruction(&Instruction::Numeric(NumericOp::I32Sub))
+    }
+
+    /// `i32.mul` at the end; refused, the expression is dropped.
+    pub fn with_i32_mul(self) -> Result<Self, EncodeError>
+        ensures ok { IfOk result (λ expression. expression ≡ self ++ instr_bytes (instr_view (Instruction.Numeric NumericOp.I32Mul))) }
+        ensures too_large { IsErrOf result EncodeError.TooLarge → ⊥ }
+    {
+        self.with_instruction(&Instruction::Numeric(NumericOp::I32Mul))
+    }
+
+    /// `i64.add` at the end; refused, the expression is dropped.
+    pub fn with_i64_add(self) -> Result<Self, EncodeError>
+        ensures ok { IfOk result (λ expression. expression ≡ self ++ instr_bytes (instr_view (Instruction.Numeric NumericOp.I64Add))) }
+        ensures too_large { IsErrOf result EncodeError.TooLarge → ⊥ }
+    {
+        self.with_instruction(&Instruction::Numeric(NumericOp::I64Add))
+    }
+
+    /// `i64.sub` at the end; refused, the expression is dropped.
+    pub fn with_i64_sub(self) -> Result<Self, EncodeError>
+        ensures ok { IfOk result (λ expression. expression ≡ self ++ instr_bytes (instr_view (Instruction.Numeric NumericOp.I64Sub))) }
+        ensures too_large { IsErrOf result EncodeError.TooLarge → ⊥ }
+    {
+        self.with_instruction(&Instruction::Numeric(NumericOp::I64Sub))
+    }
+
+    /// `i64.mul` at the end; refused, the expression is dropped.
+    pub fn with_i64_mul(self) -> Result<Self, EncodeError>
+        ensures ok { IfOk result (λ expression. expression ≡ self ++ instr_bytes (instr_view (Instruction.Numeric NumericOp.I64Mul))) }
+        ensures too_large { IsErrOf result EncodeError.TooLarge → ⊥ }
+    {
+        self.with_instruction(&Instruction::Numeric(NumericOp::I64Mul))
+    }
+}
+
+/// The index at the front of the bytes.
+fn index_at(bytes: &[u8]) -> Option<u32>
+    ensures found { IfSome result (λ index. StandsInFront (uleb index) bytes.now) }
+    ensures none { IfNone result ((n : ℕ) → n < 2 ^ 32 → StandsInFront (uleb n) bytes.now → ⊥) }
+{
+    let (index, _) = read_u32(bytes)?;
+    Some(index)
+}
+
+/// The items' spellings, one after another.
+fn spelled<T: Encode>(alloc: Global, items: &[T]) -> Result<Vec<u8>, EncodeError>
+    requires { All T.can_encode items.now }
+    ensures ok { IfOk result (λ bytes. bytes.items ≡ flat_map T.spelling items.now) }
+    ensures fits { OnOk result (All T.fits items.now) }
+    ensures too_large { IsErrOf result EncodeError.TooLarge → All T.fits items.now → ⊥ }
+{
+    let mut bytes = Vec::new(alloc);
+    for item in items {
+        item.encode(&mut bytes)?;
+    }
+    Ok(bytes)
+}

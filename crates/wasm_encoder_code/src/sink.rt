@@ -1,0 +1,347 @@
+ghost use Rattle.std.specs.Prelude.{◌≡◌, ◌++◌, IfOk, OnOk, OnErr, IsErrOf, List, ℕ};
+ghost use Rattle.std.specs.Borrow.{sem};
+ghost use Rattle.wasm_encoder_base.specs.Instr.{instr_bytes};
+ghost use Rattle.wasm_encoder_instr.specs.Instruction.{instr_view, can_encode_instr, fits_instr};
+ghost use Rattle.wasm_encoder_code.specs.Sink.{RestsUnchanged};
+
+use wasm_encoder_base::{Encode, EncodeError, HeapType, Ieee32, Ieee64};
+use wasm_encoder_instr::{BlockType, GcOp, Instruction, NumericOp, VectorArgOp};
+
+/// Appends instructions to a vector of bytes; its calls chain. A refused call leaves the vector as it was.
+#[derive(Drop)]
+pub struct InstructionSink<'a> {
+    sink: &'a mut Vec<u8>,
+}
+
+impl<'a> InstructionSink<'a> {
+    pub fn new(sink: &'a mut Vec<u8>) -> InstructionSink<'a>
+        ensures value { result.sink.now ≡ sink.old }
+        ensures same_reference { result.sink.ghost_name ≡ sink.entry.ghost_name }
+    {
+        InstructionSink { sink }
+    }
+
+    /// Appends the instruction's bytes.
+    pub fn instruction(self, instruction: &Instruction) -> Result<Self, EncodeError>
+        requires { can_encode_instr instruction.now }
+        ensures* refused { sem 𝓛 (RestsUnchanged self.entry result) }
+        ensures ok { IfOk result (λ s. s.sink.now.items ≡ self.entry.sink.now.items ++ instr_bytes (instr_view instruction.now)) }
+        ensures same_reference { IfOk result (λ s. s.sink.ghost_name ≡ self.entry.sink.ghost_name) }
+        ensures fits { OnOk result (fits_instr instruction.now) }
+        ensures too_large { IsErrOf result EncodeError.TooLarge → fits_instr instruction.now → ⊥ }
+    {
+        let InstructionSink { sink } = self;
+        instruction.encode(sink)?;
+        Ok(InstructionSink { sink })
+    }
+
+    /// `unreachable`
+    pub fn unreachable(self) -> Result<Self, EncodeError>
+        ensures* refused { sem 𝓛 (RestsUnchanged self.entry result) }
+        ensures ok { IfOk result (λ s. s.sink.now.items ≡ self.entry.sink.now.items ++ instr_bytes (instr_view (Instruction.Unreachable))) }
+        ensures same_reference { IfOk result (λ s. s.sink.ghost_name ≡ self.entry.sink.ghost_name) }
+        ensures too_large { IsErrOf result EncodeError.TooLarge → ⊥ }
+    {
+        self.instruction(&Instruction::Unreachable)
+    }
+
+    /// `nop`
+    pub fn nop(self) -> Result<Self, EncodeError>
+        ensures* refused { sem 𝓛 (RestsUnchanged self.entry result) }
+        ensures ok { IfOk result (λ s. s.sink.now.items ≡ self.entry.sink.now.items ++ instr_bytes (instr_view (Instruction.Nop))) }
+        ensures same_reference { IfOk result (λ s. s.sink.ghost_name ≡ self.entry.sink.ghost_name) }
+        ensures too_large { IsErrOf result EncodeError.TooLarge → ⊥ }
+    {
+        self.instruction(&Instruction::Nop)
+    }
+
+    /// `block`
+    pub fn block(self, block_type: BlockType) -> Result<Self, EncodeError>
+        ensures* refused { sem 𝓛 (RestsUnchanged self.entry result) }
+        ensures ok { IfOk result (λ s. s.sink.now.items ≡ self.entry.sink.now.items ++ instr_bytes (instr_view (Instruction.Block block_type))) }
+        ensures same_reference { IfOk result (λ s. s.sink.ghost_name ≡ self.entry.sink.ghost_name) }
+        ensures too_large { IsErrOf result EncodeError.TooLarge → ⊥ }
+    {
+        self.instruction(&Instruction::Block(block_type))
+    }
+
+    /// `loop`
+    pub fn loop_(self, block_type: BlockType) -> Result<Self, EncodeError>
+        ensures* refused { sem 𝓛 (RestsUnchanged self.entry result) }
+        ensures ok { IfOk result (λ s. s.sink.now.items ≡ self.entry.sink.now.items ++ instr_bytes (instr_view (Instruction.Loop block_type))) }
+        ensures same_reference { IfOk result (λ s. s.sink.ghost_name ≡ self.entry.sink.ghost_name) }
+        ensures too_large { IsErrOf result EncodeError.TooLarge → ⊥ }
+    {
+        self.instruction(&Instruction::Loop(block_type))
+    }
+
+    /// `if`
+    pub fn if_(self, block_type: BlockType) -> Result<Self, EncodeError>
+        ensures* refused { sem 𝓛 (RestsUnchanged self.entry result) }
+        ensures ok { IfOk result (λ s. s.sink.now.items ≡ self.entry.sink.now.items ++ instr_bytes (instr_view (Instruction.If block_type))) }
+        ensures same_reference { IfOk result (λ s. s.sink.ghost_name ≡ self.entry.sink.ghost_name) }
+        ensures too_large { IsErrOf result EncodeError.TooLarge → ⊥ }
+    {
+        self.instruction(&Instruction::If(block_type))
+    }
+
+    /// `else`
+    pub fn else_(self) -> Result<Self, EncodeError>
+        ensures* refused { sem 𝓛 (RestsUnchanged self.entry result) }
+        ensures ok { IfOk result (λ s. s.sink.now.items ≡ self.entry.sink.now.items ++ instr_bytes (instr_view (Instruction.Else))) }
+        ensures same_reference { IfOk result (λ s. s.sink.ghost_name ≡ self.entry.sink.ghost_name) }
+        ensures too_large { IsErrOf result EncodeError.TooLarge → ⊥ }
+    {
+        self.instruction(&Instruction::Else)
+    }
+
+    /// `end`
+    pub fn end(self) -> Result<Self, EncodeError>
+        ensures* refused { sem 𝓛 (RestsUnchanged self.entry result) }
+        ensures ok { IfOk result (λ s. s.sink.now.items ≡ self.entry.sink.now.items ++ instr_bytes (instr_view (Instruction.End))) }
+        ensures same_reference { IfOk result (λ s. s.sink.ghost_name ≡ self.entry.sink.ghost_name) }
+        ensures too_large { IsErrOf result EncodeError.TooLarge → ⊥ }
+    {
+        self.instruction(&Instruction::End)
+    }
+
+    /// `br`
+    pub fn br(self, label: u32) -> Result<Self, EncodeError>
+        ensures* refused { sem 𝓛 (RestsUnchanged self.entry result) }
+        ensures ok { IfOk result (λ s. s.sink.now.items ≡ self.entry.sink.now.items ++ instr_bytes (instr_view (Instruction.Br label))) }
+        ensures same_reference { IfOk result (λ s. s.sink.ghost_name ≡ self.entry.sink.ghost_name) }
+        ensures too_large { IsErrOf result EncodeError.TooLarge → ⊥ }
+    {
+        self.instruction(&Instruction::Br(label))
+    }
+
+    /// `br_if`
+    pub fn br_if(self, label: u32) -> Result<Self, EncodeError>
+        ensures* refused { sem 𝓛 (RestsUnchanged self.entry result) }
+        ensures ok { IfOk result (λ s. s.sink.now.items ≡ self.entry.sink.now.items ++ instr_bytes (instr_view (Instruction.BrIf label))) }
+        ensures same_reference { IfOk result (λ s. s.sink.ghost_name ≡ self.entry.sink.ghost_name) }
+        ensures too_large { IsErrOf result EncodeError.TooLarge → ⊥ }
+    {
+        self.instruction(&Instruction::BrIf(label))
+    }
+
+    /// `return`
+    pub fn return_(self) -> Result<Self, EncodeError>
+        ensures* refused { sem 𝓛 (RestsUnchanged self.entry result) }
+        ensures ok { IfOk result (λ s. s.sink.now.items ≡ self.entry.sink.now.items ++ instr_bytes (instr_view (Instruction.Return))) }
+        ensures same_reference { IfOk result (λ s. s.sink.ghost_name ≡ self.entry.sink.ghost_name) }
+        ensures too_large { IsErrOf result EncodeError.TooLarge → ⊥ }
+    {
+        self.instruction(&Instruction::Return)
+    }
+
+    /// `call`
+    pub fn call(self, function: u32) -> Result<Self, EncodeError>
+        ensures* refused { sem 𝓛 (RestsUnchanged self.entry result) }
+        ensures ok { IfOk result (λ s. s.sink.now.items ≡ self.entry.sink.now.items ++ instr_bytes (instr_view (Instruction.Call function))) }
+        ensures same_reference { IfOk result (λ s. s.sink.ghost_name ≡ self.entry.sink.ghost_name) }
+        ensures too_large { IsErrOf result EncodeError.TooLarge → ⊥ }
+    {
+        self.instruction(&Instruction::Call(function))
+    }
+
+    /// `drop`
+    pub fn drop(self) -> Result<Self, EncodeError>
+        ensures* refused { sem 𝓛 (RestsUnchanged self.entry result) }
+        ensures ok { IfOk result (λ s. s.sink.now.items ≡ self.entry.sink.now.items ++ instr_bytes (instr_view (Instruction.Drop))) }
+        ensures same_reference { IfOk result (λ s. s.sink.ghost_name ≡ self.entry.sink.ghost_name) }
+        ensures too_large { IsErrOf result EncodeError.TooLarge → ⊥ }
+    {
+        self.instruction(&Instruction::Drop)
+    }
+
+    /// `select`
+    pub fn select(self) -> Result<Self, EncodeError>
+        ensures* refused { sem 𝓛 (RestsUnchanged self.entry result) }
+        ensures ok { IfOk result (λ s. s.sink.now.items ≡ self.entry.sink.now.items ++ instr_bytes (instr_view (Instruction.Select))) }
+        ensures same_reference { IfOk result (λ s. s.sink.ghost_name ≡ self.entry.sink.ghost_name) }
+        ensures too_large { IsErrOf result EncodeError.TooLarge → ⊥ }
+    {
+        self.instruction(&Instruction::Select)
+    }
+
+    /// `local.get`
+    pub fn local_get(self, local: u32) -> Result<Self, EncodeError>
+        ensures* refused { sem 𝓛 (RestsUnchanged self.entry result) }
+        ensures ok { IfOk result (λ s. s.sink.now.items ≡ self.entry.sink.now.items ++ instr_bytes (instr_view (Instruction.LocalGet local))) }
+        ensures same_reference { IfOk result (λ s. s.sink.ghost_name ≡ self.entry.sink.ghost_name) }
+        ensures too_large { IsErrOf result EncodeError.TooLarge → ⊥ }
+    {
+        self.instruction(&Instruction::LocalGet(local))
+    }
+
+    /// `local.set`
+    pub fn local_set(self, local: u32) -> Result<Self, EncodeError>
+        ensures* refused { sem 𝓛 (RestsUnchanged self.entry result) }
+        ensures ok { IfOk result (λ s. s.sink.now.items ≡ self.entry.sink.now.items ++ instr_bytes (instr_view (Instruction.LocalSet local))) }
+        ensures same_reference { IfOk result (λ s. s.sink.ghost_name ≡ self.entry.sink.ghost_name) }
+        ensures too_large { IsErrOf result EncodeError.TooLarge → ⊥ }
+    {
+        self.instruction(&Instruction::LocalSet(local))
+    }
+
+    /// `local.tee`
+    pub fn local_tee(self, local: u32) -> Result<Self, EncodeError>
+        ensures* refused { sem 𝓛 (RestsUnchanged self.entry result) }
+        ensures ok { IfOk result (λ s. s.sink.now.items ≡ self.entry.sink.now.items ++ instr_bytes (instr_view (Instruction.LocalTee local))) }
+        ensures same_reference { IfOk result (λ s. s.sink.ghost_name ≡ self.entry.sink.ghost_name) }
+        ensures too_large { IsErrOf result EncodeError.TooLarge → ⊥ }
+    {
+        self.instruction(&Instruction::LocalTee(local))
+    }
+
+    /// `global.get`
+    pub fn global_get(self, global: u32) -> Result<Self, EncodeError>
+        ensures* refused { sem 𝓛 (RestsUnchanged self.entry result) }
+        ensures ok { IfOk result (λ s. s.sink.now.items ≡ self.entry.sink.now.items ++ instr_bytes (instr_view (Instruction.GlobalGet global))) }
+        ensures same_reference { IfOk result (λ s. s.sink.ghost_name ≡ self.entry.sink.ghost_name) }
+        ensures too_large { IsErrOf result EncodeError.TooLarge → ⊥ }
+    {
+        self.instruction(&Instruction::GlobalGet(global))
+    }
+
+    /// `global.set`
+    pub fn global_set(self, global: u32) -> Result<Self, EncodeError>
+        ensures* refused { sem 𝓛 (RestsUnchanged self.entry result) }
+        ensures ok { IfOk result (λ s. s.sink.now.items ≡ self.entry.sink.now.items ++ instr_bytes (instr_view (Instruction.GlobalSet global))) }
+        ensures same_reference { IfOk result (λ s. s.sink.ghost_name ≡ self.entry.sink.ghost_name) }
+        ensures too_large { IsErrOf result EncodeError.TooLarge → ⊥ }
+    {
+        self.instruction(&Instruction::GlobalSet(global))
+    }
+
+    /// `ref.null`
+    pub fn ref_null(self, heap_type: HeapType) -> Result<Self, EncodeError>
+        ensures* refused { sem 𝓛 (RestsUnchanged self.entry result) }
+        ensures ok { IfOk result (λ s. s.sink.now.items ≡ self.entry.sink.now.items ++ instr_bytes (instr_view (Instruction.Gc (GcOp.RefNull heap_type)))) }
+        ensures same_reference { IfOk result (λ s. s.sink.ghost_name ≡ self.entry.sink.ghost_name) }
+        ensures too_large { IsErrOf result EncodeError.TooLarge → ⊥ }
+    {
+        self.instruction(&Instruction::Gc(GcOp::RefNull(heap_type)))
+    }
+
+    /// `ref.func`
+    pub fn ref_func(self, function: u32) -> Result<Self, EncodeError>
+        ensures* refused { sem 𝓛 (RestsUnchanged self.entry result) }
+        ensures ok { IfOk result (λ s. s.sink.now.items ≡ self.entry.sink.now.items ++ instr_bytes (instr_view (Instruction.Gc (GcOp.RefFunc function)))) }
+        ensures same_reference { IfOk result (λ s. s.sink.ghost_name ≡ self.entry.sink.ghost_name) }
+        ensures too_large { IsErrOf result EncodeError.TooLarge → ⊥ }
+    {
+        self.instruction(&Instruction::Gc(GcOp::RefFunc(function)))
+    }
+
+    /// `i32.const`
+    pub fn i32_const(self, value: i32) -> Result<Self, EncodeError>
+        ensures* refused { sem 𝓛 (RestsUnchanged self.entry result) }
+        ensures ok { IfOk result (λ s. s.sink.now.items ≡ self.entry.sink.now.items ++ instr_bytes (instr_view (Instruction.I32Const value))) }
+        ensures same_reference { IfOk result (λ s. s.sink.ghost_name ≡ self.entry.sink.ghost_name) }
+        ensures too_large { IsErrOf result EncodeError.TooLarge → ⊥ }
+    {
+        self.instruction(&Instruction::I32Const(value))
+    }
+
+    /// `i64.const`
+    pub fn i64_const(self, value: i64) -> Result<Self, EncodeError>
+        ensures* refused { sem 𝓛 (RestsUnchanged self.entry result) }
+        ensures ok { IfOk result (λ s. s.sink.now.items ≡ self.entry.sink.now.items ++ instr_bytes (instr_view (Instruction.I64Const value))) }
+        ensures same_reference { IfOk result (λ s. s.sink.ghost_name ≡ self.entry.sink.ghost_name) }
+        ensures too_large { IsErrOf result EncodeError.TooLarge → ⊥ }
+    {
+        self.instruction(&Instruction::I64Const(value))
+    }
+
+    /// `f32.const`
+    pub fn f32_const(self, value: Ieee32) -> Result<Self, EncodeError>
+        ensures* refused { sem 𝓛 (RestsUnchanged self.entry result) }
+        ensures ok { IfOk result (λ s. s.sink.now.items ≡ self.entry.sink.now.items ++ instr_bytes (instr_view (Instruction.F32Const value))) }
+        ensures same_reference { IfOk result (λ s. s.sink.ghost_name ≡ self.entry.sink.ghost_name) }
+        ensures too_large { IsErrOf result EncodeError.TooLarge → ⊥ }
+    {
+        self.instruction(&Instruction::F32Const(value))
+    }
+
+    /// `f64.const`
+    pub fn f64_const(self, value: Ieee64) -> Result<Self, EncodeError>
+        ensures* refused { sem 𝓛 (RestsUnchanged self.entry result) }
+        ensures ok { IfOk result (λ s. s.sink.now.items ≡ self.entry.sink.now.items ++ instr_bytes (instr_view (Instruction.F64Const value))) }
+        ensures same_reference { IfOk result (λ s. s.sink.ghost_name ≡ self.entry.sink.ghost_name) }
+        ensures too_large { IsErrOf result EncodeError.TooLarge → ⊥ }
+    {
+        self.instruction(&Instruction::F64Const(value))
+    }
+
+    /// `v128.const`
+    pub fn v128_const(self, value: i128) -> Result<Self, EncodeError>
+        ensures* refused { sem 𝓛 (RestsUnchanged self.entry result) }
+        ensures ok { IfOk result (λ s. s.sink.now.items ≡ self.entry.sink.now.items ++ instr_bytes (instr_view (Instruction.VectorArg (VectorArgOp.V128Const value)))) }
+        ensures same_reference { IfOk result (λ s. s.sink.ghost_name ≡ self.entry.sink.ghost_name) }
+        ensures too_large { IsErrOf result EncodeError.TooLarge → ⊥ }
+    {
+        self.instruction(&Instruction::VectorArg(VectorArgOp::V128Const(value)))
+    }
+
+    /// `i32.add`
+    pub fn i32_add(self) -> Result<Self, EncodeError>
+        ensures* refused { sem 𝓛 (RestsUnchanged self.entry result) }
+        ensures ok { IfOk result (λ s. s.sink.now.items ≡ self.entry.sink.now.items ++ instr_bytes (instr_view (Instruction.Numeric NumericOp.I32Add))) }
+        ensures same_reference { IfOk result (λ s. s.sink.ghost_name ≡ self.entry.sink.ghost_name) }
+        ensures too_large { IsErrOf result EncodeError.TooLarge → ⊥ }
+    {
+        self.instruction(&Instruction::Numeric(NumericOp::I32Add))
+    }
+
+    /// `i32.sub`
+    pub fn i32_sub(self) -> Result<Self, EncodeError>
+        ensures* refused { sem 𝓛 (RestsUnchanged self.entry result) }
+        ensures ok { IfOk result (λ s. s.sink.now.items ≡ self.entry.sink.now.items ++ instr_bytes (instr_view (Instruction.Numeric NumericOp.I32Sub))) }
+        ensures same_reference { IfOk result (λ s. s.sink.ghost_name ≡ self.entry.sink.ghost_name) }
+        ensures too_large { IsErrOf result EncodeError.TooLarge → ⊥ }
+    {
+        self.instruction(&Instruction::Numeric(NumericOp::I32Sub))
+    }
+
+    /// `i32.mul`
+    pub fn i32_mul(self) -> Result<Self, EncodeError>
+        ensures* refused { sem 𝓛 (RestsUnchanged self.entry result) }
+        ensures ok { IfOk result (λ s. s.sink.now.items ≡ self.entry.sink.now.items ++ instr_bytes (instr_view (Instruction.Numeric NumericOp.I32Mul))) }
+        ensures same_reference { IfOk result (λ s. s.sink.ghost_name ≡ self.entry.sink.ghost_name) }
+        ensures too_large { IsErrOf result EncodeError.TooLarge → ⊥ }
+    {
+        self.instruction(&Instruction::Numeric(NumericOp::I32Mul))
+    }
+
+    /// `i64.add`
+    pub fn i64_add(self) -> Result<Self, EncodeError>
+        ensures* refused { sem 𝓛 (RestsUnchanged self.entry result) }
+        ensures ok { IfOk result (λ s. s.sink.now.items ≡ self.entry.sink.now.items ++ instr_bytes (instr_view (Instruction.Numeric NumericOp.I64Add))) }
+        ensures same_reference { IfOk result (λ s. s.sink.ghost_name ≡ self.entry.sink.ghost_name) }
+        ensures too_large { IsErrOf result EncodeError.TooLarge → ⊥ }
+    {
+        self.instruction(&Instruction::Numeric(NumericOp::I64Add))
+    }
+
+    /// `i64.sub`
+    pub fn i64_sub(self) -> Result<Self, EncodeError>
+        ensures* refused { sem 𝓛 (RestsUnchanged self.entry result) }
+        ensures ok { IfOk result (λ s. s.sink.now.items ≡ self.entry.sink.now.items ++ instr_bytes (instr_view (Instruction.Numeric NumericOp.I64Sub))) }
+        ensures same_reference { IfOk result (λ s. s.sink.ghost_name ≡ self.entry.sink.ghost_name) }
+        ensures too_large { IsErrOf result EncodeError.TooLarge → ⊥ }
+    {
+        self.instruction(&Instruction::Numeric(NumericOp::I64Sub))
+    }
+
+    /// `i64.mul`
+    pub fn i64_mul(self) -> Result<Self, EncodeError>
+        ensures* refused { sem 𝓛 (RestsUnchanged self.entry result) }
+        ensures ok { IfOk result (λ s. s.sink.now.items ≡ self.entry.sink.now.items ++ instr_bytes (instr_view (Instruction.Numeric NumericOp.I64Mul))) }
+        ensures same_reference { IfOk result (λ s. s.sink.ghost_name ≡ self.entry.sink.ghost_name) }
+        ensures too_large { IsErrOf result EncodeError.TooLarge → ⊥ }
+    {
+        self.instruction(&Instruction::Numeric(NumericOp::I64Mul))
+    }
+}

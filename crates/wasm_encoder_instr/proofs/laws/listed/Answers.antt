@@ -1,0 +1,5 @@
+use Rattle.wasm_encoder_instr.proofs.InTable.{all_listed}
+use Rattle.wasm_encoder_instr.proofs.laws.listed.Goals as goal
+
+pub returns : goal.returns
+returns c = all_listed

@@ -1,0 +1,75 @@
+-- Vector instructions with operands: opcodes FD. (WebAssembly 3.0, 5.4)
+use Rattle.std.specs.Prelude.{◌<◌, ◌∷◌}
+use Rattle.std.specs.Int.{w128, cast_unsigned}
+use Rattle.wasm_encoder_base.specs.Leb.{uleb}
+use Rattle.wasm_encoder_base.specs.Instr.{Instr, V128, Lane, Shuffle, Memory, MemoryLane}
+use Rattle.wasm_encoder_instr.specs.MemArg.{mem_arg_view}
+use Rattle.wasm_encoder_instr.specs.declared.vector_arg.VectorArgOp.{VectorArgOp}
+use Rattle.wasm_encoder_instr.specs.declared.vector_arg.VectorArgOp.TheVariants as variants
+
+-- the opcode and the operands of each, these in the order of the bytes
+abbrev pub vector_arg_view : VectorArgOp → Instr
+vector_arg_view (variants.V128Load memarg) = record { opcode = 0xFD ∷ uleb 0; operands = Memory (mem_arg_view memarg) }
+vector_arg_view (variants.V128Load8x8S memarg) = record { opcode = 0xFD ∷ uleb 1; operands = Memory (mem_arg_view memarg) }
+vector_arg_view (variants.V128Load8x8U memarg) = record { opcode = 0xFD ∷ uleb 2; operands = Memory (mem_arg_view memarg) }
+vector_arg_view (variants.V128Load16x4S memarg) = record { opcode = 0xFD ∷ uleb 3; operands = Memory (mem_arg_view memarg) }
+vector_arg_view (variants.V128Load16x4U memarg) = record { opcode = 0xFD ∷ uleb 4; operands = Memory (mem_arg_view memarg) }
+vector_arg_view (variants.V128Load32x2S memarg) = record { opcode = 0xFD ∷ uleb 5; operands = Memory (mem_arg_view memarg) }
+vector_arg_view (variants.V128Load32x2U memarg) = record { opcode = 0xFD ∷ uleb 6; operands = Memory (mem_arg_view memarg) }
+vector_arg_view (variants.V128Load8Splat memarg) = record { opcode = 0xFD ∷ uleb 7; operands = Memory (mem_arg_view memarg) }
+vector_arg_view (variants.V128Load16Splat memarg) = record { opcode = 0xFD ∷ uleb 8; operands = Memory (mem_arg_view memarg) }
+vector_arg_view (variants.V128Load32Splat memarg) = record { opcode = 0xFD ∷ uleb 9; operands = Memory (mem_arg_view memarg) }
+vector_arg_view (variants.V128Load64Splat memarg) = record { opcode = 0xFD ∷ uleb 10; operands = Memory (mem_arg_view memarg) }
+vector_arg_view (variants.V128Store memarg) = record { opcode = 0xFD ∷ uleb 11; operands = Memory (mem_arg_view memarg) }
+vector_arg_view (variants.V128Const value) = record { opcode = 0xFD ∷ uleb 12; operands = V128 (cast_unsigned w128 value) }
+vector_arg_view (variants.I8x16Shuffle lanes) = record { opcode = 0xFD ∷ uleb 13; operands = Shuffle lanes }
+vector_arg_view (variants.I8x16ExtractLaneS lane) = record { opcode = 0xFD ∷ uleb 21; operands = Lane lane }
+vector_arg_view (variants.I8x16ExtractLaneU lane) = record { opcode = 0xFD ∷ uleb 22; operands = Lane lane }
+vector_arg_view (variants.I8x16ReplaceLane lane) = record { opcode = 0xFD ∷ uleb 23; operands = Lane lane }
+vector_arg_view (variants.I16x8ExtractLaneS lane) = record { opcode = 0xFD ∷ uleb 24; operands = Lane lane }
+vector_arg_view (variants.I16x8ExtractLaneU lane) = record { opcode = 0xFD ∷ uleb 25; operands = Lane lane }
+vector_arg_view (variants.I16x8ReplaceLane lane) = record { opcode = 0xFD ∷ uleb 26; operands = Lane lane }
+vector_arg_view (variants.I32x4ExtractLane lane) = record { opcode = 0xFD ∷ uleb 27; operands = Lane lane }
+vector_arg_view (variants.I32x4ReplaceLane lane) = record { opcode = 0xFD ∷ uleb 28; operands = Lane lane }
+vector_arg_view (variants.I64x2ExtractLane lane) = record { opcode = 0xFD ∷ uleb 29; operands = Lane lane }
+vector_arg_view (variants.I64x2ReplaceLane lane) = record { opcode = 0xFD ∷ uleb 30; operands = Lane lane }
+vector_arg_view (variants.F32x4ExtractLane lane) = record { opcode = 0xFD ∷ uleb 31; operands = Lane lane }
+vector_arg_view (variants.F32x4ReplaceLane lane) = record { opcode = 0xFD ∷ uleb 32; operands = Lane lane }
+vector_arg_view (variants.F64x2ExtractLane lane) = record { opcode = 0xFD ∷ uleb 33; operands = Lane lane }
+vector_arg_view (variants.F64x2ReplaceLane lane) = record { opcode = 0xFD ∷ uleb 34; operands = Lane lane }
+vector_arg_view (variants.V128Load8Lane memarg lane) = record { opcode = 0xFD ∷ uleb 84; operands = MemoryLane (mem_arg_view memarg) lane }
+vector_arg_view (variants.V128Load16Lane memarg lane) = record { opcode = 0xFD ∷ uleb 85; operands = MemoryLane (mem_arg_view memarg) lane }
+vector_arg_view (variants.V128Load32Lane memarg lane) = record { opcode = 0xFD ∷ uleb 86; operands = MemoryLane (mem_arg_view memarg) lane }
+vector_arg_view (variants.V128Load64Lane memarg lane) = record { opcode = 0xFD ∷ uleb 87; operands = MemoryLane (mem_arg_view memarg) lane }
+vector_arg_view (variants.V128Store8Lane memarg lane) = record { opcode = 0xFD ∷ uleb 88; operands = MemoryLane (mem_arg_view memarg) lane }
+vector_arg_view (variants.V128Store16Lane memarg lane) = record { opcode = 0xFD ∷ uleb 89; operands = MemoryLane (mem_arg_view memarg) lane }
+vector_arg_view (variants.V128Store32Lane memarg lane) = record { opcode = 0xFD ∷ uleb 90; operands = MemoryLane (mem_arg_view memarg) lane }
+vector_arg_view (variants.V128Store64Lane memarg lane) = record { opcode = 0xFD ∷ uleb 91; operands = MemoryLane (mem_arg_view memarg) lane }
+vector_arg_view (variants.V128Load32Zero memarg) = record { opcode = 0xFD ∷ uleb 92; operands = Memory (mem_arg_view memarg) }
+vector_arg_view (variants.V128Load64Zero memarg) = record { opcode = 0xFD ∷ uleb 93; operands = Memory (mem_arg_view memarg) }
+
+-- the logarithm of a memory argument's alignment is below 16
+abbrev pub can_encode_vector_arg : VectorArgOp → Type 0
+can_encode_vector_arg (variants.V128Load memarg) = memarg.align < 16
+can_encode_vector_arg (variants.V128Load8x8S memarg) = memarg.align < 16
+can_encode_vector_arg (variants.V128Load8x8U memarg) = memarg.align < 16
+can_encode_vector_arg (variants.V128Load16x4S memarg) = memarg.align < 16
+can_encode_vector_arg (variants.V128Load16x4U memarg) = memarg.align < 16
+can_encode_vector_arg (variants.V128Load32x2S memarg) = memarg.align < 16
+can_encode_vector_arg (variants.V128Load32x2U memarg) = memarg.align < 16
+can_encode_vector_arg (variants.V128Load8Splat memarg) = memarg.align < 16
+can_encode_vector_arg (variants.V128Load16Splat memarg) = memarg.align < 16
+can_encode_vector_arg (variants.V128Load32Splat memarg) = memarg.align < 16
+can_encode_vector_arg (variants.V128Load64Splat memarg) = memarg.align < 16
+can_encode_vector_arg (variants.V128Store memarg) = memarg.align < 16
+can_encode_vector_arg (variants.V128Load8Lane memarg lane) = memarg.align < 16
+can_encode_vector_arg (variants.V128Load16Lane memarg lane) = memarg.align < 16
+can_encode_vector_arg (variants.V128Load32Lane memarg lane) = memarg.align < 16
+can_encode_vector_arg (variants.V128Load64Lane memarg lane) = memarg.align < 16
+can_encode_vector_arg (variants.V128Store8Lane memarg lane) = memarg.align < 16
+can_encode_vector_arg (variants.V128Store16Lane memarg lane) = memarg.align < 16
+can_encode_vector_arg (variants.V128Store32Lane memarg lane) = memarg.align < 16
+can_encode_vector_arg (variants.V128Store64Lane memarg lane) = memarg.align < 16
+can_encode_vector_arg (variants.V128Load32Zero memarg) = memarg.align < 16
+can_encode_vector_arg (variants.V128Load64Zero memarg) = memarg.align < 16
+can_encode_vector_arg _ = Unit {0}

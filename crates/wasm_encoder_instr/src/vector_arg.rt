@@ -1,0 +1,161 @@
+ghost use Rattle.std.specs.Prelude.{◌≡◌, ◌++◌, OnOk, OnErr, IsErrOf, List, ℕ};
+ghost use Rattle.wasm_encoder_base.specs.Instr.{instr_bytes};
+ghost use Rattle.wasm_encoder_instr.specs.VectorArg.{vector_arg_view, can_encode_vector_arg};
+
+use crate::mem_arg::{Lane, MemArg};
+use crate::prefixed::Prefixed;
+use crate::put::{put_raw, put_three, put_two, put_v128};
+use wasm_encoder_base::{Encode, EncodeError};
+
+/// Vector instructions with operands: opcodes FD.
+#[derive(Clone, Copy, Debug)]
+pub enum VectorArgOp {
+    V128Load(MemArg),
+    V128Load8x8S(MemArg),
+    V128Load8x8U(MemArg),
+    V128Load16x4S(MemArg),
+    V128Load16x4U(MemArg),
+    V128Load32x2S(MemArg),
+    V128Load32x2U(MemArg),
+    V128Load8Splat(MemArg),
+    V128Load16Splat(MemArg),
+    V128Load32Splat(MemArg),
+    V128Load64Splat(MemArg),
+    V128Store(MemArg),
+    V128Const(i128),
+    I8x16Shuffle([Lane; 16]),
+    I8x16ExtractLaneS(Lane),
+    I8x16ExtractLaneU(Lane),
+    I8x16ReplaceLane(Lane),
+    I16x8ExtractLaneS(Lane),
+    I16x8ExtractLaneU(Lane),
+    I16x8ReplaceLane(Lane),
+    I32x4ExtractLane(Lane),
+    I32x4ReplaceLane(Lane),
+    I64x2ExtractLane(Lane),
+    I64x2ReplaceLane(Lane),
+    F32x4ExtractLane(Lane),
+    F32x4ReplaceLane(Lane),
+    F64x2ExtractLane(Lane),
+    F64x2ReplaceLane(Lane),
+    V128Load8Lane { memarg: MemArg, lane: Lane },
+    V128Load16Lane { memarg: MemArg, lane: Lane },
+    V128Load32Lane { memarg: MemArg, lane: Lane },
+    V128Load64Lane { memarg: MemArg, lane: Lane },
+    V128Store8Lane { memarg: MemArg, lane: Lane },
+    V128Store16Lane { memarg: MemArg, lane: Lane },
+    V128Store32Lane { memarg: MemArg, lane: Lane },
+    V128Store64Lane { memarg: MemArg, lane: Lane },
+    V128Load32Zero(MemArg),
+    V128Load64Zero(MemArg),
+}
+
+/// The opcode and the operands.
+impl Encode for VectorArgOp {
+    ghost use Rattle.wasm_encoder_base.specs.Instr.{instr_bytes};
+    ghost use Rattle.wasm_encoder_instr.specs.VectorArg.{vector_arg_view, can_encode_vector_arg};
+
+    ghost can_encode = { can_encode_vector_arg };
+
+    ghost fits = { λ _. Unit {0} };
+
+    ghost spelling = { λ op. instr_bytes (vector_arg_view op) };
+
+    fn encode(&self, sink: &mut Vec<u8>) -> Result<(), EncodeError> {
+        let start = sink.len();
+        let result = put(self, sink);
+        if result.is_err() {
+            sink.truncate(start);
+        }
+        result
+    }
+}
+
+/// Appends the bytes; refused, the sink is as it was and what was appended.
+fn put(op: &VectorArgOp, sink: &mut Vec<u8>) -> Result<(), EncodeError>
+    requires { can_encode_vector_arg op.now }
+    ensures spelled { OnOk result (sink.new.items ≡ sink.old.items ++ instr_bytes (vector_arg_view op.now)) }
+    ensures grows { (more : List ℕ) × (sink.new.items ≡ sink.old.items ++ more) }
+    ensures memory { IsErrOf result EncodeError.TooLarge → ⊥ }
+{
+    match op {
+        VectorArgOp::V128Load(memarg) => put_two(&Prefixed(0xFD, 0), memarg, sink),
+        VectorArgOp::V128Load8x8S(memarg) => put_two(&Prefixed(0xFD, 1), memarg, sink),
+        VectorArgOp::V128Load8x8U(memarg) => put_two(&Prefixed(0xFD, 2), memarg, sink),
+        VectorArgOp::V128Load16x4S(memarg) => put_two(&Prefixed(0xFD, 3), memarg, sink),
+        VectorArgOp::V128Load16x4U(memarg) => put_two(&Prefixed(0xFD, 4), memarg, sink),
+        VectorArgOp::V128Load32x2S(memarg) => put_two(&Prefixed(0xFD, 5), memarg, sink),
+        VectorArgOp::V128Load32x2U(memarg) => put_two(&Prefixed(0xFD, 6), memarg, sink),
+        VectorArgOp::V128Load8Splat(memarg) => put_two(&Prefixed(0xFD, 7), memarg, sink),
+        VectorArgOp::V128Load16Splat(memarg) => put_two(&Prefixed(0xFD, 8), memarg, sink),
+        VectorArgOp::V128Load32Splat(memarg) => put_two(&Prefixed(0xFD, 9), memarg, sink),
+        VectorArgOp::V128Load64Splat(memarg) => put_two(&Prefixed(0xFD, 10), memarg, sink),
+        VectorArgOp::V128Store(memarg) => put_two(&Prefixed(0xFD, 11), memarg, sink),
+        VectorArgOp::V128Const(value) => put_v128(&Prefixed(0xFD, 12), *value, sink),
+        VectorArgOp::I8x16Shuffle(lanes) => put_raw(&Prefixed(0xFD, 13), lanes, sink),
+        VectorArgOp::I8x16ExtractLaneS(lane) => put_two(&Prefixed(0xFD, 21), lane, sink),
+        VectorArgOp::I8x16ExtractLaneU(lane) => put_two(&Prefixed(0xFD, 22), lane, sink),
+        VectorArgOp::I8x16ReplaceLane(lane) => put_two(&Prefixed(0xFD, 23), lane, sink),
+        VectorArgOp::I16x8ExtractLaneS(lane) => put_two(&Prefixed(0xFD, 24), lane, sink),
+        VectorArgOp::I16x8ExtractLaneU(lane) => put_two(&Prefixed(0xFD, 25), lane, sink),
+        VectorArgOp::I16x8ReplaceLane(lane) => put_two(&Prefixed(0xFD, 26), lane, sink),
+        VectorArgOp::I32x4ExtractLane(lane) => put_two(&Prefixed(0xFD, 27), lane, sink),
+        VectorArgOp::I32x4ReplaceLane(lane) => put_two(&Prefixed(0xFD, 28), lane, sink),
+        VectorArgOp::I64x2ExtractLane(lane) => put_two(&Prefixed(0xFD, 29), lane, sink),
+        VectorArgOp::I64x2ReplaceLane(lane) => put_two(&Prefixed(0xFD, 30), lane, sink),
+        VectorArgOp::F32x4ExtractLane(lane) => put_two(&Prefixed(0xFD, 31), lane, sink),
+        VectorArgOp::F32x4ReplaceLane(lane) => put_two(&Prefixed(0xFD, 32), lane, sink),
+        VectorArgOp::F64x2ExtractLane(lane) => put_two(&Prefixed(0xFD, 33), lane, sink),
+        VectorArgOp::F64x2ReplaceLane(lane) => put_two(&Prefixed(0xFD, 34), lane, sink),
+        VectorArgOp::V128Load8Lane { memarg, lane } => put_three(
+            &Prefixed(0xFD, 84),
+            memarg,
+            lane,
+            sink,
+        ),
+        VectorArgOp::V128Load16Lane { memarg, lane } => put_three(
+            &Prefixed(0xFD, 85),
+            memarg,
+            lane,
+            sink,
+        ),
+        VectorArgOp::V128Load32Lane { memarg, lane } => put_three(
+            &Prefixed(0xFD, 86),
+            memarg,
+            lane,
+            sink,
+        ),
+        VectorArgOp::V128Load64Lane { memarg, lane } => put_three(
+            &Prefixed(0xFD, 87),
+            memarg,
+            lane,
+            sink,
+        ),
+        VectorArgOp::V128Store8Lane { memarg, lane } => put_three(
+            &Prefixed(0xFD, 88),
+            memarg,
+            lane,
+            sink,
+        ),
+        VectorArgOp::V128Store16Lane { memarg, lane } => put_three(
+            &Prefixed(0xFD, 89),
+            memarg,
+            lane,
+            sink,
+        ),
+        VectorArgOp::V128Store32Lane { memarg, lane } => put_three(
+            &Prefixed(0xFD, 90),
+            memarg,
+            lane,
+            sink,
+        ),
+        VectorArgOp::V128Store64Lane { memarg, lane } => put_three(
+            &Prefixed(0xFD, 91),
+            memarg,
+            lane,
+            sink,
+        ),
+        VectorArgOp::V128Load32Zero(memarg) => put_two(&Prefixed(0xFD, 92), memarg, sink),
+        VectorArgOp::V128Load64Zero(memarg) => put_two(&Prefixed(0xFD, 93), memarg, sink),
+    }
+}

@@ -1,0 +1,120 @@
+-- The scan of runs and strings.
+use Rattle.std.proofs.Common.{◌≡◌, ◌≢◌, ℕ, zero, suc, ◌+◌, ◌<◌, ◌≤◌, Bool, true, false, not, ◌⊎◌, inl, inr, ◌&&◌, ◌||◌, List, [], ◌∷◌, ◌++◌, Option, Some, None, length, refl, sym, ◌∙◌, ap, subst, arith, append_assoc, length-append}
+use Rattle.std.specs.Prelude.{if◌then◌else◌}
+use Rattle.std.specs.Str.{IsUtf8, is_utf8}
+use Rattle.std.proofs.lemmas.Str.{IsUtf8-from_is_utf8, is_utf8-from_IsUtf8}
+use Rattle.std.proofs.lemmas.Bool.{cases_Bool}
+use Rattle.wast_lexer_strings.specs.Strings.{is_quote, Element, Elements, IsString}
+use Rattle.wast_lexer_strings.specs.Scan.{Read, more, State, Step, on_step, step, read, is_empty, is_text}
+use Rattle.wast_lexer_strings.specs.Scan.State.{Within}
+use Rattle.wast_lexer_strings.specs.Scan.Step.{Go, Done, Fault}
+use Rattle.wast_lexer_strings.proofs.Reading.{string_read}
+use Rattle.wast_lexer_strings.proofs.Sound.{read_sound}
+use Rattle.wast_lexer.specs.Kinds.{starts, is_idchar, Run}
+use Rattle.wast_lexer.specs.Kinds.Run.{Ends, Char, Quoted}
+use Rattle.wast_lexer.specs.Tiling.{goes_on}
+use Rattle.wast_lexer.specs.Scan.{run, is_whole, is_string, is_text_string}
+use Rattle.wast_lexer.proofs.Basics.{and_true, eq_of, append_none, cases_option}
+
+-- a run that goes on behind a string
+abbrev pub run_behind : Option Read → Option (List ℕ)
+run_behind None = None
+run_behind (Some r) = run None r.rest
+
+behind_more : (b : List ℕ) (o : Option Read) → run_behind (more b o) ≡ run_behind o
+behind_more b None = refl
+behind_more b (Some r) = refl
+
+pub run_read : (text : List ℕ) (s : State) → run (Some s) text ≡ run_behind (read s text)
+run_read [] s = refl
+run_read (c ∷ text) s = elim (step s c) as (λ x. on_step x (λ to bytes. run (Some to) text) (run None text) None ≡ run_behind (on_step x (λ to bytes. more bytes (read to text)) (Some (record { bytes = []; rest = text })) None)) [
+  | Go to b ↦ run_read text to ∙ sym (behind_more b (read to text))
+  | Done ↦ refl
+  | Fault ↦ refl
+]
+
+goes_apart : (c : ℕ) → goes_on c ≡ false → (is_idchar c ≡ false) × (is_quote c ≡ false)
+goes_apart c h = (grind arith, grind arith)
+
+pub run_stops : (r : List ℕ) → starts goes_on r ≡ false → run None r ≡ Some r
+run_stops [] h = refl
+run_stops (c ∷ r) h = let a = goes_apart c h in rw (a.0, a.1) refl
+
+-- the scan of a run ends behind it
+pub run_complete : {w : List ℕ} → Run w → (r : List ℕ) → starts goes_on r ≡ false → run None (w ++ r) ≡ Some r
+run_complete Ends r h = run_stops r h
+run_complete (Char {c} {text} id more) r h = rw id (run_complete more r h)
+run_complete (Quoted {inner} {bytes} {text} es more) r h =
+    rw (append_assoc inner (34 ∷ text) r) (run_read (inner ++ 34 ∷ (text ++ r)) Within ∙ ap run_behind (string_read es (text ++ r)) ∙ run_complete more r h)
+
+-- what the scan passes over is a run, and what follows does not go on with it
+pub run_sound : (n : ℕ) (s r : List ℕ) → length s ≤ n → run None s ≡ Some r → (w : List ℕ) × (s ≡ w ++ r) × Run w × (starts goes_on r ≡ false)
+run_sound n [] r l h = let none : [] ≡ r = cc in ([], none, Ends, ap (starts goes_on) (sym none))
+run_sound zero (c ∷ s) r l h = absurd (omega (arith, l))
+run_sound (suc n) (c ∷ s) r l h = elim (cases_Bool (is_idchar c)) [
+  | inl i ↦ (let found = run_sound n s r (omega (arith, l)) (rw i at h) in
+      (c ∷ found.0, ap (λ (y : List ℕ). c ∷ y) found.1, Char i found.2, found.3))
+  | inr i ↦ elim (cases_Bool (is_quote c)) [
+    | inl q ↦ (let on : run (Some Within) s ≡ Some r = rw (i, q) at h in elim (cases_option (read Within s)) [
+      | inl none ↦ (let no : None ≡ Some r = ap run_behind (sym none) ∙ sym (run_read s Within) ∙ on in absurd (cc))
+      | inr some ↦
+          let q' = some.0 in
+          let string = read_sound s Within q' some.1 in
+          let size : length q'.rest ≤ n = omega (arith, l, ap length string.2, length-append string.0 (34 ∷ q'.rest)) in
+          let found = run_sound n q'.rest r size (ap run_behind (sym some.1) ∙ sym (run_read s Within) ∙ on) in
+          (34 ∷ (string.0 ++ 34 ∷ found.0),
+           ap (λ (k : ℕ). k ∷ s) (eq_of c 34 q) ∙ ap (λ (y : List ℕ). 34 ∷ y) (string.2 ∙ ap (λ (y : List ℕ). string.0 ++ 34 ∷ y) found.1 ∙ sym (append_assoc string.0 (34 ∷ found.0) r)),
+           Quoted string.1 found.2, found.3)
+    ])
+    | inr q ↦ (let same : c ∷ s ≡ r = (let h' = rw (i, q) at h in cc) in
+        ([], same, Ends, ap (starts goes_on) (sym same) ∙ (rw (i, q) refl)))
+  ]
+]
+
+-- ---- strings
+pub string_complete : (w b : List ℕ) → IsString w b → is_string w ≡ true
+string_complete w b s = ap is_string s.2 ∙ ap is_whole (string_read s.1 [])
+
+empty_is : (s : List ℕ) → is_empty s ≡ true → s ≡ []
+empty_is [] h = refl
+empty_is (c ∷ s) h = absurd (cc)
+
+-- a scan that read all of a text
+pub read_all : (c : ℕ) (s : List ℕ) (r : Read) → is_quote c ≡ true → read Within s ≡ Some r → is_empty r.rest ≡ true → IsString (c ∷ s) r.bytes
+read_all c s r q e none =
+    let string = read_sound s Within r e in
+    (string.0, string.1, ap (λ (k : ℕ). k ∷ s) (eq_of c 34 q) ∙ ap (λ (y : List ℕ). 34 ∷ y) (string.2 ∙ ap (λ (y : List ℕ). string.0 ++ 34 ∷ y) (empty_is r.rest none)))
+
+pub string_sound : (w : List ℕ) → is_string w ≡ true → (bytes : List ℕ) × IsString w bytes
+string_sound [] h = absurd (cc)
+string_sound (c ∷ s) h =
+    let both = and_true (is_quote c) (is_whole (read Within s)) h in
+    elim (cases_option (read Within s)) [
+      | inl none ↦ (let no : is_whole None ≡ true = ap is_whole (sym none) ∙ both.1 in absurd (cc))
+      | inr some ↦ (some.0.bytes, read_all c s some.0 both.0 some.1 (ap is_whole (sym some.1) ∙ both.1))
+    ]
+
+some_bytes : (b : List ℕ) → b ≢ [] → not (is_empty b) ≡ true
+some_bytes [] n = absurd (n refl)
+some_bytes (c ∷ b) n = refl
+
+bytes_some : (b : List ℕ) → not (is_empty b) ≡ true → b ≢ []
+bytes_some [] h = absurd (cc)
+bytes_some (c ∷ b) h = λ e. cc
+
+pub text_complete : (w b : List ℕ) → IsString w b → b ≢ [] → IsUtf8 b → is_text_string w ≡ true
+text_complete w b s some utf8 = ap is_text_string s.2 ∙ ap is_text (string_read s.1 []) ∙ (rw (is_utf8-from_IsUtf8 b utf8, some_bytes b some) refl)
+
+pub text_sound : (w : List ℕ) → is_text_string w ≡ true → (bytes : List ℕ) × IsString w bytes × (bytes ≢ []) × IsUtf8 bytes
+text_sound [] h = absurd (cc)
+text_sound (c ∷ s) h =
+    let both = and_true (is_quote c) (is_text (read Within s)) h in
+    elim (cases_option (read Within s)) [
+      | inl none ↦ (let no : is_text None ≡ true = ap is_text (sym none) ∙ both.1 in absurd (cc))
+      | inr some ↦
+          let r = some.0 in
+          let whole : (is_utf8 r.bytes && not (is_empty r.bytes) && is_empty r.rest) ≡ true = ap is_text (sym some.1) ∙ both.1 in
+          let first = and_true (is_utf8 r.bytes && not (is_empty r.bytes)) (is_empty r.rest) whole in
+          let parts = and_true (is_utf8 r.bytes) (not (is_empty r.bytes)) first.0 in
+          (r.bytes, read_all c s r both.0 some.1 first.1, bytes_some r.bytes parts.1, IsUtf8-from_is_utf8 r.bytes parts.0)
+    ]

@@ -1,0 +1,12 @@
+pub mod Lexeme
+pub mod Kinds
+pub mod Tiling
+pub mod Laws
+pub mod Span
+pub mod Parse
+pub mod Readers
+pub mod Tokens
+pub mod Groups
+pub mod Table
+pub mod Scan
+pub mod Levels

@@ -1,0 +1,31 @@
+//! A lexer for the text format of WebAssembly (WebAssembly Core Specification 3.0, 6.2 and 6.3).
+//!
+//! [`Lexer`] cuts a text into tokens, which lie end to end; [`laws::one_tiling`] says that a text is at most one list
+//! of tokens.
+#![tactic(auto)]
+
+mod comment;
+mod fault;
+pub mod laws;
+mod level;
+mod lexer;
+mod read;
+mod run;
+mod scan;
+mod skip;
+mod span;
+mod table;
+mod token;
+mod tokens;
+
+pub use fault::LexFault;
+pub use lexer::Lexer;
+pub use span::Span;
+pub use table::TokenTable;
+pub use token::{Token, TokenKind};
+pub use tokens::Tokens;
+pub use wast_lexer_numbers::{Float, FloatKind, Integer, IntegerKind, SignToken};
+pub use wast_lexer_strings::LexError;
+
+#[cfg(test)]
+mod tests;

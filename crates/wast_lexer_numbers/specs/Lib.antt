@@ -1,0 +1,4 @@
+pub mod Numbers
+pub mod Readings
+pub mod Scan
+pub mod Laws

@@ -1,0 +1,50 @@
+//! The parts of a number, as they are written.
+
+ghost use Rattle.std.specs.Prelude.{◌≡◌, if◌then◌else◌};
+
+use crate::kind::SignToken;
+
+/// An integer.
+#[derive(Clone, Copy, Debug, PartialEq, Eq)]
+pub struct Integer<'a> {
+    pub(crate) sign: Option<SignToken>,
+    pub(crate) digits: &'a str,
+    pub(crate) hex: bool,
+}
+
+impl<'a> Integer<'a> {
+    pub fn sign(&self) -> Option<SignToken>
+        ensures { result ≡ self.now.sign }
+    {
+        self.sign
+    }
+
+    /// The digits, with each `_` among them, and their base.
+    pub fn val(&self) -> (&'a str, u32)
+        ensures digits { result.0.now ≡ self.now.digits.now }
+        ensures base { result.1 ≡ (if self.now.hex then 16 else 10) }
+    {
+        (self.digits, if self.hex { 16 } else { 10 })
+    }
+}
+
+/// A float.
+#[derive(Clone, Copy, Debug, PartialEq, Eq)]
+pub enum Float<'a> {
+    Inf {
+        sign: Option<SignToken>,
+    },
+    /// `nan`, or `nan:0x` and the payload's digits.
+    Nan {
+        sign: Option<SignToken>,
+        payload: Option<&'a str>,
+    },
+    /// The digits before the point, those behind it where there is a point, and the exponent with its sign.
+    Val {
+        sign: Option<SignToken>,
+        hex: bool,
+        integral: &'a str,
+        fraction: Option<&'a str>,
+        exponent: Option<&'a str>,
+    },
+}

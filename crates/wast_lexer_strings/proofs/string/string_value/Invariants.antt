@@ -1,0 +1,10 @@
+use Rattle.std.proofs.Common.{length, ◌-◌, ◌≡◌, ◌↔◌, ◌≤◌, ◌<◌, ◌*◌, ◌+◌, ℕ, List, drop, true, false, [], ◌∷◌, ◌++◌}
+use Rattle.wast_lexer_strings.specs.Scan.{read, more}
+use Rattle.wast_lexer_strings.specs.Scan.State.{Within}
+use Rattle.wast_lexer_strings.proofs.string.string_value.Given as goal
+
+abbrev pub invariant-elements : goal.invariant-elements
+invariant-elements l = record { low : 1 ≤ l.at; high : l.at ≤ length l.word; rest : read Within (drop 1 l.word) ≡ more l.out.items (read Within (drop l.at l.word)) }
+
+abbrev pub decreases-elements : goal.decreases-elements
+decreases-elements l = length l.word - l.at

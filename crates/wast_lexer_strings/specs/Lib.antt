@@ -1,0 +1,4 @@
+pub mod Strings
+pub mod Scan
+pub mod Feeds
+pub mod Laws

@@ -1,0 +1,97 @@
+//! Whole strings.
+
+ghost use Rattle.std.specs.Prelude.{◌≡◌, ◌≤◌, ◌&&◌, ℕ, List, length, drop, IfOk};
+ghost use Rattle.wast_lexer_strings.specs.Strings.{IsString};
+ghost use Rattle.wast_lexer_strings.specs.Scan.{FindsRest, read, is_text, is_empty};
+ghost use Rattle.wast_lexer_strings.specs.Scan.State.{Within};
+
+use crate::error::LexError;
+use crate::piece::{Piece, read_piece};
+use crate::utf8::{Tail, follow_piece, is_closed};
+use std::alloc::{AllocError, Global};
+
+/// Where a string ends whose quote stands before the place.
+pub fn string_end(text: &[u8], from: usize) -> Result<usize, LexError>
+    requires { from ≤ length text.now }
+    ensures { FindsRest result text.now from (read Within (drop from text.now)) }
+{
+    let mut at = from;
+    'elements: while at < text.len() {
+        if text[at] == b'"' {
+            return Ok(at + 1);
+        }
+        match read_piece(text, at) {
+            Ok((_, end)) => at = end,
+            Err(error) => return Err(error),
+        }
+    }
+    Err(LexError::UnexpectedEof)
+}
+
+/// Whether a string ends the text, and stands for a text that is not empty.
+pub fn is_text(text: &[u8], from: usize) -> bool
+    requires { from ≤ length text.now }
+    ensures { result ≡ is_text (read Within (drop from text.now)) }
+{
+    let mut tail = Tail { x: 0, y: 0, z: 0 };
+    let mut some = false;
+    let mut at = from;
+    'elements: while at < text.len() {
+        if text[at] == b'"' {
+            return are_all(is_closed(tail), some, is_end(text, at + 1));
+        }
+        match read_piece(text, at) {
+            Err(_) => return false,
+            Ok((piece, end)) => match follow_piece(tail, piece) {
+                None => return false,
+                Some(next) => {
+                    tail = next;
+                    some = true;
+                    at = end;
+                }
+            },
+        }
+    }
+    false
+}
+
+/// The bytes that a string stands for.
+pub fn string_value(alloc: Global, word: &[u8]) -> Result<Vec<u8>, AllocError>
+    requires { (bytes : List ℕ) × IsString word.now bytes }
+    ensures { IfOk result (λ v. IsString word.now v.items) }
+{
+    let mut out = Vec::new(alloc);
+    let mut at = 1;
+    'elements: while at < word.len() && word[at] != b'"' {
+        match read_piece(word, at) {
+            Err(_) => return Ok(out),
+            Ok((Piece::Byte(byte), end)) => {
+                out.push(byte)?;
+                at = end;
+            }
+            Ok((Piece::Char(c), end)) => {
+                let mut buffer = [0u8; 4];
+                let text = c.encode_utf8(&mut buffer);
+                out.extend_from_slice(text.as_bytes())?;
+                at = end;
+            }
+        }
+    }
+    Ok(out)
+}
+
+fn is_end(text: &[u8], at: usize) -> bool
+    requires { at ≤ length text.now }
+    ensures { result ≡ is_empty (drop at text.now) }
+{
+    if at < text.len() {
+        return false;
+    }
+    true
+}
+
+fn are_all(a: bool, b: bool, c: bool) -> bool
+    ensures { result ≡ (a && b && c) }
+{
+    a && b && c
+}
