@@ -1,5 +1,5 @@
 -- What stands behind the first byte.
-use Rattle.std.proofs.Common.{ℕ, suc, ◌≡◌, ◌-◌, ◌<◌, ◌≤◌, List, ◌∷◌, ◌++◌, length, take, drop, refl, sym, ap, ◌∙◌, subst, arith, take_all}
+use Rattle.std.proofs.Common.{ℕ, ◌≡◌, ◌-◌, ◌≤◌, List, ◌∷◌, ◌++◌, length, take, drop, ap, ◌∙◌, arith, take_all}
 use Rattle.wasm_encoder_base.specs.Reading.{StandsInFront}
 
 behind : (b : ℕ) (l : List ℕ) → take (length (b ∷ l) - 1) (drop 1 (b ∷ l)) ≡ l

@@ -5,7 +5,7 @@ use Rattle.wasm_encoder_base.specs.Bytes.{counted}
 use Rattle.wasm_encoder_base.specs.Types as binary
 use Rattle.wasm_encoder_base.specs.declared.types.ValType.{ValType}
 use Rattle.wasm_encoder_base.proofs.Mapped.{counted_view}
-use Rattle.wasm_encoder_code.specs.Body.{Run, run_bytes, joined}
+use Rattle.wasm_encoder_code.specs.Body.{run_bytes, joined}
 use Rattle.wasm_encoder_code.specs.Locals.{run_view, pair_bytes}
 
 pub runs_bytes : (pairs : List (ℕ × ValType)) (types : List binary.ValType) → map run_view pairs ≡ joined types → counted pair_bytes pairs ≡ counted run_bytes (joined types)

@@ -1,8 +1,6 @@
 -- Bodies and expressions are told apart by their bytes.
 use Rattle.std.proofs.Common.{ℕ, zero, suc, ◌≡◌, ◌+◌, Bool, true, false, List, [], ◌∷◌, ◌++◌, refl, sym, ap, ◌∙◌, add-one, flat_map}
-use Rattle.std.specs.List.{AllByRecursion}
-use Rattle.wasm_encoder_base.specs.Bytes.{counted}
-use Rattle.wasm_encoder_base.specs.Instr.{Instr, IsInstr, expr_bytes}
+use Rattle.wasm_encoder_base.specs.Instr.{expr_bytes}
 use Rattle.wasm_encoder_base.specs.Types.{ValType}
 use Rattle.wasm_encoder_base.specs.Unique.{Unique, Injective, Any}
 use Rattle.wasm_encoder_base.proofs.UniqueBytes.{unique_list}
@@ -11,7 +9,7 @@ use Rattle.wasm_encoder_base.proofs.UniqueLeb.{unique_uleb}
 use Rattle.wasm_encoder_base.proofs.UniqueParts.{unique_pair, unique_via, unique_where, injective_pair, injective_via, injective_where, injective_of}
 use Rattle.wasm_encoder_base.proofs.UniqueTypes.{unique_val}
 use Rattle.wasm_encoder_code.specs.Body.{Run, Body, IsBody, joins, joined, same_type, run_bytes, locals_bytes, body_bytes}
-use Rattle.wasm_encoder_code.specs.Laws.{IsSpelling, IsOneToOne, IsExpression, OneBody, OneExpression}
+use Rattle.wasm_encoder_code.specs.Laws.{IsOneToOne, IsExpression, OneBody, OneExpression}
 use Rattle.wasm_encoder_code.proofs.Runs.{type_one}
 
 unique_run : Unique Any run_bytes

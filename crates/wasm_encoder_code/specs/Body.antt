@@ -3,7 +3,7 @@ use Rattle.std.specs.Prelude.{ℕ, ◌+◌, nat_eq, not, ◌&&◌, Bool, true, f
 use Rattle.std.specs.List.{flat_map, AllByRecursion}
 use Rattle.wasm_encoder_base.specs.Leb.{uleb}
 use Rattle.wasm_encoder_base.specs.Bytes.{counted}
-use Rattle.wasm_encoder_base.specs.Types.{HeapType, Abstract, Concrete, RefType, ValType, I32Type, I64Type, F32Type, F64Type, V128Type, Reference, abstract_heap_byte, val_bytes}
+use Rattle.wasm_encoder_base.specs.Types.{HeapType, Abstract, Concrete, ValType, I32Type, I64Type, F32Type, F64Type, V128Type, Reference, abstract_heap_byte, val_bytes}
 use Rattle.wasm_encoder_base.specs.Instr.{Instr, IsInstr, instr_bytes, expr_bytes}
 
 -- as many locals of a type

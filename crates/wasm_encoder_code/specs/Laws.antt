@@ -1,8 +1,8 @@
 -- The laws that the crate's law functions prove.
-use Rattle.std.specs.Prelude.{ℕ, ◌≡◌, ◌≤◌, List, [], ◌∷◌, ◌++◌, drop, length}
-use Rattle.std.specs.List.{flat_map, AllByRecursion}
+use Rattle.std.specs.Prelude.{ℕ, ◌≡◌, List, drop}
+use Rattle.std.specs.List.{AllByRecursion}
 use Rattle.wasm_encoder_base.specs.Balanced.{IsBalanced}
-use Rattle.wasm_encoder_base.specs.Instr.{Instr, IsInstr, instr_bytes, expr_bytes}
+use Rattle.wasm_encoder_base.specs.Instr.{Instr, IsInstr, expr_bytes}
 use Rattle.wasm_encoder_code.specs.Body.{Body, IsBody, body_bytes, place_of}
 
 -- b is the spelling of x, which meets P

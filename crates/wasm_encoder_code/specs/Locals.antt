@@ -1,5 +1,5 @@
 -- Locals as the encoder's calls take them.
-use Rattle.std.specs.Prelude.{ℕ, zero, suc, ◌<◌, ◌^◌, Bool, true, false, List, [], ◌∷◌, length}
+use Rattle.std.specs.Prelude.{ℕ, zero, suc, ◌<◌, ◌^◌, true, false, List, [], ◌∷◌, length}
 use Rattle.std.specs.List.{AllByRecursion}
 use Rattle.wasm_encoder_base.specs.Types as binary
 use Rattle.wasm_encoder_base.specs.Views.{val_view}

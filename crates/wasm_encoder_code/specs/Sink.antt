@@ -1,7 +1,7 @@
 -- A sink whose call is refused is as it was.
 use denote.RattleType.{RattleType}
-use Rattle.std.specs.Prelude.{ℕ, ◌≡◌, Result}
-use Rattle.std.specs.Borrow.{RestsIfErr, MutBor, Fml, u8}
+use Rattle.std.specs.Prelude.{◌≡◌, Result}
+use Rattle.std.specs.Borrow.{RestsIfErr, Fml, u8}
 use Rattle.std.specs.contracts.vec.Vec as vec
 use Rattle.std.specs.contracts.alloc.Global as global
 use Rattle.std.specs.contracts.impls.GlobalAllocator.TheImpl.{ghosts}

@@ -1,8 +1,8 @@
 -- Each instruction's opcode is one of the table, with operands of its kind.
-use Rattle.std.proofs.Common.{ℕ, ◌≡◌, List, Option, Some, refl}
+use Rattle.std.proofs.Common.{◌≡◌, Some, refl}
 use Rattle.wasm_encoder_base.specs.Leb.{uleb, leb, digits}
 use Rattle.wasm_encoder_base.specs.Table.{table}
-use Rattle.wasm_encoder_base.specs.Instr.{Kind, Nothing, OfMemory, kind_at, kind_of, row_at}
+use Rattle.wasm_encoder_base.specs.Instr.{Nothing, OfMemory, kind_at, kind_of, row_at}
 use Rattle.wasm_encoder_instr.specs.Compare.{compare_opcode}
 use Rattle.wasm_encoder_instr.specs.declared.compare.CompareOp.{CompareOp}
 use Rattle.wasm_encoder_instr.specs.declared.compare.CompareOp.TheVariants.{I32Eqz}

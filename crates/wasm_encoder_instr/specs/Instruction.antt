@@ -1,5 +1,5 @@
 -- What the encoder's instructions are: an opcode of the table and its operands (WebAssembly 3.0, 5.4).
-use Rattle.std.specs.Prelude.{ℕ, ◌<◌, ◌^◌, [], ◌∷◌, length, map}
+use Rattle.std.specs.Prelude.{◌<◌, ◌^◌, [], ◌∷◌, length, map}
 use Rattle.wasm_encoder_base.specs.Leb.{uleb}
 use Rattle.wasm_encoder_base.specs.Instr.{Instr, Operands, NoOperands, Index, Pair, LabelTable, Block, TryTable, ValTypes, I32, I64, F32, F64, Memory, Fence}
 use Rattle.wasm_encoder_base.specs.Views.{val_view}

@@ -1,5 +1,5 @@
 -- A test as a table of bytes.
-use Rattle.std.proofs.Common.{◌≡◌, ℕ, zero, suc, ◌+◌, ◌<◌, Bool, true, false, List, [], ◌∷◌, get_or, refl, sym, ◌∙◌, ap, arith}
+use Rattle.std.proofs.Common.{◌≡◌, ℕ, zero, suc, ◌+◌, ◌<◌, Bool, List, [], ◌∷◌, get_or, ◌∙◌, ap, arith}
 
 abbrev pub upto : (ℕ → Bool) → ℕ → ℕ → List Bool
 upto p from zero = []

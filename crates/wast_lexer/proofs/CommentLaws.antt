@@ -1,12 +1,12 @@
 -- Where block comments end.
-use Rattle.std.proofs.Common.{◌≡◌, ◌≢◌, ℕ, zero, suc, ◌+◌, ◌-◌, ◌<◌, ◌≤◌, Bool, true, false, not, ◌⊎◌, inl, inr, ◌&&◌, ◌||◌, List, [], ◌∷◌, ◌++◌, Option, Some, None, add-one, refl, sym, ◌∙◌, ap, subst, arith, append_assoc}
-use Rattle.std.specs.Prelude.{◌==◌, if◌then◌else◌}
+use Rattle.std.proofs.Common.{◌≡◌, ℕ, zero, suc, ◌+◌, ◌-◌, Bool, false, inl, inr, ◌&&◌, List, [], ◌∷◌, ◌++◌, Some, add-one, refl, sym, ◌∙◌, ap, subst, arith, append_assoc}
+use Rattle.std.specs.Prelude.{◌==◌}
 use Rattle.std.proofs.lemmas.Bool.{cases_Bool}
 use Rattle.std.proofs.lemmas.Bool.Decides.{nat_tests}
-use Rattle.wast_lexer.specs.Kinds.{starts, is_open, is_close, is_semicolon, Inside, IsLoose}
+use Rattle.wast_lexer.specs.Kinds.{starts, is_open, is_close, is_semicolon, Inside}
 use Rattle.wast_lexer.specs.Kinds.Inside.{Nothing, Byte, Nested}
 use Rattle.wast_lexer.specs.Scan.{close}
-use Rattle.wast_lexer.proofs.Basics.{and_true, apart, eq_of}
+use Rattle.wast_lexer.proofs.Basics.{and_true, eq_of}
 
 not_both : (c n : ℕ) (t : Bool) → (c ≡ n → t ≡ false) → ((c == n) && t) ≡ false
 not_both c n t h = elim (cases_Bool (c == n)) [ inl is ↦ rw is (h (eq_of c n is)) | inr isnt ↦ rw isnt refl ]
@@ -91,4 +91,3 @@ close_split (c ∷ b ∷ s) d r h = elim (cases_Bool (is_open c && is_semicolon 
         (c ∷ inner.0, ap (λ y. c ∷ y) split, longer d c b s inner.0 r o e split inner.2)
   ]
 ]
-

@@ -1,6 +1,6 @@
 -- Steps of the scan of comments.
-use Rattle.std.proofs.Common.{◌≡◌, ◌≢◌, ◌-◌, ℕ, zero, suc, ◌+◌, ◌<◌, ◌≤◌, Bool, true, false, not, cond, ◌&&◌, ◌||◌, ◌⊎◌, inl, inr, List, [], ◌∷◌, ◌++◌, length, take, drop, get_or, Option, None, Some, refl, ap, sym, ◌∙◌, subst, arith, add-one}
-use Rattle.std.specs.Prelude.{◌==◌, if◌then◌else◌}
+use Rattle.std.proofs.Common.{◌≡◌, ◌≢◌, ◌-◌, ℕ, ◌+◌, ◌<◌, ◌≤◌, Bool, true, false, inl, inr, List, [], ◌∷◌, length, drop, get_or, Option, None, Some, refl, ap, sym, ◌∙◌, arith}
+use Rattle.std.specs.Prelude.{◌==◌}
 use Rattle.std.proofs.lemmas.List.{drop_all, length-drop, drop-drop}
 use Rattle.std.proofs.lemmas.Bool.{cases_Bool}
 use Rattle.std.proofs.lemmas.Bool.Decides.{nat_tests}
@@ -82,4 +82,3 @@ next_block allow opened text at h here more = let e = pair_at 40 text at h here 
 
 pub next_line : (allow opened : Bool) (text : List ℕ) (at : ℕ) → at < length text → get_or text at 0 ≡ 59 → true ≡ starts is_semicolon (drop (at + 1) text) → next allow opened (drop at text) ≡ comment allow LineComment (drop at text) (Some (skip (is_neither 10 13) (drop (at + 2) text)))
 next_line allow opened text at h here more = let e = pair_at 59 text at h here more in ap (next allow opened) e ∙ ap (λ y. comment allow LineComment y (Some (skip (is_neither 10 13) (drop (at + 2) text)))) (sym e)
-

@@ -1,19 +1,15 @@
 -- Each token ends where a character does.
-use Rattle.std.proofs.Common.{◌≡◌, ◌≢◌, ℕ, ◌+◌, ◌<◌, ◌≤◌, Bool, true, false, not, ◌⊎◌, inl, inr, ◌&&◌, ◌||◌, List, [], ◌∷◌, ◌++◌, length, drop, get_or, IsUtf8, refl, sym, ◌∙◌, ap, subst, arith}
-use Rattle.std.specs.Prelude.{nat_lt, nat_le}
+use Rattle.std.proofs.Common.{◌≡◌, ◌≢◌, ℕ, ◌+◌, ◌<◌, ◌≤◌, Bool, true, false, not, inl, inr, ◌&&◌, ◌||◌, List, [], ◌∷◌, ◌++◌, length, drop, get_or, IsUtf8, refl, sym, ◌∙◌, ap, subst, arith}
 use Rattle.std.specs.List.{list_all}
-use Rattle.std.proofs.lemmas.Bool.{cases_lt}
 use Rattle.std.proofs.lemmas.Bool.Decides.{nat_tests}
-use Rattle.std.proofs.lemmas.Grind.{common_steps}
 use Rattle.std.specs.Str.{IsCharBoundary}
 use Rattle.std.proofs.lemmas.Str.{IsCharBoundary-end, IsCharBoundary-before_ascii}
 use Rattle.std.proofs.lemmas.List.{get_or-drop, length-drop, length-append}
 use Rattle.wast_lexer.specs.declared.token.TokenKind.{TokenKind}
 use Rattle.wast_lexer.specs.declared.token.TokenKind.TheVariants.{LineComment, BlockComment, Whitespace, LParen, RParen, String, Id, Keyword, Annotation, Reserved, Integer, Float}
 use Rattle.wast_lexer_numbers.specs.declared.kind.NumberKind.TheVariants as kinds
-use Rattle.wast_lexer.specs.Kinds.{starts, is_space, is_line_end, is_mark, is_semicolon, IsLexeme, Run}
-use Rattle.wast_lexer.specs.Kinds.Run.{Ends, Char, Quoted}
-use Rattle.wast_lexer.specs.Tiling.{ends, Begins, MayFollow}
+use Rattle.wast_lexer.specs.Kinds.{starts, is_space, is_line_end, is_mark, is_semicolon, IsLexeme}
+use Rattle.wast_lexer.specs.Tiling.{ends, Begins}
 use Rattle.std.specs.Prelude.{Some}
 use Rattle.wast_lexer.specs.Scan.{next}
 use Rattle.wast_lexer.proofs.ScanLaws.{sound}

@@ -1,29 +1,21 @@
 -- The kinds of runs.
-use Rattle.std.proofs.Common.{◌≡◌, ◌≢◌, ℕ, Bool, true, false, not, ◌⊎◌, inl, inr, ◌&&◌, ◌||◌, List, [], ◌∷◌, ◌++◌, Option, Some, None, refl, sym, ◌∙◌, ap, subst, arith}
-use Rattle.std.specs.Prelude.{◌==◌, if◌then◌else◌, nat_le, nat_lt}
+use Rattle.std.proofs.Common.{◌≡◌, ◌≢◌, ℕ, Bool, true, false, inl, inr, ◌&&◌, ◌||◌, List, [], ◌∷◌, Some, None, refl, sym, ◌∙◌, ap, subst, arith}
+use Rattle.std.specs.Prelude.{◌==◌}
 use Rattle.std.specs.List.{list_all}
-use Rattle.std.specs.Str.{IsUtf8}
 use Rattle.std.proofs.Math.Bool.{or-true}
 use Rattle.std.proofs.lemmas.Bool.{cases_Bool, or_cases}
 use Rattle.std.proofs.lemmas.Bool.Decides.{nat_tests}
 use Rattle.wast_lexer_strings.specs.Strings.{IsString}
-use Rattle.wast_lexer_numbers.specs.declared.kind.SignToken.{SignToken}
-use Rattle.wast_lexer_numbers.specs.declared.kind.SignToken.TheVariants.{Plus, Minus}
-use Rattle.wast_lexer_numbers.specs.declared.kind.FloatKind.TheVariants.{Inf, Nan, NanVal, Normal}
 use Rattle.wast_lexer_numbers.specs.declared.kind.NumberKind.{NumberKind}
-use Rattle.wast_lexer_numbers.specs.declared.kind.NumberKind.TheVariants as kinds
-use Rattle.wast_lexer_numbers.specs.Numbers.{is_base, is_power, Digits, sign_text, base_text, IsFraction, IsExponent, IsUnsigned, IsNumber}
-use Rattle.wast_lexer_numbers.specs.Numbers as n
-use Rattle.wast_lexer_numbers.specs.Numbers.Digits.{Last, Next, Gap}
+use Rattle.wast_lexer_numbers.specs.Numbers.{IsNumber}
 use Rattle.wast_lexer_numbers.specs.Scan.{number}
 use Rattle.wast_lexer_numbers.proofs.ByteLaws.{is_number_byte, number_bytes, all_more}
 use Rattle.wast_lexer_numbers.proofs.NumberLaws.{number_scanned, scanned_number}
-use Rattle.wast_lexer.specs.declared.token.TokenKind.{TokenKind}
-use Rattle.wast_lexer.specs.declared.token.TokenKind.TheVariants.{String, Id, Keyword, Annotation, Reserved, Integer, Float}
+use Rattle.wast_lexer.specs.declared.token.TokenKind.TheVariants.{String, Id, Keyword, Reserved}
 use Rattle.wast_lexer.specs.Kinds.{starts, is_idchar, is_clean, may_stand, is_at, is_lower, is_name, IsNameOf, IsId, IsKeyword, IsAnnotation, IsOddRun, Run}
 use Rattle.wast_lexer.specs.Kinds.Run.{Ends, Char, Quoted}
-use Rattle.wast_lexer.specs.Scan.{kind_of, plain_kind, word_kind, number_or, number_token, is_string, is_text_string, is_id, is_annotated}
-use Rattle.wast_lexer.proofs.Basics.{and_true, apart, eq_of, append_none, cases_option, all_append}
+use Rattle.wast_lexer.specs.Scan.{plain_kind, number_token, is_string, is_text_string, is_id, is_annotated}
+use Rattle.wast_lexer.proofs.Basics.{and_true, eq_of, cases_option}
 use Rattle.wast_lexer.proofs.RunLaws.{string_complete, string_sound, text_complete, text_sound}
 use Rattle.wast_lexer.proofs.Refused.{not_refused}
 use Rattle.wast_lexer.proofs.Ascii.{names_utf8}

@@ -2,14 +2,13 @@
 use Rattle.std.proofs.Common.{◌≡◌, ◌↔◌, ℕ, zero, suc, ◌+◌, ◌<◌, ◌≤◌, List, [], ◌∷◌, ◌++◌, Option, Some, None, length, take, drop, refl, sym, ◌∙◌, ap, subst, arith, append_assoc, ◌⊎◌, inl, inr, get_or, add-one}
 use Rattle.std.proofs.Math.Seq.{drop-cons}
 use Rattle.std.proofs.lemmas.List.{drop-drop, length-drop}
-use Rattle.std.specs.Prelude.{option_map}
 use Rattle.std.proofs.lemmas.List.{length-append}
 use Rattle.wast_lexer.specs.declared.level.Paren.{Paren}
 use Rattle.wast_lexer.specs.declared.level.Paren.TheVariants.{Opens, Closes, Other}
 use Rattle.std.proofs.lemmas.List.{length-map, get_or-map, length-take-le, take-append-drop}
 use Rattle.wast_lexer.specs.declared.token.Token.{Token}
 use Rattle.wast_lexer.specs.Groups.{Balanced, IsGroupAt, paren_of, parens}
-use Rattle.std.proofs.Common.{Bool, true, false}
+use Rattle.std.proofs.Common.{true}
 use Rattle.wast_lexer.specs.Levels.{is_opening, IsGroup, one_more, closing, place}
 use Rattle.wast_lexer.specs.Groups.Balanced.{Nothing, Plain, Group}
 
@@ -40,7 +39,7 @@ passed d inner (Plain {tokens} b) rest = ap one_more (passed d tokens b rest) �
 passed d inner (Group {inner = inside} {tokens} b c) rest =
     ap (λ (y : List Paren). one_more (closing (d + 1) y)) (append_assoc inside (Closes ∷ tokens) rest)
     ∙ ap one_more (deeper d (inside ++ Closes ∷ (tokens ++ rest)) ∙ passed (suc d) inside b (Closes ∷ (tokens ++ rest))
-      ∙ ap (shift (length inside)) (ap one_more (passed d tokens c rest) ∙ shift_more (length tokens) (closing d rest)) ∙ shift_shift (length inside) (suc (length tokens)) (closing d rest))
+    ∙ ap (shift (length inside)) (ap one_more (passed d tokens c rest) ∙ shift_more (length tokens) (closing d rest)) ∙ shift_shift (length inside) (suc (length tokens)) (closing d rest))
     ∙ shift_more (length inside + suc (length tokens)) (closing d rest) ∙ ap (λ k. shift k (closing d rest)) (omega (arith, length-append inside (Closes ∷ tokens)))
 
 pub complete : (t : List Paren) (n : ℕ) → IsGroup t n → closing 0 t ≡ Some n
@@ -155,12 +154,13 @@ module _ (tokens : List Paren) (at next : ℕ) (inside : at < length tokens) (fi
         let b = small s.0 s.1 in
         let k : next ≡ at + 1 + s.0 = known ∙ ap (place (at + 1)) s.1 in
         let n : at + (s.0 + 2) ≡ next + 1 = omega (arith, k) in
-        let m : at + 1 + suc s.0 ≡ next + 1 = omega (arith, k) in
-        (omega (arith, b, k),
-         ap (λ y. place at (closing 0 y)) here ∙ ap (place at) (opens_some (drop (at + 1) tokens) s.0 s.1)
-         ∙ place_shift at (s.0 + 2) (closing 0 (drop (suc s.0) (drop (at + 1) tokens)))
-         ∙ ap (λ y. place (at + (s.0 + 2)) (closing 0 y)) (drop-drop (suc s.0) (at + 1) tokens)
-         ∙ ap (λ i. place i (closing 0 (drop (at + 1 + suc s.0) tokens))) n ∙ ap (λ i. place (next + 1) (closing 0 (drop i tokens))) m)
+        let m : at + 1 + suc s.0 ≡ next + 1 = omega (arith, k) in (
+          omega (arith, b, k),
+          ap (λ y. place at (closing 0 y)) here ∙ ap (place at) (opens_some (drop (at + 1) tokens) s.0 s.1)
+              ∙ place_shift at (s.0 + 2) (closing 0 (drop (suc s.0) (drop (at + 1) tokens)))
+              ∙ ap (λ y. place (at + (s.0 + 2)) (closing 0 y)) (drop-drop (suc s.0) (at + 1) tokens)
+              ∙ ap (λ i. place i (closing 0 (drop (at + 1 + suc s.0) tokens))) n ∙ ap (λ i. place (next + 1) (closing 0 (drop i tokens))) m,
+        )
   ]
 
 pub known_low : (tokens : List Paren) (at next : ℕ) → next ≡ place (at + 1) (closing 0 (drop (at + 1) tokens)) → (next ≡ 4294967295 → ⊥) → at + 1 ≤ next
@@ -214,15 +214,17 @@ at_group ts index end g =
     let behind : drop (index + 1) ts ≡ inner ++ Closes ∷ g.rest = ap (drop (index + 1)) g.split ∙ (let n : index + 1 ≡ length g.front + 1 = omega (arith, g.index_is) in ap (λ i. drop i (g.front ++ Opens ∷ (inner ++ Closes ∷ g.rest))) n) ∙ past g.front Opens (inner ++ Closes ∷ g.rest) in
     let found : closing 0 (drop (index + 1) ts) ≡ Some (length inner) = (groups (drop (index + 1) ts) (length inner)).1 (inner, g.rest, g.balanced, behind, refl) in
     let l = ap length g.split ∙ length-append g.front (Opens ∷ (inner ++ Closes ∷ g.rest)) in
-    let k = length-append inner (Closes ∷ g.rest) in
-    (omega (arith, l, k, g.index_is),
-     ap (λ y. get_or y index Opens) g.split ∙ (let n = g.index_is in ap (λ i. get_or (g.front ++ Opens ∷ (inner ++ Closes ∷ g.rest)) i Opens) n) ∙ seam g.front Opens (inner ++ Closes ∷ g.rest),
-     g.end_is ∙ ap (place (index + 1)) (sym found),
-     omega (arith, l, k, g.index_is, g.end_is))
+    let k = length-append inner (Closes ∷ g.rest) in (
+      omega (arith, l, k, g.index_is),
+      ap (λ y. get_or y index Opens) g.split ∙ (let n = g.index_is in ap (λ i. get_or (g.front ++ Opens ∷ (inner ++ Closes ∷ g.rest)) i Opens) n) ∙ seam g.front Opens (inner ++ Closes ∷ g.rest),
+      g.end_is ∙ ap (place (index + 1)) (sym found),
+      omega (arith, l, k, g.index_is, g.end_is),
+    )
   where
     past : (a : List Paren) (p : Paren) (b : List Paren) → drop (length a + 1) (a ++ p ∷ b) ≡ b
     past [] p b = refl
     past (x ∷ a) p b = let n : length (x ∷ a) + 1 ≡ suc (length a + 1) = omega arith in ap (λ i. drop i (x ∷ (a ++ p ∷ b))) n ∙ past a p b
+
     seam : (a : List Paren) (p : Paren) (b : List Paren) → get_or (a ++ p ∷ b) (length a) Opens ≡ p
     seam [] p b = refl
     seam (x ∷ a) p b = seam a p b

@@ -1,9 +1,8 @@
 -- What the readers of tokens rest on.
-use Rattle.std.proofs.Common.{◌≡◌, ◌≢◌, ℕ, ◌+◌, ◌-◌, ◌<◌, ◌≤◌, Bool, true, false, not, ◌⊎◌, inl, inr, ◌&&◌, List, [], ◌∷◌, ◌++◌, length, take, drop, get_or, refl, sym, ◌∙◌, ap, subst, arith, length-append}
+use Rattle.std.proofs.Common.{◌≡◌, ℕ, ◌-◌, ◌<◌, true, not, inl, inr, List, [], ◌∷◌, ◌++◌, length, take, drop, get_or, refl, sym, ◌∙◌, ap, subst, arith, length-append}
 use Rattle.std.specs.List.{list_all}
 use Rattle.std.proofs.Math.Seq.{take-append_seam}
-use Rattle.std.proofs.lemmas.Bool.Decides.{nat_tests}
-use Rattle.wast_lexer_strings.specs.Strings.{is_backslash, Element, Elements, IsString}
+use Rattle.wast_lexer_strings.specs.Strings.{is_backslash, Elements, IsString}
 use Rattle.wast_lexer_strings.specs.Strings.Element.{Plain, Letter, Hex, Scalar}
 use Rattle.wast_lexer_strings.specs.Strings.Elements.{None', More}
 use Rattle.wast_lexer_strings.specs.Strings.{is_quote}
@@ -15,9 +14,9 @@ use Rattle.std.specs.Str.{IsUtf8, IsCharBoundary}
 use Rattle.std.proofs.lemmas.Str.{IsCharBoundary-after_ascii}
 use Rattle.wast_lexer.specs.declared.fault.LexFault.{LexFault}
 use Rattle.wast_lexer.specs.declared.fault.LexFault.TheVariants.{Lex, Memory}
-use Rattle.wast_lexer.specs.Kinds.{starts, is_idchar, is_name, IsNameOf, IsId, IsIdOf, IsAnnotation, IsAnnotationOf}
+use Rattle.wast_lexer.specs.Kinds.{starts, is_idchar, IsNameOf, IsId, IsIdOf, IsAnnotation, IsAnnotationOf}
 use Rattle.wast_lexer.specs.Readers.{is_plain, IsIdFault, IsRefusal}
-use Rattle.wast_lexer.proofs.Basics.{and_true, apart, append_none, eq_of}
+use Rattle.wast_lexer.proofs.Basics.{and_true, apart, eq_of}
 
 all_front : (a b : List ℕ) → is_plain (a ++ b) ≡ true → is_plain a ≡ true
 all_front [] b h = refl

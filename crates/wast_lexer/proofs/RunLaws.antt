@@ -1,11 +1,10 @@
 -- The scan of runs and strings.
-use Rattle.std.proofs.Common.{◌≡◌, ◌≢◌, ℕ, zero, suc, ◌+◌, ◌<◌, ◌≤◌, Bool, true, false, not, ◌⊎◌, inl, inr, ◌&&◌, ◌||◌, List, [], ◌∷◌, ◌++◌, Option, Some, None, length, refl, sym, ◌∙◌, ap, subst, arith, append_assoc, length-append}
-use Rattle.std.specs.Prelude.{if◌then◌else◌}
+use Rattle.std.proofs.Common.{◌≡◌, ◌≢◌, ℕ, zero, suc, ◌≤◌, true, false, not, inl, inr, ◌&&◌, List, [], ◌∷◌, ◌++◌, Option, Some, None, length, refl, sym, ◌∙◌, ap, arith, append_assoc, length-append}
 use Rattle.std.specs.Str.{IsUtf8, is_utf8}
 use Rattle.std.proofs.lemmas.Str.{IsUtf8-from_is_utf8, is_utf8-from_IsUtf8}
 use Rattle.std.proofs.lemmas.Bool.{cases_Bool}
-use Rattle.wast_lexer_strings.specs.Strings.{is_quote, Element, Elements, IsString}
-use Rattle.wast_lexer_strings.specs.Scan.{Read, more, State, Step, on_step, step, read, is_empty, is_text}
+use Rattle.wast_lexer_strings.specs.Strings.{is_quote, IsString}
+use Rattle.wast_lexer_strings.specs.Scan.{Read, more, State, on_step, step, read, is_empty, is_text}
 use Rattle.wast_lexer_strings.specs.Scan.State.{Within}
 use Rattle.wast_lexer_strings.specs.Scan.Step.{Go, Done, Fault}
 use Rattle.wast_lexer_strings.proofs.Reading.{string_read}
@@ -14,7 +13,7 @@ use Rattle.wast_lexer.specs.Kinds.{starts, is_idchar, Run}
 use Rattle.wast_lexer.specs.Kinds.Run.{Ends, Char, Quoted}
 use Rattle.wast_lexer.specs.Tiling.{goes_on}
 use Rattle.wast_lexer.specs.Scan.{run, is_whole, is_string, is_text_string}
-use Rattle.wast_lexer.proofs.Basics.{and_true, eq_of, append_none, cases_option}
+use Rattle.wast_lexer.proofs.Basics.{and_true, eq_of, cases_option}
 
 -- a run that goes on behind a string
 abbrev pub run_behind : Option Read → Option (List ℕ)
@@ -61,10 +60,12 @@ run_sound (suc n) (c ∷ s) r l h = elim (cases_Bool (is_idchar c)) [
           let q' = some.0 in
           let string = read_sound s Within q' some.1 in
           let size : length q'.rest ≤ n = omega (arith, l, ap length string.2, length-append string.0 (34 ∷ q'.rest)) in
-          let found = run_sound n q'.rest r size (ap run_behind (sym some.1) ∙ sym (run_read s Within) ∙ on) in
-          (34 ∷ (string.0 ++ 34 ∷ found.0),
-           ap (λ (k : ℕ). k ∷ s) (eq_of c 34 q) ∙ ap (λ (y : List ℕ). 34 ∷ y) (string.2 ∙ ap (λ (y : List ℕ). string.0 ++ 34 ∷ y) found.1 ∙ sym (append_assoc string.0 (34 ∷ found.0) r)),
-           Quoted string.1 found.2, found.3)
+          let found = run_sound n q'.rest r size (ap run_behind (sym some.1) ∙ sym (run_read s Within) ∙ on) in (
+            34 ∷ (string.0 ++ 34 ∷ found.0),
+            ap (λ (k : ℕ). k ∷ s) (eq_of c 34 q) ∙ ap (λ (y : List ℕ). 34 ∷ y) (string.2 ∙ ap (λ (y : List ℕ). string.0 ++ 34 ∷ y) found.1 ∙ sym (append_assoc string.0 (34 ∷ found.0) r)),
+            Quoted string.1 found.2,
+            found.3,
+          )
     ])
     | inr q ↦ (let same : c ∷ s ≡ r = (let h' = rw (i, q) at h in cc) in
         ([], same, Ends, ap (starts goes_on) (sym same) ∙ (rw (i, q) refl)))

@@ -1,8 +1,8 @@
 -- Steps of the scan of runs.
-use Rattle.std.proofs.Common.{◌≡◌, ◌≢◌, ◌-◌, ℕ, zero, suc, ◌+◌, ◌<◌, ◌≤◌, Bool, true, false, not, cond, ◌&&◌, ◌||◌, ◌⊎◌, inl, inr, List, [], ◌∷◌, ◌++◌, length, take, drop, get_or, Option, None, Some, refl, ap, sym, ◌∙◌, subst, arith, add-one}
+use Rattle.std.proofs.Common.{◌≡◌, ◌≢◌, ℕ, ◌+◌, ◌<◌, ◌≤◌, Bool, true, false, ◌&&◌, inl, inr, List, [], ◌∷◌, length, take, drop, get_or, Option, None, Some, refl, ap, sym, ◌∙◌, arith}
 use Rattle.std.specs.Prelude.{◌==◌, if◌then◌else◌, option_map, slice_range}
-use Rattle.std.specs.List.{prefix_len, list_all}
-use Rattle.std.proofs.lemmas.List.{drop_all, take_all, length-drop, drop-drop}
+use Rattle.std.specs.List.{list_all}
+use Rattle.std.proofs.lemmas.List.{drop_all, length-drop, drop-drop}
 use Rattle.std.proofs.lemmas.Bool.{cases_Bool}
 use Rattle.std.proofs.lemmas.Bool.Decides.{nat_tests}
 use Rattle.wast_lexer_strings.specs.Strings.{is_quote}
@@ -12,7 +12,7 @@ use Rattle.wast_lexer.specs.Kinds.{starts, is_idchar, is_name, may_stand}
 use Rattle.wast_lexer.specs.Tiling.{goes_on}
 use Rattle.wast_lexer.specs.Scan.{run, is_whole, is_string, is_text_string, front, run_kind, kind_of, next, skip}
 use Rattle.std.proofs.str.Laws.{order}
-use Rattle.wast_lexer.proofs.Basics.{and_true, apart, eq_of}
+use Rattle.wast_lexer.proofs.Basics.{apart, eq_of}
 use Rattle.wast_lexer.proofs.RunLaws.{run_behind, run_read, run_stops, run_sound}
 use Rattle.wast_lexer.proofs.ScanLaws.{next_run}
 use Rattle.wast_lexer.proofs.Searches.{cell, skip_yes, skip_no, skip_ends}
@@ -52,7 +52,7 @@ front_range : (text : List ℕ) (at end : ℕ) → at ≤ end → end ≤ length
 front_range text at end low high = ap (λ n. take n (drop at text)) (omega (arith, length-drop at text, length-drop end text))
 
 pub run_at : (allow opened : Bool) (text : List ℕ) (at end : ℕ) → at < length text → goes_on (get_or text at 0) ≡ true → at ≤ end → end ≤ length text → run None (drop at text) ≡ Some (drop end text)
-  → next allow opened (drop at text) ≡ (if may_stand allow (slice_range text at end) then option_map (λ k. (k, drop end text)) (kind_of opened (slice_range text at end)) else None)
+    → next allow opened (drop at text) ≡ (if may_stand allow (slice_range text at end) then option_map (λ k. (k, drop end text)) (kind_of opened (slice_range text at end)) else None)
 run_at allow opened text at end inside on low high h =
     ap (next allow opened) (cell text at inside) ∙ next_run allow opened (get_or text at 0) (drop (at + 1) text) on
     ∙ ap (λ y. run_kind allow opened y (run None y)) (sym (cell text at inside)) ∙ ap (run_kind allow opened (drop at text)) h
@@ -67,8 +67,10 @@ pub run_moves : (text : List ℕ) (at end : ℕ) → at < length text → goes_o
 run_moves text at end inside on low high h =
     let found = run_sound (length (drop at text)) (drop at text) (drop end text) (omega arith) h in
     let starts_on : starts goes_on (drop at text) ≡ true = ap (starts goes_on) (cell text at inside) ∙ on in
-    elim (order at end) [ inl less ↦ less
-      | inr more ↦ (let same : at ≡ end = omega arith in absurd (apart found.3 (ap (λ i. starts goes_on (drop i text)) (sym same) ∙ starts_on))) ]
+    elim (order at end) [
+      | inl less ↦ less
+      | inr more ↦ (let same : at ≡ end = omega arith in absurd (apart found.3 (ap (λ i. starts goes_on (drop i text)) (sym same) ∙ starts_on)))
+    ]
 
 -- a string that is the whole word
 pub string_is : (word : List ℕ) → 0 < length word → get_or word 0 0 ≡ 34 → is_string word ≡ is_whole (read Within (drop 1 word))
@@ -85,14 +87,16 @@ no_string (c ∷ word) h = let q : is_quote c ≡ false = grind (arith, nat_test
 
 pub end_is : (word : List ℕ) (end : ℕ) → end ≤ length word → (end == length word) ≡ is_empty (drop end word)
 end_is word end h = elim (order end (length word)) [
-    inl less ↦ (let isnt : (end == length word) ≡ false = grind (arith, nat_tests) in isnt ∙ sym (ap is_empty (cell word end less)))
-  | inr more ↦ (let is : (end == length word) ≡ true = grind (arith, nat_tests) in is ∙ sym (ap is_empty (drop_all end word more))) ]
+  | inl less ↦ (let isnt : (end == length word) ≡ false = grind (arith, nat_tests) in isnt ∙ sym (ap is_empty (cell word end less)))
+  | inr more ↦ (let is : (end == length word) ≡ true = grind (arith, nat_tests) in is ∙ sym (ap is_empty (drop_all end word more)))
+]
 
 skip_all : (p : ℕ → Bool) (s : List ℕ) → is_empty (skip p s) ≡ list_all p s
 skip_all p [] = refl
 skip_all p (c ∷ s) = elim (cases_Bool (p c)) [
-    inl h ↦ ap is_empty (skip_yes p c s h) ∙ skip_all p s ∙ sym (ap (λ b. b && list_all p s) h)
-  | inr h ↦ ap is_empty (skip_no p c s h) ∙ sym (ap (λ b. b && list_all p s) h) ]
+  | inl h ↦ ap is_empty (skip_yes p c s h) ∙ skip_all p s ∙ sym (ap (λ b. b && list_all p s) h)
+  | inr h ↦ ap is_empty (skip_no p c s h) ∙ sym (ap (λ b. b && list_all p s) h)
+]
 
 twice : (a b : Bool) → (a && (a && b)) ≡ (a && b)
 twice true b = refl

@@ -1,12 +1,12 @@
 -- The scan finds the token that begins at the front of a text, and no other begins there.
-use Rattle.std.proofs.Common.{◌≡◌, ◌≢◌, ℕ, ◌+◌, ◌-◌, ◌<◌, ◌≤◌, Bool, true, false, not, cond, ◌⊎◌, inl, inr, ◌&&◌, ◌||◌, List, [], ◌∷◌, ◌++◌, Option, Some, None, length, take, drop, refl, sym, ◌∙◌, ap, subst, arith, append_assoc, length-append}
-use Rattle.std.specs.Prelude.{option_map, slice_range, ◌==◌, if◌then◌else◌}
+use Rattle.std.proofs.Common.{◌≡◌, ◌≢◌, ℕ, ◌-◌, ◌<◌, ◌≤◌, Bool, true, false, inl, inr, ◌&&◌, List, [], ◌∷◌, ◌++◌, Option, Some, None, length, take, drop, refl, sym, ◌∙◌, ap, subst, arith, append_assoc, length-append}
+use Rattle.std.specs.Prelude.{option_map, slice_range}
 use Rattle.std.specs.List.{list_all}
 use Rattle.std.proofs.lemmas.Bool.{cases_Bool, or_cases}
 use Rattle.std.proofs.lemmas.Bool.Decides.{nat_tests}
 use Rattle.std.proofs.Math.Seq.{take-append_seam}
 use Rattle.std.proofs.lemmas.List.{length-drop}
-use Rattle.wast_lexer_strings.specs.Strings.{is_quote, IsString}
+use Rattle.wast_lexer_strings.specs.Strings.{is_quote}
 use Rattle.wast_lexer_numbers.specs.declared.kind.NumberKind.{NumberKind}
 use Rattle.wast_lexer_numbers.specs.declared.kind.NumberKind.TheVariants as kinds
 use Rattle.wast_lexer_numbers.specs.Numbers.{IsNumber}
@@ -14,9 +14,9 @@ use Rattle.wast_lexer_numbers.specs.Scan.{number}
 use Rattle.wast_lexer_numbers.proofs.NumberLaws.{number_scanned, scanned_number}
 use Rattle.wast_lexer.specs.declared.token.TokenKind.{TokenKind}
 use Rattle.wast_lexer.specs.declared.token.TokenKind.TheVariants.{LineComment, BlockComment, Whitespace, LParen, RParen, String, Id, Keyword, Annotation, Reserved, Integer, Float}
-use Rattle.wast_lexer.specs.Kinds.{starts, is_space, is_line_end, is_open, is_close, is_semicolon, is_mark, is_idchar, is_at, is_lower, is_name, may_stand, IsLexeme, IsId, IsKeyword, IsAnnotation, Run}
+use Rattle.wast_lexer.specs.Kinds.{starts, is_space, is_open, is_close, is_semicolon, is_mark, is_idchar, is_at, is_lower, is_name, may_stand, Run}
 use Rattle.wast_lexer.specs.Kinds.Run.{Ends, Char, Quoted}
-use Rattle.wast_lexer.specs.Tiling.{Begins, MayFollow, goes_on, is_annotation}
+use Rattle.wast_lexer.specs.Tiling.{Begins, goes_on}
 use Rattle.wast_lexer.specs.Scan.{skip, is_neither, close, front, comment, next, run, run_kind, kind_of, plain_kind, number_token, word_kind, is_string, is_id, is_annotated}
 use Rattle.wast_lexer.proofs.Basics.{and_true, apart, eq_of, cases_option}
 use Rattle.wast_lexer.proofs.CommentLaws.{close_inside, close_split}

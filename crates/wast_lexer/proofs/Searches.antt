@@ -1,9 +1,8 @@
 -- What searches and loops over bytes find.
-use Rattle.std.proofs.Common.{◌≡◌, ◌≢◌, ◌-◌, ℕ, zero, suc, ◌+◌, ◌<◌, ◌≤◌, Bool, true, false, not, cond, ◌&&◌, ◌||◌, ◌⊎◌, inl, inr, List, [], ◌∷◌, ◌++◌, length, take, drop, get_or, Option, None, Some, refl, ap, sym, ◌∙◌, subst, arith, add-one}
-use Rattle.std.specs.Prelude.{◌==◌}
-use Rattle.std.specs.List.{prefix_len, list_all}
+use Rattle.std.proofs.Common.{◌≡◌, ◌-◌, ℕ, suc, ◌+◌, ◌<◌, ◌≤◌, Bool, true, false, not, ◌⊎◌, inl, inr, List, [], ◌∷◌, length, take, drop, get_or, None, Some, refl, ap, ◌∙◌, arith, add-one}
+use Rattle.std.specs.List.{prefix_len}
 use Rattle.std.proofs.Math.Seq.{drop-cons}
-use Rattle.std.proofs.lemmas.List.{drop_all, take_all, length-drop, drop-drop}
+use Rattle.std.proofs.lemmas.List.{drop_all, take_all, length-drop}
 use Rattle.std.proofs.lemmas.List.Sums.{prefix_len_is}
 use Rattle.std.proofs.lemmas.Bool.{cases_Bool}
 use Rattle.std.proofs.lemmas.Bool.Decides.{nat_tests}
@@ -59,4 +58,3 @@ skip_no p c s h = rw h refl
 pub skip_ends : (p : ℕ → Bool) (s : List ℕ) → starts p (skip p s) ≡ false
 skip_ends p [] = refl
 skip_ends p (c ∷ s) = elim (cases_Bool (p c)) [ inl h ↦ ap (starts p) (skip_yes p c s h) ∙ skip_ends p s | inr h ↦ ap (starts p) (skip_no p c s h) ∙ h ]
-

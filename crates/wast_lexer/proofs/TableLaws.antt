@@ -1,8 +1,8 @@
 -- What a table of tokens rests on.
-use Rattle.std.proofs.Common.{◌≡◌, ◌≢◌, ℕ, zero, suc, ◌+◌, ◌-◌, ◌<◌, ◌≤◌, Bool, true, false, ◌&&◌, List, [], ◌∷◌, ◌++◌, length, take, drop, get_or, map, refl, sym, ◌∙◌, ap, subst, arith, length-append}
+use Rattle.std.proofs.Common.{◌≡◌, ◌≢◌, ℕ, zero, suc, ◌+◌, ◌-◌, ◌<◌, ◌≤◌, Bool, true, false, List, [], ◌∷◌, ◌++◌, length, drop, get_or, map, refl, sym, ◌∙◌, ap, subst, arith}
 use Rattle.std.specs.Prelude.{slice_range, nat_lt}
 use Rattle.std.specs.List.{All}
-use Rattle.std.proofs.lemmas.List.{get_or-drop, length-drop, drop-drop, drop_all, take-append-drop, length-take-le, map-append}
+use Rattle.std.proofs.lemmas.List.{get_or-drop, length-drop, drop-drop, take-append-drop, length-take-le, map-append}
 use Rattle.std.proofs.lemmas.List.Elements.{All-append}
 use Rattle.std.proofs.lemmas.Bool.Decides.{nat_tests}
 use Rattle.wast_lexer.specs.declared.token.Token.{Token}
@@ -53,8 +53,8 @@ opened_is text from to low high =
     let some : w ≢ [] = λ none. (let l = ap length none in omega (arith, size, l, low)) in
     let pos : nat_lt 0 to ≡ true = grind (arith, nat_tests) in
     let last : get_or text (to - 1) 0 ≡ get_or w (length w - 1) 0 =
-        (let n : to - 1 ≡ from + (length w - 1) = omega (arith, size, low) in ap (λ i. get_or text i 0) n)
-        ∙ sym (get_or-drop from text (length w - 1) 0) ∙ ap (λ y. get_or y (length w - 1) 0) (cut_at text from to (omega (arith, low))) ∙ in_front w (drop to text) (length w - 1) (omega (arith, size, low)) in
+    (let n : to - 1 ≡ from + (length w - 1) = omega (arith, size, low) in ap (λ i. get_or text i 0) n)
+    ∙ sym (get_or-drop from text (length w - 1) 0) ∙ ap (λ y. get_or y (length w - 1) 0) (cut_at text from to (omega (arith, low))) ∙ in_front w (drop to text) (length w - 1) (omega (arith, size, low)) in
     rw pos (ap is_open last ∙ sym (ends_last is_open w some))
 
 -- the loop reads one token more
@@ -69,7 +69,7 @@ table_more allow text tokens from to t s is =
     let size = range_length text from to low is.within in
     let less : from < to = grow is.begins.some size low in
     let more = tiles_more allow false 0 text (map (lexeme_of text) tokens) (is_opened text from) from (drop from text) l (drop to text) s is.place
-        (cut_at text from to low ∙ ap (λ y. y ++ drop to text) (sym word)) (subst (λ y. Begins allow (is_opened text from) t.kind y (drop to text)) (sym word) is.begins) in
+    (cut_at text from to low ∙ ap (λ y. y ++ drop to text) (sym word)) (subst (λ y. Begins allow (is_opened text from) t.kind y (drop to text)) (sym word) is.begins) in
     let opens : ends is_open l.text ≡ is_opened text to = ap (ends is_open) word ∙ sym (opened_is text from to less is.within) in
     let place : from + length l.text ≡ to = omega (arith, ap length word, size, low) in
     subst (λ ts. TilesUpTo allow false 0 text ts (is_opened text to) to (drop to text)) (sym (map-append (lexeme_of text) tokens (t ∷ [])))

@@ -2,7 +2,7 @@
 use Rattle.std.specs.Prelude.{◌⊎◌, ◌≡◌, ◌≢◌, ℕ, Bool, true, false, not, ◌&&◌, ◌||◌, ◌==◌, nat_lt, nat_le, List, [], ◌∷◌, ◌++◌}
 use Rattle.std.specs.List.{list_all}
 use Rattle.std.specs.Str.{IsUtf8}
-use Rattle.wast_lexer_strings.specs.Strings.{is_quote, Elements, IsString}
+use Rattle.wast_lexer_strings.specs.Strings.{Elements, IsString}
 use Rattle.wast_lexer_numbers.specs.declared.kind.NumberKind.{NumberKind}
 use Rattle.wast_lexer_numbers.specs.declared.kind.NumberKind.TheVariants as number
 use Rattle.wast_lexer_numbers.specs.Numbers.{IsNumber}

@@ -1,6 +1,6 @@
 -- The scan of a list: the kind of the token at its front, and what comes after it.
 -- No public contract speaks of it: it says what the private functions of the lexer do, and is no part of any promise.
-use Rattle.std.specs.Prelude.{option_map, ◌≡◌, ◌≤◌, ◌<◌, ℕ, ◌+◌, ◌-◌, Bool, true, false, not, cond, ◌&&◌, ◌||◌, ◌==◌, if◌then◌else◌, List, [], ◌∷◌, Option, Some, None, Result, Ok, Err, length, take, drop}
+use Rattle.std.specs.Prelude.{option_map, ◌≡◌, ◌≤◌, ◌<◌, ℕ, ◌+◌, ◌-◌, Bool, false, not, cond, ◌&&◌, ◌||◌, ◌==◌, if◌then◌else◌, List, [], ◌∷◌, Option, Some, None, Result, Ok, Err, length, take, drop}
 use Rattle.wast_lexer_strings.specs.declared.error.LexError.{LexError}
 use Rattle.wast_lexer_strings.specs.Strings.{is_quote}
 use Rattle.wast_lexer_strings.specs.Scan.{Read, State, on_step, step, read, is_empty, is_text}
@@ -10,7 +10,7 @@ use Rattle.wast_lexer_numbers.specs.declared.kind.NumberKind.TheVariants as numb
 use Rattle.wast_lexer_numbers.specs.Scan as numbers
 use Rattle.wast_lexer.specs.declared.token.TokenKind.{TokenKind}
 use Rattle.wast_lexer.specs.declared.token.TokenKind.TheVariants.{LineComment, BlockComment, Whitespace, LParen, RParen, String, Id, Keyword, Annotation, Reserved, Integer, Float}
-use Rattle.wast_lexer.specs.Kinds.{starts, is_space, is_line_end, is_open, is_close, is_semicolon, is_mark, may_stand, is_idchar, is_name, is_lower, is_at}
+use Rattle.wast_lexer.specs.Kinds.{starts, is_space, is_open, is_close, is_semicolon, is_mark, may_stand, is_idchar, is_name, is_lower, is_at}
 use Rattle.wast_lexer.specs.Tiling.{goes_on}
 
 -- what follows the longest run of bytes that pass

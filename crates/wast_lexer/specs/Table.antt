@@ -2,7 +2,6 @@
 use Rattle.std.specs.Prelude.{ℕ, Bool, false, List, map, drop, Option, Some, None}
 use Rattle.wast_lexer.specs.declared.token.Token.{Token}
 use Rattle.wast_lexer.specs.declared.fault.LexFault.{LexFault}
-use Rattle.wast_lexer.specs.declared.fault.LexFault.TheVariants.{Lex, Memory}
 use Rattle.wast_lexer.specs.Lexeme.{lexeme_of}
 use Rattle.wast_lexer.specs.Tiling.{Tiles, TilesUpTo}
 use Rattle.wast_lexer.specs.Parse.{is_opened, IsFaultAt}

@@ -128,10 +128,7 @@ impl Token {
 }
 
 /// The name that follows a `$` or `@`, where it is a text.
-fn name_value<'a>(
-    alloc: Global,
-    name: &'a str,
-) -> Result<Option<CowStr<'a, Global>>, AllocError>
+fn name_value<'a>(alloc: Global, name: &'a str) -> Result<Option<CowStr<'a, Global>>, AllocError>
     requires { (bytes : List ℕ) × IsNameOf name.now bytes }
     ensures ok { IfOk result (λ o. MatchOption o ((bytes : List ℕ) × IsNameOf name.now bytes × ¬ (IsUtf8 bytes)) (λ v. IsNameOf name.now (cow_str_bytes v) × IsUtf8 (cow_str_bytes v))) }
     ensures borrowed { is_plain name.now ≡ true → IfOk result (λ o. MatchOption o ⊥ IsBorrowedStr) }

@@ -11,7 +11,12 @@ use crate::token::TokenKind;
 use wast_lexer_strings::LexError;
 
 /// The kind of the token at a place, and where it ends.
-pub(crate) fn scan(text: &[u8], at: usize, allow: bool, opened: bool) -> Result<(TokenKind, usize), LexError>
+pub(crate) fn scan(
+    text: &[u8],
+    at: usize,
+    allow: bool,
+    opened: bool,
+) -> Result<(TokenKind, usize), LexError>
     requires { at < length text.now }
     ensures { FindsToken result text.now at (next allow opened (drop at text.now)) }
 {

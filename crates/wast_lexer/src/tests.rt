@@ -43,8 +43,7 @@ fn fault(offset: usize, error: LexError) -> LexFault {
 }
 
 /// The kinds and lengths of a text's tokens.
-fn cut(alloc: Global, text: &str) -> Result<Vec<(TokenKind, u32)>, Fail>
-{
+fn cut(alloc: Global, text: &str) -> Result<Vec<(TokenKind, u32)>, Fail> {
     let mut found = Vec::new(alloc);
     if let Some(lexer) = lexer(text) {
         for token in lexer.iter(0) {
@@ -58,8 +57,7 @@ fn cut(alloc: Global, text: &str) -> Result<Vec<(TokenKind, u32)>, Fail>
 }
 
 /// The one token that a text is: its kind.
-fn kind(text: &str) -> Option<TokenKind>
-{
+fn kind(text: &str) -> Option<TokenKind> {
     match first(text) {
         Ok(Some(token)) if token.len as usize == text.len() => Some(token.kind),
         _ => None,
@@ -254,8 +252,7 @@ fn tokens_end_after_a_fault(rt: HostRuntime) {
 }
 
 /// The bytes of a string, and whether they are borrowed.
-fn string_of(alloc: Global, text: &str) -> Result<(Vec<u8>, bool), AllocError>
-{
+fn string_of(alloc: Global, text: &str) -> Result<(Vec<u8>, bool), AllocError> {
     if let Ok(Some(token)) = first(text) {
         if let TokenKind::String = token.kind {
             let bytes = token.string(alloc, text)?;
@@ -283,8 +280,7 @@ fn ample_string(rt: HostRuntime) -> Result<(), Fail> {
 }
 
 /// The name of an identifier, or why it isn't read.
-fn id_of(alloc: Global, text: &str) -> Result<String, LexFault>
-{
+fn id_of(alloc: Global, text: &str) -> Result<String, LexFault> {
     if let Some(token) = first(text)? {
         if let TokenKind::Id = token.kind {
             let name = token.id(alloc, text)?;
@@ -323,8 +319,7 @@ fn ample_id(rt: HostRuntime) -> Result<(), Fail> {
 }
 
 /// The name of the annotation behind a first `(`.
-fn annotation_of(alloc: Global, text: &str) -> Result<String, AllocError>
-{
+fn annotation_of(alloc: Global, text: &str) -> Result<String, AllocError> {
     if text.is_char_boundary(1) {
         if let Some(lexer) = lexer(text) {
             if let Ok(Some(token)) = lexer.annotation(1) {
@@ -346,8 +341,7 @@ fn ample_annotation(rt: HostRuntime) -> Result<(), Fail> {
     Ok(())
 }
 
-fn integer_of(text: &str) -> Option<Integer<'_>>
-{
+fn integer_of(text: &str) -> Option<Integer<'_>> {
     match first(text) {
         Ok(Some(token)) => match token.kind {
             TokenKind::Integer(kind) => Some(token.integer(text, kind)),
@@ -357,8 +351,7 @@ fn integer_of(text: &str) -> Option<Integer<'_>>
     }
 }
 
-fn float_of(text: &str) -> Option<Float<'_>>
-{
+fn float_of(text: &str) -> Option<Float<'_>> {
     match first(text) {
         Ok(Some(token)) => match token.kind {
             TokenKind::Float(kind) => Some(token.float(text, kind)),

@@ -2,12 +2,12 @@
 #![tactic(auto)]
 
 use std::alloc::{AllocError, Global};
-use std::env;
-use std::io;
 use std::time::{Duration, Instant};
+use std::{env, io};
 use wast_lexer::{Lexer, TokenTable};
 
-const FUNCTION: &[u8] = b"(func $add (param i32 i64) (export \"a\\n\\41\") ;; c\n  local.get 0 (; x ;) i32.const 0xff_ff i32.add)\n";
+const FUNCTION: &[u8] =
+    b"(func $add (param i32 i64) (export \"a\\n\\41\") ;; c\n  local.get 0 (; x ;) i32.const 0xff_ff i32.add)\n";
 
 /// How often each measure is taken; the last one counts.
 const ROUNDS: u32 = 3;

@@ -1,6 +1,6 @@
 -- The bytes of numbers.
-use Rattle.std.proofs.Common.{◌≡◌, ℕ, ◌<◌, Bool, true, false, ◌&&◌, ◌||◌, ◌⊎◌, inl, inr, List, [], ◌∷◌, ◌++◌, Option, Some, None, refl, sym, ◌∙◌, ap, arith}
-use Rattle.std.specs.Prelude.{◌==◌, nat_lt, nat_le}
+use Rattle.std.proofs.Common.{◌≡◌, ℕ, Bool, true, false, ◌&&◌, ◌||◌, inl, inr, List, [], ◌∷◌, ◌++◌, Option, Some, None, refl, ◌∙◌, ap, arith}
+use Rattle.std.specs.Prelude.{◌==◌, nat_le}
 use Rattle.std.specs.List.{list_all}
 use Rattle.std.proofs.lemmas.Bool.Decides.{nat_tests}
 use Rattle.std.proofs.lemmas.Bool.{or_cases}
@@ -9,7 +9,7 @@ use Rattle.wast_lexer_numbers.specs.declared.kind.SignToken.TheVariants.{Plus, M
 use Rattle.wast_lexer_numbers.specs.declared.kind.FloatKind.TheVariants.{Inf, Nan, NanVal, Normal}
 use Rattle.wast_lexer_numbers.specs.declared.kind.NumberKind.{NumberKind}
 use Rattle.wast_lexer_numbers.specs.declared.kind.NumberKind.TheVariants.{Integer, Float}
-use Rattle.wast_lexer_numbers.specs.Numbers.{is_digit, is_hex, is_base, is_power, Digits, sign_text, base_text, IsFraction, IsExponent, IsUnsigned, IsNumber}
+use Rattle.wast_lexer_numbers.specs.Numbers.{is_digit, is_base, is_power, Digits, sign_text, base_text, IsFraction, IsExponent, IsUnsigned, IsNumber}
 use Rattle.wast_lexer_numbers.specs.Numbers.Digits.{Last, Next, Gap}
 
 -- digits, letters, and `+` `-` `.` `:` `_`
@@ -68,8 +68,8 @@ unsigned_all sign (Float Normal) text u =
     let m = u.3 in
     ap (list_all is_number_byte) (u.5 ∙ ap (λ y. base_text u.0 ++ y) m.split)
     ∙ all_append is_number_byte (base_text u.0) (u.1.integral ++ (m.fraction ++ m.exponent)) (base_all u.0)
-      (all_append is_number_byte u.1.integral (m.fraction ++ m.exponent) (digits_all u.0 u.1.integral m.digits)
-        (all_append is_number_byte m.fraction m.exponent (fraction_all u.0 u.1.fraction m.fraction m.is_fraction) (exponent_all u.0 u.1.exponent m.exponent m.is_exponent)))
+    (all_append is_number_byte u.1.integral (m.fraction ++ m.exponent) (digits_all u.0 u.1.integral m.digits)
+    (all_append is_number_byte m.fraction m.exponent (fraction_all u.0 u.1.fraction m.fraction m.is_fraction) (exponent_all u.0 u.1.exponent m.exponent m.is_exponent)))
 
 -- a number is such bytes
 pub number_bytes : (k : NumberKind) (w : List ℕ) → IsNumber k w → list_all is_number_byte w ≡ true

@@ -1,6 +1,6 @@
 -- The scan of a number and its grammar.
 use Rattle.std.proofs.Common.{◌≡◌, ℕ, Bool, true, false, ◌&&◌, ◌||◌, List, [], ◌∷◌, ◌++◌, Option, Some, None, is_some, refl, sym, ◌∙◌, ap, subst, ◌⊎◌, inl, inr, arith}
-use Rattle.std.specs.Prelude.{◌==◌, if◌then◌else◌}
+use Rattle.std.specs.Prelude.{◌==◌}
 use Rattle.std.proofs.Math.Bool.{or-true}
 use Rattle.std.proofs.lemmas.Bool.{cases_Bool, or_cases}
 use Rattle.std.proofs.lemmas.Bool.Decides.{nat_tests}
@@ -10,7 +10,7 @@ use Rattle.wast_lexer_numbers.specs.declared.kind.IntegerKind.{IntegerKind}
 use Rattle.wast_lexer_numbers.specs.declared.kind.FloatKind.TheVariants.{Inf, Nan, NanVal, Normal}
 use Rattle.wast_lexer_numbers.specs.declared.kind.NumberKind.{NumberKind}
 use Rattle.wast_lexer_numbers.specs.declared.kind.NumberKind.TheVariants.{Integer, Float}
-use Rattle.wast_lexer_numbers.specs.Numbers.{is_digit, is_hex, is_base, is_power, Digits, sign_text, base_text, Parts, IsFraction, IsExponent, IsMagnitude, is_float, inf, nan, nan_prefix, IsUnsigned, IsNumber}
+use Rattle.wast_lexer_numbers.specs.Numbers.{is_base, is_power, Digits, sign_text, base_text, Parts, IsFraction, IsExponent, IsMagnitude, is_float, inf, nan, nan_prefix, IsUnsigned, IsNumber}
 use Rattle.wast_lexer_numbers.specs.Numbers.Digits.{Last, Next, Gap}
 use Rattle.wast_lexer_numbers.specs.Readings.{exponent_of}
 use Rattle.wast_lexer_numbers.specs.Scan.{after, prefixed, sign_of, unsigned, is_all, ends_power, power_after, ends_fraction, float_if, kind_after, magnitude, nan_if, based, payload, body, number}

@@ -1,19 +1,19 @@
 -- What the readers of numbers rest on.
-use Rattle.std.proofs.Common.{◌≡◌, ◌≢◌, ℕ, ◌+◌, ◌-◌, ◌<◌, ◌≤◌, Bool, true, false, ◌⊎◌, inl, inr, ◌&&◌, ◌||◌, List, [], ◌∷◌, ◌++◌, Option, Some, None, length, take, drop, get_or, refl, sym, ◌∙◌, ap, subst, arith, length-append}
-use Rattle.std.specs.Prelude.{◌==◌, if◌then◌else◌, slice_range}
+use Rattle.std.proofs.Common.{◌≡◌, ℕ, ◌-◌, ◌≤◌, Bool, true, false, inl, inr, ◌&&◌, List, [], ◌∷◌, ◌++◌, Option, Some, None, length, take, drop, get_or, refl, sym, ◌∙◌, ap, subst, arith, length-append}
+use Rattle.std.specs.Prelude.{slice_range}
 use Rattle.std.specs.List.{list_all}
 use Rattle.std.proofs.Math.Seq.{take-append_seam, drop-append_seam}
-use Rattle.std.proofs.lemmas.Bool.{cases_Bool, or_cases}
+use Rattle.std.proofs.lemmas.Bool.{cases_Bool}
 use Rattle.std.proofs.lemmas.Bool.Decides.{nat_tests}
 use Rattle.wast_lexer_numbers.specs.declared.kind.SignToken.{SignToken}
-use Rattle.wast_lexer_numbers.specs.declared.kind.FloatKind.TheVariants.{Inf, Nan, NanVal, Normal}
+use Rattle.wast_lexer_numbers.specs.declared.kind.FloatKind.TheVariants.{Normal}
 use Rattle.wast_lexer_numbers.specs.declared.kind.NumberKind.{NumberKind}
-use Rattle.wast_lexer_numbers.specs.declared.kind.NumberKind.TheVariants.{Integer, Float}
+use Rattle.wast_lexer_numbers.specs.declared.kind.NumberKind.TheVariants.{Float}
 use Rattle.wast_lexer_numbers.specs.declared.parts.Float.{Float as FloatParts}
 use Rattle.wast_lexer_numbers.specs.declared.parts.Float.TheVariants as parts
-use Rattle.wast_lexer_numbers.specs.Numbers.{Digits, IsExponent, IsMagnitude, IsNumber, inf, nan, nan_prefix, sign_text, base_text}
-use Rattle.wast_lexer_numbers.specs.Readings.{IsTailOf, IsValOf, IsFloatOf, text_now, exponent_of, is_point_first, is_ascii}
-use Rattle.wast_lexer_numbers.specs.Scan.{after, prefixed, sign_of, unsigned, is_all, ends_power, ends_fraction, float_if, kind_after, magnitude, nan_if, based, payload, body}
+use Rattle.wast_lexer_numbers.specs.Numbers.{Digits, IsMagnitude, IsNumber, inf, nan, nan_prefix, sign_text, base_text}
+use Rattle.wast_lexer_numbers.specs.Readings.{IsValOf, IsFloatOf, text_now, is_point_first, is_ascii}
+use Rattle.wast_lexer_numbers.specs.Scan.{after, prefixed, sign_of, unsigned, is_all, ends_power, ends_fraction, float_if, magnitude, nan_if, based, payload, body}
 use Rattle.std.specs.Str.{IsUtf8, IsCharBoundary}
 use Rattle.std.proofs.lemmas.Str.{IsCharBoundary-after_ascii}
 use Rattle.wast_lexer_numbers.proofs.NumberLaws.{number_scanned, sign_split, prefixed_split}
@@ -100,14 +100,17 @@ normal_based sign text h = elim (cases_Bool (is_all (prefixed inf text))) [
     nan_isnt : (b : Bool) → nan_if b ≡ Some (Float Normal) → ⊥
     nan_isnt true h = cc
     nan_isnt false h = cc
+
     payload_is : (o : Option (List ℕ)) → payload sign text o ≡ Some (Float Normal) → based sign text (prefixed (base_text true) text) ≡ Some (Float Normal)
     payload_is None h = h
     payload_is (Some rest) h = absurd (nan_isnt (is_all (after true true rest)) h)
 
 pub val_float : (hex : Bool) (sign : Option SignToken) (word text : List ℕ) (f : FloatParts) → IsValOf hex sign text f → word ≡ sign_text sign ++ (base_text hex ++ text) → IsFloatOf word f
-val_float hex sign word text (parts.Val s h integral fraction exponent) v split =
-    (text, subst (λ b. IsMagnitude b (record { integral = integral.now; fraction = text_now fraction; exponent = text_now exponent }) text) (sym v.1) v.2,
-     split ∙ ap (λ b. sign_text sign ++ (base_text b ++ text)) (sym v.1) ∙ ap (λ s. sign_text s ++ (base_text h ++ text)) (sym v.0))
+val_float hex sign word text (parts.Val s h integral fraction exponent) v split = (
+  text,
+  subst (λ b. IsMagnitude b (record { integral = integral.now; fraction = text_now fraction; exponent = text_now exponent }) text) (sym v.1) v.2,
+  split ∙ ap (λ b. sign_text sign ++ (base_text b ++ text)) (sym v.1) ∙ ap (λ s. sign_text s ++ (base_text h ++ text)) (sym v.0),
+)
 val_float hex sign word text (parts.Nan s payload) v split = absurd v
 val_float hex sign word text (parts.Inf s) v split = absurd v
 

@@ -1,7 +1,7 @@
 -- What is known of the bytes that a string has stood for so far.
 use Rattle.std.proofs.Common.{◌≡◌, ◌↔◌, ℕ, Bool, true, false, not, ◌&&◌, List, [], ◌∷◌, ◌++◌, Option, Some, None, length, drop, get_or, refl, sym, ◌∙◌, ap, subst, arith, append_assoc}
 use Rattle.std.specs.Str.{IsUtf8, is_utf8}
-use Rattle.std.specs.Prelude.{◌<◌, ◌+◌, IsTrue, ◌⊎◌}
+use Rattle.std.specs.Prelude.{◌<◌, ◌+◌, IsTrue}
 use Rattle.std.proofs.Common.{inl, inr}
 use Rattle.std.specs.Prelude.{encode_utf8, ◌≤◌}
 use Rattle.std.proofs.lemmas.Str.{length-encode, len_utf8_bounds}
@@ -11,7 +11,7 @@ use Rattle.wast_lexer_strings.specs.Scan.{meant}
 use Rattle.std.proofs.lemmas.Bool.{cases_Bool}
 use Rattle.std.proofs.lemmas.Str.{IsUtf8-from_is_utf8, is_utf8-from_IsUtf8}
 use Rattle.wast_lexer_strings.proofs.Reading.{more_more, cell}
-use Rattle.simdutf8.specs.Steps.{IsClosed, Step, StepsThen}
+use Rattle.simdutf8.specs.Steps.{IsClosed}
 use Rattle.simdutf8.proofs.Chars.{StepsThen-IsUtf8}
 use Rattle.wast_lexer_strings.specs.declared.utf8.Tail.{Tail}
 use Rattle.wast_lexer_strings.specs.Feeds.{Completes, Leads, Fails}
@@ -41,6 +41,7 @@ fails text from at end t some x inv e f = sym (ap is_text (inv.1 ∙ ap (more in
   where
     no_utf8 : (b : List ℕ) → (IsUtf8 b → ⊥) → is_utf8 b ≡ false
     no_utf8 b n = elim (cases_Bool (is_utf8 b)) [ inl h ↦ absurd (n (IsUtf8-from_is_utf8 b h)) | inr h ↦ h ]
+
     no : (o : Option Read) → is_text (more (inv.0 ++ x) o) ≡ false
     no None = refl
     no (Some r) = rw (no_utf8 ((inv.0 ++ x) ++ r.bytes) (λ u. f r.bytes ((inv.2 (x ++ r.bytes)).0 (subst IsUtf8 (append_assoc inv.0 x r.bytes) u)))) refl

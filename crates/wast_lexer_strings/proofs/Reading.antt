@@ -1,17 +1,15 @@
 -- Laws of the scan of a string.
-use Rattle.std.proofs.Common.{◌≡◌, ◌≢◌, ℕ, suc, ◌+◌, ◌*◌, ◌-◌, ◌<◌, ◌≤◌, Bool, true, false, ◌&&◌, ◌⊎◌, inl, inr, List, [], ◌∷◌, ◌++◌, Option, Some, None, Ok, length, drop, get_or, refl, sym, ◌∙◌, ap, subst, arith, append_assoc, add-one}
-use Rattle.std.specs.Prelude.{encode_utf8, nat_lt, Result, ◌==◌}
+use Rattle.std.proofs.Common.{◌≡◌, ℕ, ◌+◌, ◌*◌, ◌<◌, ◌≤◌, Bool, true, false, ◌&&◌, inl, inr, List, [], ◌∷◌, ◌++◌, Option, Some, None, length, drop, get_or, refl, sym, ◌∙◌, ap, subst, arith, append_assoc, add-one}
+use Rattle.std.specs.Prelude.{encode_utf8, nat_lt, ◌==◌}
 use Rattle.std.proofs.Math.Seq.{drop-cons}
-use Rattle.std.proofs.lemmas.List.{drop_all, drop-drop}
+use Rattle.std.proofs.lemmas.List.{drop_all}
 use Rattle.std.proofs.lemmas.Bool.{cases_Bool}
 use Rattle.std.proofs.lemmas.Bool.Decides.{nat_tests}
-use Rattle.wast_lexer_strings.specs.declared.piece.Piece.{Piece}
-use Rattle.wast_lexer_strings.specs.declared.error.LexError.{LexError}
 use Rattle.wast_lexer_strings.specs.Strings.{is_quote, is_backslash, is_hex, hex_value, is_string_byte, escaped, is_scalar_value, is_digits, number, Element, Elements, IsString}
-use Rattle.wast_lexer_strings.specs.Scan.{Read, more, State, Step, on_step, letter_step, digit_step, step, read, meant, Gives}
+use Rattle.wast_lexer_strings.specs.Scan.{Read, more, State, on_step, digit_step, step, read}
 use Rattle.wast_lexer_strings.specs.Strings.Element.{Plain, Letter, Hex, Scalar}
 use Rattle.wast_lexer_strings.specs.Strings.Elements.{None', More}
-use Rattle.wast_lexer_strings.specs.Scan.State.{Within, Escape, Digit, Open, Number, Gap}
+use Rattle.wast_lexer_strings.specs.Scan.State.{Within, Escape, Digit, Number, Gap}
 use Rattle.wast_lexer_strings.specs.Scan.Step.{Go, Done, Fault}
 
 abbrev pub spelled : Bool → ℕ → State
@@ -69,13 +67,13 @@ letter_apart c d e = elim (cases_Bool (is_hex c)) [
       let e' = rw (t, n, r, q, a, b) at e in absurd (cc)
   | inr h ↦ elim (cases_Bool (c == 117)) [
     | inl u ↦
-      let t : (c == 116) ≡ false = grind (arith, nat_tests) in
-      let n : (c == 110) ≡ false = grind (arith, nat_tests) in
-      let r : (c == 114) ≡ false = grind (arith, nat_tests) in
-      let q : (c == 34) ≡ false = grind (arith, nat_tests) in
-      let a : (c == 39) ≡ false = grind (arith, nat_tests) in
-      let b : (c == 92) ≡ false = grind (arith, nat_tests) in
-      let e' = rw (t, n, r, q, a, b) at e in absurd (cc)
+        let t : (c == 116) ≡ false = grind (arith, nat_tests) in
+        let n : (c == 110) ≡ false = grind (arith, nat_tests) in
+        let r : (c == 114) ≡ false = grind (arith, nat_tests) in
+        let q : (c == 34) ≡ false = grind (arith, nat_tests) in
+        let a : (c == 39) ≡ false = grind (arith, nat_tests) in
+        let b : (c == 92) ≡ false = grind (arith, nat_tests) in
+        let e' = rw (t, n, r, q, a, b) at e in absurd (cc)
     | inr u ↦ (h, u)
   ]
 ]
@@ -141,11 +139,14 @@ digits_read n (c ∷ d ∷ digits) s h ok =
   where
     eq_95 : (d : ℕ) → (d == 95) ≡ true → d ≡ 95
     eq_95 d u = grind (arith, nat_tests)
+
     gap_step : (m d : ℕ) → (d == 95) ≡ true → step (Number m) d ≡ Go (Gap m) []
     gap_step m d u = ap (step (Number m)) (eq_95 d u)
+
     is_hex_first : (d : ℕ) (digits : List ℕ) → is_digits (d ∷ digits) ≡ true → is_hex d ≡ true
     is_hex_first d [] t = t
     is_hex_first d (e ∷ digits) t = (and_true (is_hex d) _ t).0
+
     as_gap : (m d : ℕ) (t : List ℕ) → is_hex d ≡ true → read (Number m) (d ∷ t) ≡ read (Gap m) (d ∷ t)
     as_gap m d t h = ap (λ y. on_step y (λ to bytes. more bytes (read to t)) (Some (record { bytes = []; rest = t })) None) (more_digit m d h)
 

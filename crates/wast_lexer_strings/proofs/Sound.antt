@@ -1,10 +1,10 @@
 -- What a scan reads is a string.
-use Rattle.std.proofs.Common.{◌≡◌, ◌≢◌, ℕ, ◌+◌, ◌*◌, ◌<◌, Bool, true, false, ◌&&◌, ◌⊎◌, inl, inr, List, [], ◌∷◌, ◌++◌, Option, Some, None, refl, sym, ◌∙◌, ap, subst, arith, append_assoc}
+use Rattle.std.proofs.Common.{◌≡◌, ℕ, ◌+◌, ◌*◌, Bool, true, false, ◌&&◌, ◌⊎◌, inl, inr, List, [], ◌∷◌, ◌++◌, Option, Some, None, refl, sym, ◌∙◌, ap, subst, arith, append_assoc}
 use Rattle.std.specs.Prelude.{encode_utf8, nat_lt, ◌==◌}
 use Rattle.std.proofs.lemmas.Bool.{cases_Bool}
 use Rattle.std.proofs.lemmas.Bool.Decides.{nat_tests}
 use Rattle.wast_lexer_strings.specs.Strings.{is_quote, is_backslash, is_hex, hex_value, is_string_byte, escaped, is_scalar_value, is_digits, number, Element, Elements}
-use Rattle.wast_lexer_strings.specs.Scan.{Read, more, State, Step, on_step, letter_step, digit_step, step, read}
+use Rattle.wast_lexer_strings.specs.Scan.{Read, more, State, Step, letter_step, digit_step, step, read}
 use Rattle.wast_lexer_strings.specs.Strings.Element.{Plain, Letter, Hex, Scalar}
 use Rattle.wast_lexer_strings.specs.Strings.Elements.{None', More}
 use Rattle.wast_lexer_strings.specs.Scan.State.{Within, Escape, Digit, Open, Number, Gap}
@@ -72,14 +72,30 @@ not_none (d ∷ ds) are e = cc
 on_digit : (n c : ℕ) (w b rest : List ℕ) → Scalars n w b rest → is_hex c ≡ true → (m : ℕ) → 16 * m + hex_value c ≡ n → Scalars m (c ∷ w) b rest
 on_digit n c w b rest s h m e =
     let is = number_on m c s.digits n h e in
-    record { digits = c ∷ s.digits; text = s.text; bytes = s.bytes; are = digits_on c s.digits h (not_none s.digits s.are) s.are;
-      ok = ap is_scalar_value is ∙ s.ok; split = ap (λ (y : List ℕ). c ∷ y) s.split; within = s.within; spell = s.spell ∙ ap (λ k. encode_utf8 k ++ s.bytes) (sym is) }
+    record {
+      digits = c ∷ s.digits;
+      text = s.text;
+      bytes = s.bytes;
+      are = digits_on c s.digits h (not_none s.digits s.are) s.are;
+      ok = ap is_scalar_value is ∙ s.ok;
+      split = ap (λ (y : List ℕ). c ∷ y) s.split;
+      within = s.within;
+      spell = s.spell ∙ ap (λ k. encode_utf8 k ++ s.bytes) (sym is);
+    }
 
 on_gap : (n c : ℕ) (w b rest : List ℕ) → Scalars n w b rest → is_hex c ≡ true → (m : ℕ) → 16 * m + hex_value c ≡ n → Scalars m (c ∷ 95 ∷ w) b rest
 on_gap n c w b rest s h m e =
     let is : number m (c ∷ 95 ∷ s.digits) ≡ number n s.digits = number_on m c (95 ∷ s.digits) n h e in
-    record { digits = c ∷ 95 ∷ s.digits; text = s.text; bytes = s.bytes; are = digits_gap c s.digits h s.are;
-      ok = ap is_scalar_value is ∙ s.ok; split = ap (λ (y : List ℕ). c ∷ 95 ∷ y) s.split; within = s.within; spell = s.spell ∙ ap (λ k. encode_utf8 k ++ s.bytes) (sym is) }
+    record {
+      digits = c ∷ 95 ∷ s.digits;
+      text = s.text;
+      bytes = s.bytes;
+      are = digits_gap c s.digits h s.are;
+      ok = ap is_scalar_value is ∙ s.ok;
+      split = ap (λ (y : List ℕ). c ∷ 95 ∷ y) s.split;
+      within = s.within;
+      spell = s.spell ∙ ap (λ k. encode_utf8 k ++ s.bytes) (sym is);
+    }
 
 on_close : (n c : ℕ) (w b rest : List ℕ) → is_scalar_value n ≡ true → InString w b rest → is_hex c ≡ true → (m : ℕ) → 16 * m + hex_value c ≡ n → Scalars m (c ∷ 125 ∷ w) (encode_utf8 n ++ b) rest
 on_close n c w b rest ok i h m e =

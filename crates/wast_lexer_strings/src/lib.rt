@@ -12,4 +12,3 @@ mod utf8;
 
 pub use error::LexError;
 pub use string::{is_text, string_end, string_value};
-

@@ -1,6 +1,4 @@
-use Rattle.std.proofs.Common.{◌≡◌, ◌<◌, ◌∷◌, ℕ, List, map, drop, sym, subst, arith}
-use Rattle.wasm_encoder_base.specs.Views.{val_view}
-use Rattle.wasm_encoder_code.specs.Body.{joined}
+use Rattle.std.proofs.Common.{arith}
 use Rattle.wasm_encoder_code.proofs.Runs.{first_joined}
 use Rattle.wasm_encoder_code.proofs.locals.first_run.Goals as goal
 

@@ -1,7 +1,6 @@
-use Rattle.std.proofs.Common.{◌≡◌, ◌<◌, ◌++◌, ◌∷◌, ◌∙◌, ◌^◌, ℕ, List, map, drop, sym, ap, subst, arith}
+use Rattle.std.proofs.Common.{◌<◌, ◌++◌, ◌∙◌, ◌^◌, map, sym, ap, subst}
 use Rattle.std.specs.List.{AllByRecursion}
-use Rattle.wasm_encoder_base.specs.Views.{val_view}
-use Rattle.wasm_encoder_code.specs.Body.{Run, joined}
+use Rattle.wasm_encoder_code.specs.Body.{Run}
 use Rattle.wasm_encoder_code.specs.Locals.{run_view}
 use Rattle.wasm_encoder_code.proofs.Runs.{all_at}
 use Rattle.wasm_encoder_code.proofs.locals.joined.Goals as goal

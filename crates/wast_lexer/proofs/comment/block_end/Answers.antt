@@ -1,4 +1,4 @@
-use Rattle.std.proofs.Common.{◌≡◌, length, drop, sym, ◌∙◌, refl, arith}
+use Rattle.std.proofs.Common.{arith}
 use Rattle.wast_lexer.proofs.CommentSteps.{turn_here, turn_open, turn_deep, turn_last, turn_other, close_past}
 use Rattle.wast_lexer.proofs.comment.block_end.Goals as goal
 

@@ -1,5 +1,5 @@
-use Rattle.std.proofs.Common.{sym, ◌∙◌, arith}
-use Rattle.wast_lexer.proofs.Clean.{clean_here, clean_on, clean_not, clean_past}
+use Rattle.std.proofs.Common.{sym, arith}
+use Rattle.wast_lexer.proofs.Clean.{clean_here, clean_on, clean_not}
 use Rattle.wast_lexer.proofs.comment.is_clean.Goals as goal
 
 pub returns-then-is_refused_at : goal.returns-then-is_refused_at

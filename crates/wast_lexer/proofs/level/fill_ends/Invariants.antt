@@ -1,4 +1,4 @@
-use Rattle.std.proofs.Common.{◌≡◌, ◌≤◌, ◌+◌, length, ℕ, List}
+use Rattle.std.proofs.Common.{◌≡◌, ◌≤◌, ◌+◌, length}
 use Rattle.wast_lexer.specs.Groups.{parens}
 use Rattle.wast_lexer.specs.Levels.{Ends}
 use Rattle.wast_lexer.proofs.level.fill_ends.Given as goal

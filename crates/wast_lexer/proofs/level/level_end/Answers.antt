@@ -1,4 +1,4 @@
-use Rattle.std.proofs.Common.{arith, drop, sym, ◌∙◌, ◌+◌, ◌≡◌, get_or, length, ◌≤◌, ◌<◌}
+use Rattle.std.proofs.Common.{arith, sym, ◌∙◌, ◌+◌, get_or, ◌≤◌}
 use Rattle.wast_lexer.specs.Groups.{parens}
 use Rattle.wast_lexer.specs.declared.level.Paren.TheVariants.{Opens, Closes, Other}
 use Rattle.wast_lexer.proofs.LevelLaws.{open_none, open_some, known_low, other_place, closes_place, parens_length, paren_at}

@@ -1,9 +1,6 @@
-use Rattle.std.proofs.Common.{◌≡◌, true, sym, ◌∙◌, ap, subst, inl, inr, List, ℕ}
-use Rattle.std.specs.Prelude.{slice_range, ◌-◌, length}
+use Rattle.std.proofs.Common.{sym, ap, subst, inr}
 use Rattle.std.proofs.lemmas.Str.{IsUtf8-string_bytes}
 use Rattle.wast_lexer_strings.specs.Strings.{IsString}
-use Rattle.wast_lexer.specs.Kinds.{IsNameOf}
-use Rattle.wast_lexer.specs.Readers.{is_plain}
 use Rattle.wast_lexer.proofs.ReaderLaws.{quote_cut, name_string, plain_is}
 use Rattle.wast_lexer.proofs.read.name_value.Goals as goal
 

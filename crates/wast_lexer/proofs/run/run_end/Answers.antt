@@ -1,4 +1,4 @@
-use Rattle.std.proofs.Common.{sym, ◌∙◌, ap, arith}
+use Rattle.std.proofs.Common.{◌∙◌, ap, arith}
 use Rattle.wast_lexer.proofs.RunLaws.{run_behind}
 use Rattle.wast_lexer.proofs.RunSteps.{part_ends, part_quote, part_string}
 use Rattle.wast_lexer.proofs.run.run_end.Goals as goal

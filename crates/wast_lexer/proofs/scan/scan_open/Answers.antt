@@ -1,4 +1,4 @@
-use Rattle.std.proofs.Common.{sym, ◌∙◌, ap, subst, arith}
+use Rattle.std.proofs.Common.{sym, ◌∙◌, ap, subst}
 use Rattle.wast_lexer.specs.declared.token.TokenKind.TheVariants.{BlockComment}
 use Rattle.wast_lexer.specs.Scan.{comment, FindsToken}
 use Rattle.wast_lexer.proofs.CommentSteps.{next_block}

@@ -1,4 +1,4 @@
-use Rattle.std.proofs.Common.{sym, ◌∙◌, ap, subst, arith, List, ℕ, drop}
+use Rattle.std.proofs.Common.{sym, ◌∙◌, ap, subst, List, ℕ, drop}
 use Rattle.std.specs.Prelude.{Some}
 use Rattle.wast_lexer.specs.declared.token.TokenKind.TheVariants.{LineComment}
 use Rattle.wast_lexer.specs.Scan.{comment, FindsToken}

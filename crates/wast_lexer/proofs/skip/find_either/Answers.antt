@@ -1,4 +1,4 @@
-use Rattle.std.proofs.Common.{◌≡◌, length, drop, arith, sym, ◌∙◌, refl}
+use Rattle.std.proofs.Common.{arith, sym, ◌∙◌}
 use Rattle.std.proofs.lemmas.List.{drop-drop, drop_all}
 use Rattle.wast_lexer.proofs.Searches.{first_is, none_is, rest_is}
 use Rattle.wast_lexer.proofs.skip.find_either.Goals as goal

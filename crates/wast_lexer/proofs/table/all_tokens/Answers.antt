@@ -1,7 +1,6 @@
-use Rattle.std.proofs.Common.{◌≡◌, ◌+◌, ◌<◌, sym, ◌∙◌, ap, subst, refl, arith, [], ◌∷◌, length, drop, map, false, List, ℕ}
+use Rattle.std.proofs.Common.{◌≡◌, sym, ap, subst, refl, arith, [], ◌∷◌, length, drop, map, false}
 use Rattle.std.specs.List.{All}
 use Rattle.std.proofs.lemmas.List.{drop_all, length-append}
-use Rattle.wast_lexer.specs.declared.token.Token.{Token}
 use Rattle.wast_lexer.specs.Lexeme.{lexeme_of}
 use Rattle.wast_lexer.specs.Tiling.{TilesUpTo}
 use Rattle.wast_lexer.specs.Parse.{is_opened}

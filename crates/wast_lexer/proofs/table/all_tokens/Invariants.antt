@@ -1,4 +1,4 @@
-use Rattle.std.proofs.Common.{◌≡◌, ◌-◌, ◌≤◌, length, drop, map, false}
+use Rattle.std.proofs.Common.{◌-◌, ◌≤◌, length, drop, map, false}
 use Rattle.std.specs.List.{All}
 use Rattle.std.specs.Str.{IsCharBoundary}
 use Rattle.wast_lexer.specs.Lexeme.{lexeme_of}

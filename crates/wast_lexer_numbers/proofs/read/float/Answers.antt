@@ -1,7 +1,6 @@
 use Rattle.std.proofs.Common.{◌≡◌, sym, ◌∙◌, ap, subst, true, ◌-◌, ◌++◌, length, drop, Some, List, ℕ, Option}
 use Rattle.std.specs.List.{list_all}
 use Rattle.wast_lexer_numbers.specs.declared.kind.FloatKind.{FloatKind}
-use Rattle.wast_lexer_numbers.specs.declared.kind.FloatKind.TheVariants.{Normal}
 use Rattle.wast_lexer_numbers.specs.declared.kind.NumberKind.{NumberKind}
 use Rattle.wast_lexer_numbers.specs.declared.kind.NumberKind.TheVariants.{Float}
 use Rattle.wast_lexer_numbers.specs.Numbers.{sign_text}

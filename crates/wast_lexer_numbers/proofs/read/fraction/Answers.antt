@@ -1,5 +1,5 @@
-use Rattle.std.proofs.Common.{◌≡◌, sym, ◌∙◌, ap, subst, inl, inr, refl, ◌++◌, List, ℕ, Option}
-use Rattle.wast_lexer_numbers.specs.Numbers.{Digits, IsExponent}
+use Rattle.std.proofs.Common.{sym, ap, subst, inl, inr, ◌++◌, List, ℕ}
+use Rattle.wast_lexer_numbers.specs.Numbers.{IsExponent}
 use Rattle.wast_lexer_numbers.proofs.NumberLaws.{exponent_is}
 use Rattle.wast_lexer_numbers.proofs.ReadingLaws.{fraction_tail}
 use Rattle.wast_lexer_numbers.proofs.read.fraction.Goals as goal

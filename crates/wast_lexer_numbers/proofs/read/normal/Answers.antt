@@ -1,7 +1,3 @@
-use Rattle.std.proofs.Common.{◌≡◌, sym, ◌∙◌, ap, subst, refl, true, Some}
-use Rattle.wast_lexer_numbers.specs.declared.kind.FloatKind.TheVariants.{Normal}
-use Rattle.wast_lexer_numbers.specs.declared.kind.NumberKind.TheVariants.{Float}
-use Rattle.wast_lexer_numbers.specs.Scan.{magnitude, based}
 use Rattle.wast_lexer_numbers.proofs.ReadingLaws.{normal_based, based_of}
 use Rattle.wast_lexer_numbers.proofs.read.normal.Goals as goal
 

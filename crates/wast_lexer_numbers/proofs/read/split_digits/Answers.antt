@@ -1,4 +1,4 @@
-use Rattle.std.proofs.Common.{sym, ◌∙◌, ap, subst, true, ◌≡◌, take, length, ◌-◌}
+use Rattle.std.proofs.Common.{sym, ◌∙◌, ap, subst, take, length, ◌-◌}
 use Rattle.std.specs.List.{list_all}
 use Rattle.wast_lexer_numbers.specs.Numbers.{Digits}
 use Rattle.wast_lexer_numbers.specs.Readings.{is_ascii}

@@ -1,4 +1,4 @@
-use Rattle.std.proofs.Common.{◌≡◌, sym, ◌∙◌, ap, subst, refl, true, []}
+use Rattle.std.proofs.Common.{◌≡◌, sym, subst, refl, true, []}
 use Rattle.wast_lexer_numbers.specs.Numbers.{IsExponent}
 use Rattle.wast_lexer_numbers.specs.Scan.{ends_fraction}
 use Rattle.wast_lexer_numbers.proofs.NumberLaws.{exponent_is}
@@ -16,12 +16,15 @@ returns c =
     let s = c.split_digits.ensures in
     let tail = c.split_digits.result.1.now in
     let point = rw c.as_bytes.ensures.value at (c.if-is_point_first.ensures) in
-    let ends = value_exponent c.args.hex c.args.sign c.args.text.now tail c.requires.float s.rest (sym point) in
-    (refl, refl, record {
-      fraction = [];
-      exponent = tail;
-      digits = s.digits;
-      is_fraction = refl;
-      is_exponent = subst (λ e. IsExponent c.args.hex e tail) c.exponent.ensures (exponent_is c.args.hex tail ends);
-      split = s.split;
-    })
+    let ends = value_exponent c.args.hex c.args.sign c.args.text.now tail c.requires.float s.rest (sym point) in (
+      refl,
+      refl,
+      record {
+        fraction = [];
+        exponent = tail;
+        digits = s.digits;
+        is_fraction = refl;
+        is_exponent = subst (λ e. IsExponent c.args.hex e tail) c.exponent.ensures (exponent_is c.args.hex tail ends);
+        split = s.split;
+      },
+    )

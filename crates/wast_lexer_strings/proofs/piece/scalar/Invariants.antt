@@ -1,4 +1,4 @@
-use Rattle.std.proofs.Common.{length, ◌-◌, ◌≡◌, ◌↔◌, ◌≤◌, ◌<◌, ◌*◌, ◌+◌, ℕ, List, drop, true, false, [], ◌∷◌, ◌++◌}
+use Rattle.std.proofs.Common.{length, ◌-◌, ◌≡◌, ◌≤◌, ◌<◌, drop}
 use Rattle.wast_lexer_strings.specs.Scan.{read}
 use Rattle.wast_lexer_strings.specs.Scan.State.{Gap}
 use Rattle.wast_lexer_strings.proofs.Reading.{spelled}

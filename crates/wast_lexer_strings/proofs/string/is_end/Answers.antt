@@ -3,7 +3,9 @@ use Rattle.std.proofs.lemmas.List.{drop_all}
 use Rattle.wast_lexer_strings.specs.Scan.{is_empty}
 use Rattle.wast_lexer_strings.proofs.Reading.{cell}
 use Rattle.wast_lexer_strings.proofs.string.is_end.Goals as goal
+
 pub returns-then-at-text : goal.returns-then-at-text
 returns-then-at-text c = sym (ap is_empty (cell c.args.text.now c.args.at c.if-at-text.true))
+
 pub returns : goal.returns
 returns c = sym (ap is_empty (drop_all c.args.at c.args.text.now c.if-at-text.false))

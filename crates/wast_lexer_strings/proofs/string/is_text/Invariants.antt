@@ -1,4 +1,4 @@
-use Rattle.std.proofs.Common.{length, ◌-◌, ◌≡◌, ◌↔◌, ◌≤◌, ◌<◌, ◌*◌, ◌+◌, ℕ, List, drop, true, false, [], ◌∷◌, ◌++◌}
+use Rattle.std.proofs.Common.{length, ◌-◌, ◌≤◌}
 use Rattle.wast_lexer_strings.proofs.Following.{Reads}
 use Rattle.wast_lexer_strings.proofs.string.is_text.Given as goal
 

@@ -1,4 +1,4 @@
-use Rattle.std.proofs.Common.{length, ◌-◌, ◌≡◌, ◌↔◌, ◌≤◌, ◌<◌, ◌*◌, ◌+◌, ℕ, List, drop, true, false, [], ◌∷◌, ◌++◌}
+use Rattle.std.proofs.Common.{length, ◌-◌, ◌≡◌, ◌≤◌, ℕ, List, drop}
 use Rattle.wast_lexer_strings.specs.Scan.{read, more}
 use Rattle.wast_lexer_strings.specs.Scan.State.{Within}
 use Rattle.wast_lexer_strings.proofs.string.string_end.Given as goal

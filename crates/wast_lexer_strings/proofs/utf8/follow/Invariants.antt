@@ -1,4 +1,4 @@
-use Rattle.std.proofs.Common.{length, ◌-◌, ◌≡◌, ◌↔◌, ◌≤◌, ◌<◌, ◌*◌, ◌+◌, ℕ, List, drop, true, false, [], ◌∷◌, ◌++◌}
+use Rattle.std.proofs.Common.{length, ◌-◌, ◌↔◌, ℕ, List, drop, ◌++◌}
 use Rattle.wast_lexer_strings.specs.Feeds.{Completes}
 use Rattle.wast_lexer_strings.proofs.utf8.follow.Given as goal
 

@@ -1,4 +1,4 @@
-use Rattle.std.proofs.Common.{◌≡◌, ◌<◌, ◌∙◌}
+use Rattle.std.proofs.Common.{◌∙◌}
 use Rattle.wasm_encoder_base.proofs.ReadSteps.{none_map}
 use Rattle.wasm_encoder_code.proofs.Front.{front_behind}
 use Rattle.wasm_encoder_code.proofs.const_expr.ConstExpr.get_ref_func.Goals as goal

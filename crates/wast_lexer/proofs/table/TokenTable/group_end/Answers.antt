@@ -1,7 +1,7 @@
-use Rattle.std.proofs.Common.{◌≡◌, ◌<◌, ◌≤◌, ◌+◌, sym, ◌∙◌, ap, arith, length, drop, get_or, slice_index_or, false, true, ℕ}
+use Rattle.std.proofs.Common.{◌≡◌, ◌<◌, ◌+◌, sym, ◌∙◌, ap, arith, length, drop, true}
 use Rattle.std.specs.Prelude.{slice_index}
 use Rattle.wast_lexer.specs.declared.level.Paren.TheVariants.{Opens}
-use Rattle.wast_lexer.specs.Groups.{parens, paren_of, IsGroupAt}
+use Rattle.wast_lexer.specs.Groups.{parens, paren_of}
 use Rattle.wast_lexer.specs.Levels.{is_opening, place, closing}
 use Rattle.wast_lexer.proofs.Basics.{apart}
 use Rattle.wast_lexer.proofs.LevelLaws.{parens_length, paren_at, group_at, at_group, opening_is, any_default}

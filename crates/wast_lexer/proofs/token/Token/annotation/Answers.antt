@@ -1,4 +1,4 @@
-use Rattle.std.proofs.Common.{sym, ◌∙◌, ap, subst, drop}
+use Rattle.std.proofs.Common.{◌∙◌, ap, subst, drop}
 use Rattle.wast_lexer.specs.Kinds.{IsLexeme}
 use Rattle.wast_lexer.specs.Readers.{text_of}
 use Rattle.wast_lexer.proofs.ReaderLaws.{annotated_name}
