@@ -1,4 +1,4 @@
-ghost use Rattle.wasm_encoder_instr.specs.Instruction.{can_encode_instr};
+ghost use Rattle.std.specs.Prelude.{◌≡◌, ◌++◌, ◌∷◌, [], OnOk, OnErr, IsErrOf};
 
 use crate::{ConstExpr, Function, InstructionSink};
 use std::alloc::Global;
@@ -15,6 +15,39 @@ fn encoded(alloc: Global, expression: &ConstExpr) -> Result<Vec<u8>, EncodeError
         Ok(()) => Ok(sink),
         Err(error) => Err(error),
     }
+}
+
+/// Two instructions in a row: what a caller of the sink learns.
+fn add_and_end(bytes: &mut Vec<u8>) -> Result<(), EncodeError>
+    ensures ok { OnOk result (bytes.new.items ≡ bytes.old.items ++ 0x6A ∷ 0x0B ∷ []) }
+    ensures too_large { IsErrOf result EncodeError.TooLarge → ⊥ }
+{
+    InstructionSink::new(bytes).i32_add()?.end()?;
+    Ok(())
+}
+
+/// One instruction, refused without a change: what a caller of the body learns.
+fn end(function: &mut Function) -> Result<(), EncodeError>
+    ensures ok { OnOk result (function.new ≡ function.old ++ 0x0B ∷ []) }
+    ensures refused { OnErr result (function.new ≡ function.old) }
+{
+    function.instruction(&Instruction::End)?;
+    Ok(())
+}
+
+#[test]
+fn callers(rt: HostRuntime) -> Result<(), Fail> {
+    let alloc = rt.alloc();
+    let mut bytes = Vec::new(alloc);
+    add_and_end(&mut bytes)?;
+    assert_eq!(rt; bytes.as_slice(), [0x6a, 0x0b].as_slice());
+    let mut function = Function::new(alloc, &[])?;
+    end(&mut function)?;
+    assert_eq!(rt;
+        function.into_raw_body().as_slice(),
+        [0x00, 0x0b].as_slice()
+    );
+    Ok(())
 }
 
 #[test]

@@ -16,3 +16,4 @@ pub mod Ends
 pub mod ReaderLaws
 pub mod LevelLaws
 pub mod TableLaws
+pub mod NameLaws

@@ -134,7 +134,7 @@ Splits allow opened s k r = (w : List ℕ) × (s ≡ w ++ r) × Begins allow ope
 give : (allow opened : Bool) (s : List ℕ) (j k : TokenKind) (q r : List ℕ) → ◌≡◌ {A = Option (TokenKind × List ℕ)} (Some (j, q)) (Some (k, r)) → Splits allow opened s j q → Splits allow opened s k r
 give allow opened s j k q r e x = let same = pair_same j k q r e in subst (λ i. Splits allow opened s i r) same.0 (subst (λ y. Splits allow opened s j y) same.1 x)
 
-skip_split : (p : ℕ → Bool) (s : List ℕ) → (w : List ℕ) × (s ≡ w ++ skip p s) × (list_all p w ≡ true) × (starts p (skip p s) ≡ false)
+pub skip_split : (p : ℕ → Bool) (s : List ℕ) → (w : List ℕ) × (s ≡ w ++ skip p s) × (list_all p w ≡ true) × (starts p (skip p s) ≡ false)
 skip_split p [] = ([], refl, refl, refl)
 skip_split p (c ∷ s) = elim (cases_Bool (p c)) [
   | inl t ↦ (let r = skip_split p s in rw t (c ∷ r.0, ap (λ x. c ∷ x) r.1, rw t r.2, r.3))

@@ -1,10 +1,11 @@
 //! Runs of identifier characters and strings.
 
-ghost use Rattle.std.specs.Prelude.{◌≡◌, ◌≤◌, ◌<◌, ◌&&◌, ◌||◌, ℕ, IsTrue, None, true, length, drop, slice_index};
+ghost use Rattle.std.specs.Prelude.{◌≡◌, ◌≤◌, ◌<◌, ◌&&◌, ◌||◌, ℕ, IsTrue, None, true, false, length, drop, slice_index};
+ghost use Rattle.std.specs.List.{list_all};
 ghost use Rattle.wast_lexer_strings.specs.Strings.{is_quote};
 ghost use Rattle.wast_lexer.specs.Kinds.{starts, is_idchar, is_lower, is_name};
 ghost use Rattle.wast_lexer.specs.Tiling.{goes_on};
-ghost use Rattle.wast_lexer.specs.Scan.{FindsToken, FindsRest, next, run, kind_of, plain_kind, word_kind, is_annotated, is_id, is_string, is_text_string};
+ghost use Rattle.wast_lexer.specs.Scan.{FindsToken, FindsRest, next, run, kind_of, plain_kind, word_kind, skip, is_annotated, is_id, is_string, is_text_string};
 
 use crate::comment::may_stand;
 use crate::skip::name_end;
@@ -23,6 +24,10 @@ pub(crate) fn scan_run(
     requires here { goes_on (slice_index text.now at) ≡ true }
     ensures { FindsToken result text.now at (next allow opened (drop at text.now)) }
 {
+    let name = name_end(text, at);
+    if at < name && !is_quote_at(text, name) {
+        return scan_name(text, at, name, allow, opened);
+    }
     let end = match run_end(text, at) {
         Ok(end) => end,
         Err(error) => return Err(error),
@@ -34,6 +39,55 @@ pub(crate) fn scan_run(
     match kind_of(word, opened) {
         None => Err(LexError::EmptyAnnotation),
         Some(kind) => Ok((kind, end)),
+    }
+}
+
+/// A run of identifier characters alone, which ends at a place.
+fn scan_name(
+    text: &[u8],
+    at: usize,
+    end: usize,
+    allow: bool,
+    opened: bool,
+) -> Result<(TokenKind, usize), LexError>
+    requires some { at < end }
+    requires within { end ≤ length text.now }
+    requires here { goes_on (slice_index text.now at) ≡ true }
+    requires rest { drop end text.now ≡ skip is_idchar (drop at text.now) }
+    requires behind { starts is_quote (drop end text.now) ≡ false }
+    ensures { FindsToken result text.now at (next allow opened (drop at text.now)) }
+{
+    match name_kind(&text[at..end], opened) {
+        None => Err(LexError::EmptyAnnotation),
+        Some(kind) => Ok((kind, end)),
+    }
+}
+
+/// The kind of a run of identifier characters alone.
+fn name_kind(word: &[u8], opened: bool) -> Option<TokenKind>
+    requires all { list_all is_idchar word.now ≡ true }
+    requires some { 0 < length word.now }
+    ensures { result ≡ kind_of opened word.now }
+{
+    let first = word[0];
+    if opened && first == b'@' {
+        return (1 < word.len()).then_some(TokenKind::Annotation);
+    }
+    if first == b'$' {
+        return Some(if 1 < word.len() {
+            TokenKind::Id
+        } else {
+            TokenKind::Reserved
+        });
+    }
+    match number(word) {
+        Some(NumberKind::Integer(kind)) => Some(TokenKind::Integer(kind)),
+        Some(NumberKind::Float(kind)) => Some(TokenKind::Float(kind)),
+        None => Some(if first.is_ascii_lowercase() {
+            TokenKind::Keyword
+        } else {
+            TokenKind::Reserved
+        }),
     }
 }
 

@@ -10,10 +10,10 @@ use Rattle.wast_lexer_numbers.specs.declared.kind.IntegerKind.{IntegerKind}
 use Rattle.wast_lexer_numbers.specs.declared.kind.FloatKind.TheVariants.{Inf, Nan, NanVal, Normal}
 use Rattle.wast_lexer_numbers.specs.declared.kind.NumberKind.{NumberKind}
 use Rattle.wast_lexer_numbers.specs.declared.kind.NumberKind.TheVariants.{Integer, Float}
-use Rattle.wast_lexer_numbers.specs.Numbers.{is_base, is_power, Digits, sign_text, base_text, Parts, IsFraction, IsExponent, IsMagnitude, is_float, inf, nan, nan_prefix, IsUnsigned, IsNumber}
+use Rattle.wast_lexer_numbers.specs.Numbers.{is_digit, is_base, is_power, Digits, sign_text, base_text, Parts, IsFraction, IsExponent, IsMagnitude, is_float, inf, nan, nan_prefix, IsUnsigned, IsNumber}
 use Rattle.wast_lexer_numbers.specs.Numbers.Digits.{Last, Next, Gap}
 use Rattle.wast_lexer_numbers.specs.Readings.{exponent_of}
-use Rattle.wast_lexer_numbers.specs.Scan.{after, prefixed, sign_of, unsigned, is_all, ends_power, power_after, ends_fraction, float_if, kind_after, magnitude, nan_if, based, payload, body, number}
+use Rattle.wast_lexer_numbers.specs.Scan.{begins_number, after, prefixed, sign_of, unsigned, is_all, ends_power, power_after, ends_fraction, float_if, kind_after, magnitude, nan_if, based, payload, body, number}
 use Rattle.wast_lexer_numbers.proofs.DigitLaws.{digits_scanned, scanned_digits, eq_of}
 
 pub append_none : (b : List ℕ) → b ++ [] ≡ b
@@ -256,3 +256,15 @@ body_is sign text k h = elim (cases_Bool (is_all (prefixed inf text))) [
 
 pub scanned_number : (word : List ℕ) (k : NumberKind) → number word ≡ Some k → IsNumber k word
 scanned_number word k h = (sign_of word, unsigned word, body_is (sign_of word) (unsigned word) k h, sign_split word)
+
+-- no other byte begins a number
+pub not_begun : (word : List ℕ) → begins_number word ≡ false → number word ≡ None
+not_begun [] h = refl
+not_begun (c ∷ word) h =
+    let d : is_digit c ≡ false = grind (arith, nat_tests) in
+    let z : (c == 48) ≡ false = grind (arith, nat_tests) in
+    let p : (c == 43) ≡ false = grind (arith, nat_tests) in
+    let m : (c == 45) ≡ false = grind (arith, nat_tests) in
+    let i : (c == 105) ≡ false = grind (arith, nat_tests) in
+    let n : (c == 110) ≡ false = grind (arith, nat_tests) in
+    rw (number, p, m) (rw (i, n, z) (rw d refl))

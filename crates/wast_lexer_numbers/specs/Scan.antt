@@ -1,6 +1,6 @@
 -- The scan of a number. It says what the private functions of the lexer do, and is no part of any promise: the laws tie
 -- it to numbers.
-use Rattle.std.specs.Prelude.{if◌then◌else◌, Option, Some, None, ℕ, Bool, true, false, ◌&&◌, ◌||◌, ◌==◌, List, [], ◌∷◌}
+use Rattle.std.specs.Prelude.{if◌then◌else◌, Option, Some, None, ℕ, Bool, true, false, ◌&&◌, ◌||◌, ◌==◌, nat_le, List, [], ◌∷◌}
 use Rattle.wast_lexer_numbers.specs.declared.kind.SignToken.{SignToken}
 use Rattle.wast_lexer_numbers.specs.declared.kind.SignToken.TheVariants.{Plus, Minus}
 use Rattle.wast_lexer_numbers.specs.declared.kind.FloatKind.TheVariants.{Inf, Nan, NanVal, Normal}
@@ -83,3 +83,8 @@ body sign text =
 
 abbrev pub number : List ℕ → Option NumberKind
 number word = body (sign_of word) (unsigned word)
+
+-- a digit, a sign, `i` or `n` stands in front
+abbrev pub begins_number : List ℕ → Bool
+begins_number [] = false
+begins_number (c ∷ text) = (nat_le 48 c && nat_le c 57) || c == 43 || c == 45 || c == 105 || c == 110

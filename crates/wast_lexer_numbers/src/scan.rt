@@ -2,7 +2,7 @@
 
 ghost use Rattle.std.specs.Prelude.{◌≡◌, ◌&&◌, ℕ, Bool, List, None, Some, true, false, MatchOption};
 ghost use Rattle.wast_lexer_numbers.specs.Numbers.{is_base, is_power};
-ghost use Rattle.wast_lexer_numbers.specs.Scan.{after, prefixed, sign_of, unsigned, is_all, ends_power, ends_fraction, magnitude, body, number};
+ghost use Rattle.wast_lexer_numbers.specs.Scan.{begins_number, after, prefixed, sign_of, unsigned, is_all, ends_power, ends_fraction, magnitude, body, number};
 
 use crate::kind::{FloatKind, IntegerKind, NumberKind, SignToken};
 
@@ -10,8 +10,21 @@ use crate::kind::{FloatKind, IntegerKind, NumberKind, SignToken};
 pub fn number(word: &[u8]) -> Option<NumberKind>
     ensures { result ≡ number word.now }
 {
+    if !begins_number(word) {
+        return None;
+    }
     let (sign, text) = split_sign(word);
     body(text, sign)
+}
+
+/// Whether a number may begin with the first byte.
+fn begins_number(word: &[u8]) -> bool
+    ensures { result ≡ begins_number word.now }
+{
+    match word {
+        [b'0'..=b'9' | b'+' | b'-' | b'i' | b'n', ..] => true,
+        _ => false,
+    }
 }
 
 /// The sign, and what follows it.
