@@ -1,6 +1,7 @@
 //! Lists that are borrowed or owned.
 
 ghost use Rattle.std.specs.Prelude.{◌≡◌, ℕ, length, nat_eq};
+ghost use Rattle.std.specs.Cow.{cow_slice_items};
 
 use std::alloc::Global;
 use std::borrow::CowSlice;
@@ -49,6 +50,13 @@ impl<'a, T> Items<'a, T> {
             CowSlice::Borrowed(_) => true,
             CowSlice::Owned(_) => false,
         }
+    }
+
+    /// The items, borrowed or owned as they are.
+    pub fn into_cow(self) -> CowSlice<'a, T, Global>
+        ensures { cow_slice_items result ≡ self.entry }
+    {
+        self.items
     }
 
     /// The items.

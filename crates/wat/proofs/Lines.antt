@@ -8,7 +8,7 @@ use Rattle.memchr.specs.Find.{IsFirstByte, is_byte}
 use Rattle.std.proofs.Math.Seq.{take-nil}
 use Rattle.std.proofs.lemmas.Bool.{eq-eqb, eqb-true, ne_eqb}
 use Rattle.std.proofs.lemmas.Bool.Decides.{eqb_tells}
-use Rattle.wat.specs.Span.{column_of, line_feeds, line_of, since_line_feed}
+use Rattle.wast_lexer.specs.Span.{column_of, line_feeds, line_of, since_line_feed}
 use Rattle.wat.specs.Render.{line_at, until_line_feed, without_return}
 
 -- the first line feed, or the end where there is none, ends the line

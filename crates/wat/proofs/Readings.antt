@@ -6,7 +6,7 @@ use Rattle.wat.specs.Reading.{State, Keeps, is_nil, Gives, NoneSpelled, signific
 use Rattle.wat.proofs.GrammarLaws.{Lawful, all_read, all_spelled}
 use Rattle.std.specs.Prelude.{Result, Ok, Err, IfErr}
 use Rattle.std.specs.Result.{IsErr}
-use Rattle.wat.specs.declared.token.Token.{Token}
+use Rattle.wast_lexer.specs.declared.token.Token.{Token}
 use Rattle.wat.specs.declared.parse_fault.ParseFault.{ParseFault}
 use Rattle.wat.specs.declared.parse_fault.ParseFault.TheVariants as faults
 use Rattle.wat.proofs.Looks.{some_one}

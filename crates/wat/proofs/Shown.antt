@@ -7,7 +7,7 @@ use Rattle.std.proofs.lemmas.Grind.{flat_map-append}
 use Rattle.std.proofs.lemmas.List.{replicate_more}
 use Rattle.std.proofs.lemmas.Str.{chars-append, encodes-append}
 use Rattle.wat.specs.Render.{caret, excerpt, in_four_places, line_at, location, shown, snippet}
-use Rattle.wat.specs.Span.{line_of, column_of}
+use Rattle.wast_lexer.specs.Span.{line_of, column_of}
 
 -- one more character
 pub snippet_more : (old between new seen : List ℕ) (c : ℕ)

@@ -5,7 +5,7 @@ use Rattle.wasm_encoder_base.specs.Table as rows
 use Rattle.wat.specs.Tokens.{Tok}
 use Rattle.wat.specs.Tree.{Func, Instruction}
 use Rattle.wat.specs.Grammar.{wide, op}
-use Rattle.wat.specs.Syntax.{i32_literal, operands, instruction, row_starts, row_stops, export, func, module_syntax}
+use Rattle.wat.specs.Syntax.{i32_literal, operands, instruction, row_starts, row_stops, name, export, func, module_syntax}
 use Rattle.wat.proofs.GrammarLaws.{Lawful, word_laws, op_laws, integer_laws, string_laws, nothing_laws, seen_laws, seq_laws, next_laws, only_laws, many_laws, group_laws, paren_laws, bound_laws, shrinks}
 
 module _ {N P : Type 0} where
@@ -24,8 +24,11 @@ module _ {N P : Type 0} where
   pub instruction_laws : Lawful (instruction {N = N} {P = P})
   instruction_laws = seen_laws _ _ (next_laws (op []) (λ e. operands e.0.row) row_starts true row_stops (op_laws []) (λ e. bounded_laws e.0.row) refl)
 
+  name_laws : Lawful (name {N = N} {P = P})
+  name_laws = only_laws _ _ string_laws
+
   pub export_laws : Lawful (export {N = N} {P = P})
-  export_laws = group_laws _ _ string_laws refl
+  export_laws = group_laws _ _ name_laws refl
 
   pub func_laws : Lawful (func {N = N} {P = P})
   func_laws = paren_laws _ (seen_laws _ _ (seq_laws _ _ (word_laws _) (seq_laws _ _ (many_laws _ _ export_laws refl refl refl refl refl) (many_laws _ _ instruction_laws refl refl refl refl refl) refl) refl)) refl refl

@@ -1,9 +1,8 @@
 -- The laws that the crate's law functions prove, over the definitions that the contract of `assemble` cites.
 use Rattle.std.specs.Prelude.{ℕ, ◌≡◌, ◌↔◌, List}
 use Rattle.wasm_encoder_base.specs.Unique.{Unique, Any}
-use Rattle.wat.specs.Lexeme.{Lexeme}
-use Rattle.wat.specs.Tiling.{Tiles}
-use Rattle.wat.specs.Tokens.{Tok}
+use Rattle.wast_lexer_strings.specs.Strings.{IsString}
+use Rattle.wat.specs.Tokens.{Tok, string_value}
 use Rattle.wat.specs.Tree.{Module}
 use Rattle.wat.specs.Syntax.{module_syntax}
 use Rattle.wat.specs.AbstractModule.{AbstractModule}
@@ -11,9 +10,9 @@ use Rattle.wat.specs.Layout.{section, Lays, Reads}
 use Rattle.wat.specs.Means.{Means}
 use Rattle.wat.specs.Headline.{Accepts, Assembles}
 
--- A text is at most one list of tokens.
-abbrev pub OneTiling : Type 0
-OneTiling = (from : ℕ) (text : List ℕ) (ts us : List Lexeme) → Tiles from text ts → Tiles from text us → ts ≡ us
+-- The bytes that a string stands for are those that `string_value` reads.
+abbrev pub StringValue : Type 0
+StringValue = (text bytes : List ℕ) → IsString text bytes → string_value text ≡ bytes
 
 -- No tokens spell two modules, places included.
 abbrev pub OneTree : Type 0

@@ -5,10 +5,8 @@ pub mod Counted
 pub mod Encoding
 pub mod Grammar
 pub mod Headline
-pub mod Kinds
 pub mod Laws
 pub mod Layout
-pub mod Lexeme
 pub mod Meaning
 pub mod Means
 pub mod Parts
@@ -17,10 +15,7 @@ pub mod Program
 pub mod Reading
 pub mod Render
 pub mod Run
-pub mod Scan
-pub mod Span
 pub mod Syntax
-pub mod Tiling
 pub mod Tokens
 pub mod Tree
 pub mod Trees

@@ -1,17 +1,17 @@
 -- What a text means.
-use Rattle.std.specs.Prelude.{ℕ, List}
-use Rattle.wat.specs.Lexeme.{Lexeme}
-use Rattle.wat.specs.Tiling.{Tiles}
+use Rattle.std.specs.Prelude.{ℕ, false, List}
+use Rattle.wast_lexer.specs.Lexeme.{Lexeme}
+use Rattle.wast_lexer.specs.Tiling.{Tiles}
 use Rattle.wat.specs.Tokens.{significant}
 use Rattle.wat.specs.Tree.{Module}
 use Rattle.wat.specs.Syntax.{module_syntax}
 use Rattle.wat.specs.AbstractModule.{AbstractModule}
 use Rattle.wat.specs.Meaning.{Meaning}
 
--- The text is cut into tokens, and those that are significant spell the tree.
+-- The text is cut into tokens, without the refused characters in any, and those that are significant spell the tree.
 pub record Spells (text : List ℕ) (tree : Module (List ℕ) ℕ) : Type 0 where
   pub tokens : List Lexeme
-  pub tiled : Tiles 0 text tokens
+  pub tiled : Tiles false false 0 text tokens
   pub spelled : module_syntax.spells tree (significant tokens)
 
 -- The text spells a tree, and that tree stands for the module.

@@ -1,22 +1,34 @@
 -- What a parser has before it, and what one of its functions answers.
-use Rattle.std.specs.Prelude.{◌≡◌, ℕ, ◌+◌, ◌≤◌, ◌<◌, List, [], ◌∷◌, ◌++◌, length, map, drop, Option, Some, None, Result, Ok, Err, slice_index, slice_index_or, slice_range, Bool, true, false}
-use Rattle.wat.specs.declared.token.Token.{Token}
-use Rattle.wat.specs.declared.token.TokenKind.TheVariants as kinds
+use Rattle.std.specs.Prelude.{◌≡◌, ℕ, ◌+◌, List, [], ◌∷◌, ◌++◌, length, map, drop, Option, Some, None, Result, Ok, Err, slice_range, Bool, true, false}
+use Rattle.std.specs.Str.{is_utf8}
+use Rattle.std.specs.Cow.{cow_str_bytes}
+use Rattle.std.specs.declared.borrow.CowStr.{CowStr}
+use Rattle.wast_lexer_numbers.specs.declared.parts.Integer.{Integer as IntegerParts}
+use Rattle.wast_lexer.specs.declared.token.TokenKind.{TokenKind}
+use Rattle.wast_lexer.specs.declared.token.TokenKind.TheVariants as kinds
+use Rattle.wast_lexer.specs.declared.token.Token.{Token}
+use Rattle.wast_lexer.specs.Readers.{IsOf}
 use Rattle.wat.specs.declared.parse_fault.ParseFault.{ParseFault}
 use Rattle.wat.specs.declared.parse_fault.ParseFault.TheVariants as faults
-use Rattle.wat.specs.Lexeme.{lexeme_of}
-use Rattle.wat.specs.Tokens.{Tok, Open, Close, Id, Word, Mark, Integer, Text, Other, Broken, token_of, significant}
+use Rattle.wast_lexer.specs.Lexeme.{lexeme_of}
+use Rattle.wat.specs.Tokens.{Tok, Open, Close, Id, Word, Mark, Integer, Text, Other, Broken, Literal, token_of, significant, number, base_of, is_minus}
 use Rattle.wat.specs.Grammar.{Syntax}
 
--- A token lies within the text; a string has two quotes, and no byte of it is part of a longer character.
-pub record IsCut (text : List ℕ) (t : Token) : Type 0 where
-  pub within : t.offset + t.len ≤ length text
-  pub quoted : t.kind ≡ kinds.String → 2 ≤ t.len
-  pub plain : t.kind ≡ kinds.String → (k : ℕ) → t.offset ≤ k → k < t.offset + t.len → slice_index text k < 128
+-- white space and comments
+abbrev pub is_trivia : TokenKind → Bool
+is_trivia kinds.Whitespace = true
+is_trivia kinds.LineComment = true
+is_trivia kinds.BlockComment = true
+is_trivia _ = false
 
--- so does each token
-abbrev pub AreCut : List ℕ → List Token → Type 0
-AreCut text tokens = (i : ℕ) (d : Token) → i < length tokens → IsCut text (slice_index_or tokens i d)
+-- what an integer in its parts says
+abbrev pub literal_of : IntegerParts → Literal
+literal_of i = record { minus = is_minus i.sign; size = number (base_of i.hex) i.digits.now }
+
+-- the text that bytes are, where they are one
+abbrev pub IsTextOf : {Z : Type 0} → List ℕ → Option (CowStr Z) → Type 0
+IsTextOf bytes None = is_utf8 bytes ≡ false
+IsTextOf bytes (Some t) = (is_utf8 bytes ≡ true) × (cow_str_bytes t ≡ bytes)
 
 -- the significant tokens of a text
 abbrev pub significant_of : List ℕ → List Token → List (Tok (List ℕ) ℕ)
@@ -35,8 +47,8 @@ ahead s = significant_of s.text (drop s.at s.tokens)
 -- The significant tokens before a parser begin with this one, and go on as they do after so many.
 pub record IsNext (s : State) (t : Token) (after : ℕ) : Type 0 where
   pub found : ahead s ≡ token_of t.kind (slice_range s.text t.offset (t.offset + t.len)) t.offset ++ ahead (record s { at = after })
-  pub shown : t.kind ≡ kinds.Whitespace → ⊥
-  pub lexeme : IsCut s.text t
+  pub shown : is_trivia t.kind ≡ false
+  pub own : IsOf s.text t
 
 -- whether nothing is there
 abbrev pub is_nil : {A : Type 0} → List A → Bool

@@ -5,7 +5,7 @@ use Rattle.std.specs.Int.{is_in_range}
 use Rattle.std.specs.List.{flat_map}
 use Rattle.std.specs.Str.{is_utf8}
 use Rattle.unicode_width.specs.Width.{str_width}
-use Rattle.wat.specs.Span.{line_of, column_of}
+use Rattle.wast_lexer.specs.Span.{line_of, column_of}
 use Rattle.wat.specs.declared.fault.Fault.{Fault}
 use Rattle.wat.specs.declared.fault.Fault.TheVariants as faults
 

@@ -1,5 +1,6 @@
 -- The syntax of modules (WebAssembly 3.0, 6).
 use Rattle.std.specs.Prelude.{ℕ, ℤ, pos, ◌-ℤ◌, Bool, true, false, if◌then◌else◌, List, [], ◌∷◌, codes, nat_lt, nat_le}
+use Rattle.std.specs.Str.{is_utf8}
 use Rattle.wasm_encoder_base.specs.Table.{Entry, Row}
 use Rattle.wasm_encoder_base.specs.Table as rows
 use Rattle.wat.specs.Tokens.{Literal}
@@ -50,9 +51,13 @@ module _ {N P : Type 0} where
   abbrev pub instruction : Syntax N P (Instruction N P)
   instruction = seen instruction_of (next (op []) (λ e. operands e.0.row) row_starts true row_stops)
 
+  -- NAMES (6.3.4): strings that are UTF-8
+  abbrev pub name : Syntax N P (List ℕ)
+  name = only is_utf8 string
+
   -- FUNCTIONS (6.6): (func (export name)* instruction*)
   abbrev pub export : Syntax N P (List ℕ)
-  export = group (codes "export") string
+  export = group (codes "export") name
 
   abbrev pub func_of : P × (List (List ℕ) × List (Instruction N P)) → Func N P
   func_of f = record { place = f.0; exports = f.1.0; body = f.1.1 }

@@ -1,5 +1,6 @@
 -- What the grammar sees of the code's trees.
 use Rattle.std.specs.Prelude.{ℕ, List, map}
+use Rattle.std.specs.Cow.{cow_str_bytes}
 use Rattle.wasm_encoder_base.specs.Table.{Entry}
 use Rattle.wat.specs.Profile.{nop_entry, drop_entry, i32_const_entry}
 use Rattle.wat.specs.Tree.{Operands, NoOperands, I32}
@@ -39,7 +40,7 @@ abbrev pub instruction_tree : Instr → spec.Instruction (List ℕ) ℕ
 instruction_tree i = record { place = i.span.offset; entry = entry_of (mnemonic_of i.kind); operands = operands_tree i.kind }
 
 abbrev pub export_tree : Export → List ℕ
-export_tree e = e.name.now
+export_tree e = cow_str_bytes e.name
 
 abbrev pub func_tree : Func → spec.Func (List ℕ) ℕ
 func_tree f = record { place = f.span.offset; exports = map export_tree f.exports.items; body = map instruction_tree f.body.items }

@@ -10,13 +10,13 @@ ghost use Rattle.wat.specs.Trees.{module_tree};
 use crate::encode::encode;
 use crate::error::Error;
 use crate::fault::Fault;
-use crate::lexer::{LexFault, tokens};
+use crate::lex_error::text_of;
 use crate::parse_fault::ParseFault;
-use crate::span::Span;
 use crate::syntax::parse_module;
 use crate::tree::Module;
 use std::alloc::Global;
 use wasm_encoder_base::EncodeError;
+use wast_lexer::{LexFault, Lexer, Span, TokenTable};
 
 /// The binary of the module that a text spells.
 ///
@@ -29,7 +29,7 @@ pub fn assemble(alloc: Global, input: &[u8]) -> Result<Vec<u8>, Fault>
     ensures too_long { Fails input.now TooLong → result ≡ Err Fault.TooLong }
     ensures not_utf8 { (n : ℕ) → Fails input.now (NotUtf8 n) → result ≡ Err (Fault.NotUtf8 n) }
 {
-    let text = match text_of(input) {
+    let text = match utf8_of(input) {
         Ok(text) => text,
         Err(fault) => return Err(fault),
     };
@@ -45,7 +45,7 @@ pub fn assemble(alloc: Global, input: &[u8]) -> Result<Vec<u8>, Fault>
 }
 
 /// The input as a text; takes no memory.
-fn text_of(input: &[u8]) -> Result<&str, Fault>
+fn utf8_of(input: &[u8]) -> Result<&str, Fault>
     ensures { MatchResult result (λ text. (text.now ≡ input.now) × (length input.now < 2 ^ 32) × IsUtf8 input.now) (λ fault. IsNoText input.now fault) }
 {
     if input.len() > 4294967295 {
@@ -61,14 +61,21 @@ fn text_of(input: &[u8]) -> Result<&str, Fault>
 
 /// The module that a text spells.
 pub(crate) fn module_of(alloc: Global, text: &str) -> Result<Module<'_>, Fault>
+    requires { length text.now < 2 ^ 32 }
     ensures { MatchResult result (λ m. Spells text.now (module_tree m)) (λ fault. IsUnspelled text.now fault) }
 {
-    let tokens = match tokens(alloc, text) {
-        Ok(tokens) => tokens,
-        Err(LexFault::Memory) => return Err(Fault::Memory),
-        Err(LexFault::Lex { offset }) => return Err(misspelled(alloc, offset, "unexpected token")),
+    let table = match TokenTable::new(alloc, Lexer::new(text)) {
+        Ok(table) => table,
+        Err(_) => return Err(Fault::Memory),
     };
-    match parse_module(alloc, text, tokens.as_slice()) {
+    match table.fault() {
+        None => {}
+        Some(LexFault::Memory) => return Err(Fault::Memory),
+        Some(LexFault::Lex { span, error }) => {
+            return Err(misspelled(alloc, span.offset(), text_of(*error)));
+        }
+    }
+    match parse_module(alloc, text, &table) {
         Ok(module) => Ok(module),
         Err(ParseFault::Memory) => Err(Fault::Memory),
         Err(ParseFault::Refused { offset, expected }) => Err(misspelled(

@@ -187,7 +187,7 @@ fn put_export(sink: &mut Vec<u8>, export: &Export) -> Result<(), EncodeError>
 }
 
 /// The exports that stand in the functions.
-fn exports_of<'a>(alloc: Global, funcs: &[Func<'a>]) -> Result<Vec<Export<'a>>, AllocError>
+fn exports_of<'t>(alloc: Global, funcs: &'t [Func<'_>]) -> Result<Vec<Export<'t>>, AllocError>
     ensures { IfOk result (λ v. map export_view v.items ≡ exports_from 0 (map func_tree funcs.now)) }
 {
     let mut exports = Vec::new(alloc);
@@ -199,16 +199,16 @@ fn exports_of<'a>(alloc: Global, funcs: &[Func<'a>]) -> Result<Vec<Export<'a>>, 
 
 /// Adds the exports of the function at an index.
 #[tactic(auto, unfolding(crate::specs::Encoding::export_view))]
-fn push_exports<'a>(
-    exports: &mut Vec<Export<'a>>,
-    names: &[tree::Export<'a>],
+fn push_exports<'t>(
+    exports: &mut Vec<Export<'t>>,
+    names: &'t [tree::Export<'_>],
     index: usize,
 ) -> Result<(), AllocError>
     ensures { OnOk result (map export_view exports.new.items ≡ map export_view exports.old.items ++ map (λ e. export_of index (export_tree e)) names.now) }
 {
     for name in names {
         exports.push(Export {
-            name: name.name,
+            name: name.name.as_str(),
             index,
         })?;
     }

@@ -1,11 +1,12 @@
 //! The encoder at the forms that WebAssembly 3.0 gives.
 
 use crate::encode::encode;
-use crate::span::Span;
 use crate::tree::{Export, Func, Instr, Instruction, Module};
 use std::alloc::{AllocError, Global};
+use std::borrow::CowStr;
 use std::process::Abort;
 use std::test::Fail;
+use wast_lexer::Span;
 
 fn func<'a>(
     alloc: Global,
@@ -15,15 +16,17 @@ fn func<'a>(
     let mut instrs = Vec::new(alloc);
     for kind in body {
         instrs.push(Instr {
-            span: Span { offset: 0 },
+            span: Span::from_offset(0),
             kind: *kind,
         })?;
     }
     Ok(Func {
-        span: Span { offset: 0 },
+        span: Span::from_offset(0),
         exports: exports
             .iter()
-            .map(|name| Export { name: *name })
+            .map(|name| Export {
+                name: CowStr::Borrowed(*name),
+            })
             .collect(alloc)?,
         body: instrs,
     })
@@ -32,7 +35,7 @@ fn func<'a>(
 /// Asserts that the binary of these functions is the header and these bytes.
 fn encodes(rt: &impl Abort, alloc: Global, funcs: Vec<Func>, sections: &[u8]) -> Result<(), Fail> {
     let tree = Module {
-        span: Span { offset: 0 },
+        span: Span::from_offset(0),
         funcs,
     };
     let binary = encode(alloc, &tree)?;

@@ -3,10 +3,10 @@
 ghost use Rattle.std.specs.Prelude.{◌≡◌, IfOk, string_bytes};
 ghost use Rattle.wat.specs.Complaint.{Complaint};
 
-use crate::span::Span;
 use std::alloc::{AllocError, Global};
 use std::fmt;
 use std::marker::Model;
+use wast_lexer::Span;
 
 /// What is wrong with a text, and where.
 ///

@@ -1,7 +1,7 @@
 //! Why no binary was made or written.
 
 use crate::error::Error;
-use crate::span::Span;
+use wast_lexer::Span;
 
 /// Why no binary was made, read or written.
 ///

@@ -1,12 +1,12 @@
 //! Laws over the definitions that the contract of `assemble` cites: functions without parameters whose contracts are the laws. They
 //! do nothing.
 
-ghost use Rattle.wat.specs.Laws.{OneTiling, OneTree, OneMeaning, OneReading, OneBinary, EqualBinaries, OneSection};
+ghost use Rattle.wat.specs.Laws.{StringValue, OneTree, OneMeaning, OneReading, OneBinary, EqualBinaries, OneSection};
 ghost use Rattle.wat.specs.Headline.{OneVerdict};
 
-/// A text is at most one list of tokens.
-pub fn one_tiling()
-    ensures { OneTiling }
+/// The bytes that a string stands for are those that the definition of tokens reads.
+pub fn string_value()
+    ensures { StringValue }
 {}
 
 /// No tokens spell two modules, places included.

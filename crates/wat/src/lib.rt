@@ -7,7 +7,7 @@ mod encode;
 mod error;
 mod fault;
 pub mod laws;
-mod lexer;
+mod lex_error;
 mod literal;
 mod mnemonic;
 mod parse;
@@ -16,9 +16,7 @@ mod parser;
 mod program;
 mod renderer;
 mod runner;
-mod span;
 mod syntax;
-mod token;
 mod tree;
 
 pub use assembler::assemble;
@@ -28,7 +26,7 @@ pub use fault::Fault;
 pub use program::run_program;
 pub use renderer::render;
 pub use runner::run;
-pub use span::Span;
+pub use wast_lexer::Span;
 
 #[cfg(test)]
 mod encode_tests;

@@ -14,6 +14,8 @@ pub enum Expected {
     Export,
     Instruction,
     String,
+    /// A string that is UTF-8.
+    Name,
     /// A literal of 32 bits.
     I32,
     End,
@@ -30,6 +32,7 @@ impl Expected {
             Expected::Export => "expected `export`",
             Expected::Instruction => "expected an instruction",
             Expected::String => "expected a string",
+            Expected::Name => "expected a string of UTF-8",
             Expected::I32 => "expected a literal of 32 bits",
             Expected::End => "expected the end of the text",
         }

@@ -1,46 +1,50 @@
 //! A parser: the tokens of a text, and how many of them are taken.
-ghost use Rattle.std.specs.Prelude.{◌≡◌, ◌+◌, List, [], ◌∷◌, Some, slice_range, IfSome, IfNone};
-ghost use Rattle.wat.specs.declared.token.TokenKind.TheVariants.{String};
-ghost use Rattle.wat.specs.Tokens.{between_quotes};
-ghost use Rattle.wat.specs.Reading.{State, IsCut, AreCut, IsNext, ahead, place_ahead, is_nil, Keeps, Gives};
-ghost use Rattle.wat.specs.Grammar.{ask, word, string, op, one_of, that_open, that_close, this_group};
-ghost use Rattle.wat.specs.Syntax.{instruction_starts, i32_literal};
+ghost use Rattle.std.specs.Prelude.{◌≡◌, ◌+◌, List, [], ◌∷◌, Some, slice_range, IfSome, IfNone, IfOk};
+ghost use Rattle.std.specs.Cow.{cow_str_bytes};
+ghost use Rattle.std.specs.List.{All};
+ghost use Rattle.std.specs.Str.{is_utf8};
+ghost use Rattle.wast_lexer.specs.declared.token.TokenKind.TheVariants as kinds;
+ghost use Rattle.wast_lexer.specs.Readers.{IsOf, text_of};
+ghost use Rattle.wat.specs.Tokens.{literal, string_value};
+ghost use Rattle.wat.specs.Reading.{State, IsNext, IsTextOf, ahead, place_ahead, is_nil, is_trivia, literal_of, Keeps, Gives};
+ghost use Rattle.wat.specs.Grammar.{ask, word, op, one_of, that_open, that_close, this_group};
+ghost use Rattle.wat.specs.Syntax.{instruction_starts, i32_literal, name};
 ghost use Rattle.wat.specs.Trees.{entry_of};
 
 use crate::literal::i32_of;
 use crate::mnemonic::Mnemonic;
 use crate::parse_fault::{Expected, ParseFault};
-use crate::span::Span;
-use crate::token::{Token, TokenKind};
-use std::alloc::Global;
+use std::alloc::{AllocError, Global};
+use std::borrow::{CowSlice, CowStr};
 use std::marker::Model;
+use wast_lexer::{Integer, IntegerKind, Span, Token, TokenKind, TokenTable};
 
 #[derive(Drop)]
 pub struct Parser<'a, 't> {
     alloc: Global,
     text: &'a str,
-    tokens: &'t [Token],
+    table: &'t TokenTable,
     at: usize,
 }
 
 impl<'a, 't> Model for Parser<'a, 't> {
     ghost Value = { State };
 
-    ghost view = { λ p. record { text = p.text.now; tokens = p.tokens.now; at = p.at } };
+    ghost view = { λ p. record { text = p.text.now; tokens = p.table.now.tokens.items; at = p.at } };
 
-    ghost invariant = { λ p. AreCut p.text.now p.tokens.now };
+    ghost invariant = { λ p. All (IsOf p.text.now) p.table.now.tokens.items };
 }
 
 impl<'a, 't> Parser<'a, 't> {
     /// Before the first token.
-    pub fn new(alloc: Global, text: &'a str, tokens: &'t [Token]) -> Parser<'a, 't>
-        requires { AreCut text.now tokens.now }
-        ensures { result ≡ record { text = text.now; tokens = tokens.now; at = 0 } }
+    pub fn new(alloc: Global, text: &'a str, table: &'t TokenTable) -> Parser<'a, 't>
+        requires { All (IsOf text.now) table.now.tokens.items }
+        ensures { result ≡ record { text = text.now; tokens = table.now.tokens.items; at = 0 } }
     {
         Parser {
             alloc,
             text,
-            tokens,
+            table,
             at: 0,
         }
     }
@@ -161,15 +165,23 @@ impl<'a, 't> Parser<'a, 't> {
         })
     }
 
-    /// Takes a string.
-    pub fn string(&mut self) -> Result<&'a str, ParseFault>
-        ensures read { Gives (λ s. s.now) result self.new (string.reads (ahead self.old)) }
+    /// Takes a name.
+    pub fn name(&mut self) -> Result<CowStr<'a, Global>, ParseFault>
+        ensures read { Gives cow_str_bytes result self.new (name.reads (ahead self.old)) }
         ensures keeps { Keeps self.old self.new }
     {
         match self.next() {
             Some((token, after)) if token.kind == TokenKind::String => {
-                self.at = after;
-                Ok(self.between_quotes(token))
+                match self.text_of(token)? {
+                    Some(name) => {
+                        self.at = after;
+                        Ok(name)
+                    }
+                    None => Err(ParseFault::Refused {
+                        offset: self.offset(),
+                        expected: Expected::Name,
+                    }),
+                }
             }
             _ => Err(ParseFault::Refused {
                 offset: self.offset(),
@@ -184,8 +196,8 @@ impl<'a, 't> Parser<'a, 't> {
         ensures keeps { Keeps self.old self.new }
     {
         if let Some((token, after)) = self.next()
-            && token.kind == TokenKind::Integer
-            && let Some(number) = i32_of(self.bytes(token))
+            && let TokenKind::Integer(kind) = token.kind
+            && let Some(number) = i32_of(self.integer(token, kind))
         {
             self.at = after;
             return Ok(number);
@@ -198,19 +210,37 @@ impl<'a, 't> Parser<'a, 't> {
 
     /// The bytes of a token.
     fn bytes(&self, token: Token) -> &'a [u8]
-        requires { IsCut self.now.text token }
-        ensures { result.now ≡ slice_range self.now.text token.offset (token.offset + token.len) }
+        requires { IsOf self.now.text token }
+        ensures { result.now ≡ text_of self.now.text token }
     {
-        &self.text.as_bytes()[token.offset..token.offset + token.len]
+        token.src(self.text).as_bytes()
     }
 
-    /// What stands between the quotes of a string.
-    fn between_quotes(&self, token: Token) -> &'a str
-        requires lexeme { IsCut self.now.text token }
-        requires quoted { token.kind ≡ String }
-        ensures { result.now ≡ between_quotes (slice_range self.now.text token.offset (token.offset + token.len)) }
+    /// The parts of an integer.
+    fn integer(&self, token: Token, kind: IntegerKind) -> Integer<'a>
+        requires own { IsOf self.now.text token }
+        requires kind { token.kind ≡ kinds.Integer kind }
+        ensures { literal_of result ≡ literal kind (text_of self.now.text token) }
     {
-        &self.text[token.offset + 1..token.offset + token.len - 1]
+        token.integer(self.text, kind)
+    }
+
+    /// The text that a string stands for, where it is one; borrowed where nothing is escaped.
+    fn text_of(&self, token: Token) -> Result<Option<CowStr<'a, Global>>, AllocError>
+        requires own { IsOf self.now.text token }
+        requires kind { token.kind ≡ kinds.String }
+        ensures { IfOk result (IsTextOf (string_value (text_of self.now.text token))) }
+    {
+        match token.string(self.alloc, self.text)?.into_cow() {
+            CowSlice::Borrowed(bytes) => match str::from_utf8(bytes) {
+                Ok(text) => Ok(Some(CowStr::Borrowed(text))),
+                Err(_) => Ok(None),
+            },
+            CowSlice::Owned(bytes) => match String::from_utf8(bytes) {
+                Ok(text) => Ok(Some(CowStr::Owned(text))),
+                Err(_) => Ok(None),
+            },
+        }
     }
 
     /// The next significant token, and how many tokens are taken with it.
@@ -227,13 +257,22 @@ impl<'a, 't> Parser<'a, 't> {
         ensures none { IfNone result (ahead (record self.now { at = from }) ≡ []) }
     {
         let mut after = from;
-        while after < self.tokens.len() {
-            let token = self.tokens[after];
+        while let Some(token) = self.table.get(after) {
             after += 1;
-            if token.kind != TokenKind::Whitespace {
+            if !is_trivia(token.kind) {
                 return Some((token, after));
             }
         }
         None
     }
+}
+
+/// Whether a token is white space or a comment.
+fn is_trivia(kind: TokenKind) -> bool
+    ensures { result ≡ is_trivia kind }
+{
+    matches!(
+        kind,
+        TokenKind::Whitespace | TokenKind::LineComment | TokenKind::BlockComment
+    )
 }

@@ -2,14 +2,14 @@
 
 ghost use Rattle.std.specs.Prelude.{◌≡◌, ◌++◌, take, drop, replicate, encode_utf8_all, string_bytes, IfOk, OnOk};
 ghost use Rattle.std.specs.Str.{IsCharBoundary, IsUtf8};
-ghost use Rattle.wat.specs.Span.{column_of};
+ghost use Rattle.wast_lexer.specs.Span.{column_of};
 ghost use Rattle.wat.specs.Render.{caret, excerpt, first_line, in_four_places, is_left_out, line_at, location, place_lines, place_of, rendering, shown, snippet, until_line_feed, without_return};
 
 use crate::fault::Fault;
-use crate::span::Span;
 use memchr::memchr;
 use std::alloc::{AllocError, Global};
 use unicode_width::UnicodeWidthStr;
+use wast_lexer::Span;
 
 /// What is wrong, and, where the fault has a place in the input, a line of it with a caret below that place. Fails only
 /// where no memory is found.

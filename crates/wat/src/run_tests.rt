@@ -5,13 +5,13 @@ use crate::counted::Counted;
 use crate::error::Error;
 use crate::fault::Fault;
 use crate::runner::run_into;
-use crate::span::Span;
 use crate::{render, run, run_program};
 use std::alloc::Global;
 use std::io;
 use std::io::{ErrorKind, Read, Write};
 use std::process::Abort;
 use std::test::Fail;
+use wast_lexer::Span;
 
 /// Gives one byte a call; the call before which so many succeeded fails.
 #[derive(Drop)]

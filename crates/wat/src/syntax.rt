@@ -1,6 +1,8 @@
 //! The productions.
 ghost use Rattle.std.specs.Prelude.{◌≡◌, ℕ, List, codes, IfOk, IfErr};
-ghost use Rattle.wat.specs.Reading.{State, AreCut, ahead, Keeps, Gives, NoneSpelled, significant_of};
+ghost use Rattle.std.specs.List.{All};
+ghost use Rattle.wast_lexer.specs.Readers.{IsOf};
+ghost use Rattle.wat.specs.Reading.{State, ahead, Keeps, Gives, NoneSpelled, significant_of};
 ghost use Rattle.wat.specs.Grammar.{Syntax, Test, ask, Shrinks};
 ghost use Rattle.wat.specs.Syntax.{instruction_starts, export_starts, func_starts, operands, instruction, export, func, module_syntax};
 ghost use Rattle.wat.specs.Trees.{entry_of, mnemonic_of, operands_tree, instruction_tree, export_tree, func_tree, module_tree};
@@ -10,21 +12,21 @@ use crate::mnemonic::Mnemonic;
 use crate::parse::{Item, Meaning, Parse, list_of};
 use crate::parse_fault::{Expected, ParseFault};
 use crate::parser::Parser;
-use crate::token::Token;
 use crate::tree::{Export, Func, Instr, Instruction, Module};
 use std::alloc::Global;
+use wast_lexer::TokenTable;
 
 /// The module that the tokens of a text spell, all of them.
 pub fn parse_module<'a>(
     alloc: Global,
     text: &'a str,
-    tokens: &[Token],
+    table: &TokenTable,
 ) -> Result<Module<'a>, ParseFault>
-    requires { AreCut text.now tokens.now }
-    ensures ok { IfOk result (λ m. module_syntax.spells (module_tree m) (significant_of text.now tokens.now)) }
-    ensures refused { IfErr result (λ e. NoneSpelled module_syntax text.now tokens.now e) }
+    requires { All (IsOf text.now) table.now.tokens.items }
+    ensures ok { IfOk result (λ m. module_syntax.spells (module_tree m) (significant_of text.now table.now.tokens.items)) }
+    ensures refused { IfErr result (λ e. NoneSpelled module_syntax text.now table.now.tokens.items e) }
 {
-    let mut parser = Parser::new(alloc, text, tokens);
+    let mut parser = Parser::new(alloc, text, table);
     let module = Module::parse(&mut parser)?;
     if !parser.is_done() {
         return Err(ParseFault::Refused {
@@ -102,7 +104,7 @@ impl<'a> Parse<'a> for Export<'a> {
     fn parse(parser: &mut Parser<'a, '_>) -> Result<Self, ParseFault> {
         parser.open()?;
         parser.word("export", Expected::Export)?;
-        let name = parser.string()?;
+        let name = parser.name()?;
         parser.close()?;
         Ok(Export { name })
     }

@@ -1,8 +1,7 @@
 //! Texts and their binaries, by the WebAssembly specification; nothing here is taken from this program's output.
 
 use crate::assembler::module_of;
-use crate::literal::i32_of;
-use crate::tree::Instruction;
+use crate::tree::{Instr, Instruction, Module};
 use crate::{Fault, Span, assemble};
 use std::alloc::Global;
 use std::process::Abort;
@@ -15,6 +14,14 @@ fn gives(rt: &impl Abort, alloc: Global, text: &str, sections: &[u8]) -> Result<
     assert_eq!(rt; &binary[..8], b"\0asm\x01\0\0\0".as_slice(), "{text}");
     assert_eq!(rt; &binary[8..], sections, "{text}");
     Ok(())
+}
+
+/// The tree that a text spells.
+fn tree_of(alloc: Global, text: &str) -> Result<Module<'_>, Fault> {
+    if text.len() > 4294967295 {
+        return Err(Fault::TooLong);
+    }
+    module_of(alloc, text)
 }
 
 /// Asserts that a text spells no module, and where.
@@ -100,11 +107,153 @@ fn misspelled(rt: HostRuntime) -> Result<(), Fail> {
         ),
         ("(module (func (export a)))", 22, "expected a string"),
         ("(module (func nop (export \"a\")))", 18, "expected `)`"),
-        ("(module (func nop\"a\"))", 14, "unexpected token"),
-        ("(module (; a comment ;))", 9, "unexpected token"),
-        ("(module (func $f))", 14, "unexpected token"),
+        ("(module (func nop\"a\"))", 14, "expected `)`"),
+        ("(module (func $f))", 14, "expected `)`"),
+        ("(module (@a))", 8, "expected `)`"),
+        (
+            "(module (func i32.const 1.5))",
+            24,
+            "expected a literal of 32 bits",
+        ),
+        (
+            "(module (func i32.const 1__0))",
+            24,
+            "expected a literal of 32 bits",
+        ),
+        (
+            "(module (func i32.const 0x))",
+            24,
+            "expected a literal of 32 bits",
+        ),
+        (
+            "(module (func i32.const 0x1_0000_0000))",
+            24,
+            "expected a literal of 32 bits",
+        ),
+        ("(module ,)", 8, "expected `)`"),
+        (
+            "(module (func (export \"\\ff\")))",
+            22,
+            "expected a string of UTF-8",
+        ),
+        (
+            "(module (func (export \"\\c3\")))",
+            22,
+            "expected a string of UTF-8",
+        ),
+        (
+            "(module (func (export \"\\q\")))",
+            22,
+            "invalid string escape",
+        ),
+        ("(component (; ;)) (; ", 18, "unterminated block comment"),
+        (
+            "(module (; \u{202e} ;))",
+            8,
+            "likely-confusing unicode character",
+        ),
+        (
+            "(module) ;; \u{202e}",
+            9,
+            "likely-confusing unicode character",
+        ),
+        (
+            "(module (func (export \"\u{202e}\")))",
+            22,
+            "likely-confusing unicode character",
+        ),
     ] {
         is_misspelled(&rt, rt.alloc(), text, offset, message)?;
+    }
+    Ok(())
+}
+
+/// The sections of one function without exports and instructions.
+const ONE_FUNCTION: [u8; 16] = [1, 4, 1, 0x60, 0, 0, 3, 2, 1, 0, 0x0a, 4, 1, 2, 0, 0x0b];
+
+#[test]
+fn comments(rt: HostRuntime) -> Result<(), Fail> {
+    for text in [
+        "(module (; a comment ;))",
+        ";; a comment\n(module)",
+        "(module);; a comment",
+        "(module;;)\r)",
+        "(;;)(;(;;);)(module(; \u{e9} ;));;",
+    ] {
+        gives(&rt, rt.alloc(), text, &[])?;
+    }
+    for text in [
+        "(module (; x ;) (func))",
+        "(module (;x;)((;y;)func(;z;)))",
+        ";; one\r\n(module ;; two\n (func ;; three (func)\n))",
+    ] {
+        gives(&rt, rt.alloc(), text, &ONE_FUNCTION)?;
+    }
+    Ok(())
+}
+
+#[test]
+fn many_comments(rt: HostRuntime) -> Result<(), Fail> {
+    let mut text = String::from_str(rt.alloc(), "(module ")?;
+    for _ in 0..100000 {
+        text.push_str("(;")?;
+    }
+    for _ in 0..100000 {
+        text.push_str(";)")?;
+    }
+    for _ in 0..100000 {
+        text.push_str("(;;) ")?;
+    }
+    text.push_str(")")?;
+    gives(&rt, rt.alloc(), text.as_str(), &[])
+}
+
+#[test]
+fn names(rt: HostRuntime) -> Result<(), Fail> {
+    for text in [
+        "(module (func (export \"\u{e9}\")))",
+        "(module (func (export \"\\c3\\a9\")))",
+        "(module (func (export \"\\u{e9}\")))",
+        "(module (func (export \"\\u{0_0E9}\")))",
+    ] {
+        gives(
+            &rt,
+            rt.alloc(),
+            text,
+            &[
+                1, 4, 1, 0x60, 0, 0, 3, 2, 1, 0, 7, 6, 1, 2, 0xc3, 0xa9, 0, 0, 0x0a, 4, 1, 2, 0,
+                0x0b,
+            ],
+        )?;
+    }
+    gives(
+        &rt,
+        rt.alloc(),
+        "(module (func (export \"\")(export \"\\t\\n\\r\\\"\\'\\\\\\00\")))",
+        &[
+            1, 4, 1, 0x60, 0, 0, 3, 2, 1, 0, 7, 0x0e, 2, 0, 0, 0, 7, 9, 10, 13, 34, 39, 92, 0, 0,
+            0, 0x0a, 4, 1, 2, 0, 0x0b,
+        ],
+    )
+}
+
+#[test]
+fn digits(rt: HostRuntime) -> Result<(), Fail> {
+    for text in [
+        "(module (func i32.const 0xffff_ffff drop))",
+        "(module (func i32.const 0xFFffFFff drop))",
+        "(module (func i32.const -0x1 drop))",
+        "(module (func i32.const -0_001 drop))",
+        "(module (func i32.const +4_294_967_295 drop))",
+    ] {
+        gives(
+            &rt,
+            rt.alloc(),
+            text,
+            &[
+                1, 4, 1, 0x60, 0, 0, 3, 2, 1, 0, 0x0a, 7, 1, 5, 0, 0x41, 0x7f, 0x1a, 0x0b,
+            ],
+        )?;
     }
     Ok(())
 }
@@ -126,14 +275,14 @@ fn no_text(rt: HostRuntime) {
 #[test]
 fn trees(rt: HostRuntime) -> Result<(), Fail> {
     let text = "(module\n  (func (export \"a\") nop i32.const -1 drop))";
-    let tree = module_of(rt.alloc(), text)?;
+    let tree = tree_of(rt.alloc(), text)?;
     assert_eq!(rt; tree.span, Span::from_offset(1));
     assert_eq!(rt; tree.funcs.len(), 1);
     let func = tree.funcs.first().ok_or("a function")?;
     assert_eq!(rt; func.span.offset(), 11);
     assert_eq!(rt; func.span.linecol_in(text), (1, 3));
     assert_eq!(rt; func.exports.len(), 1);
-    assert!(rt; func.exports.iter().all(|e| e.name == "a"));
+    assert!(rt; func.exports.iter().all(|e| e.name.as_str() == "a"));
     assert_eq!(rt; func.body.len(), 3);
     for (instr, kind) in func.body.iter().zip([
         Instruction::Nop,
@@ -145,8 +294,28 @@ fn trees(rt: HostRuntime) -> Result<(), Fail> {
     Ok(())
 }
 
+/// The number of the only instruction of the only function; `None` where the text spells no module.
+fn number_of(alloc: Global, literal: &str) -> Result<Option<i32>, Fail> {
+    let text = format!(in alloc; "(module (func i32.const {literal}))")?;
+    match tree_of(alloc, text.as_str()) {
+        Err(_) => Ok(None),
+        Ok(tree) => {
+            let func = tree.funcs.first().ok_or("a function")?;
+            match func.body.first() {
+                Some(
+                    Instr {
+                        kind: Instruction::I32Const(value),
+                        ..
+                    },
+                ) => Ok(Some(*value)),
+                _ => Ok(None),
+            }
+        }
+    }
+}
+
 #[test]
-fn literals(rt: HostRuntime) {
+fn literals(rt: HostRuntime) -> Result<(), Fail> {
     for (literal, value) in [
         ("0", 0),
         ("+7", 7),
@@ -154,12 +323,24 @@ fn literals(rt: HostRuntime) {
         ("2147483648", -2147483648),
         ("4294967295", -1),
         ("-2147483648", -2147483648),
+        ("1_000", 1000),
+        ("0xaF", 175),
+        ("+0x7fff_ffff", 2147483647),
+        ("-0x8000_0000", -2147483648),
+        ("00000000000000000000000000001", 1),
     ] {
-        assert_eq!(rt; i32_of(literal.as_bytes()), Some(value), "{literal}");
+        assert_eq!(rt; number_of(rt.alloc(), literal)?, Some(value), "{literal}");
     }
-    for literal in ["4294967296", "-2147483649", "99999999999999999999999"] {
-        assert_eq!(rt; i32_of(literal.as_bytes()), None, "{literal}");
+    for literal in [
+        "4294967296",
+        "-2147483649",
+        "99999999999999999999999",
+        "0x1_0000_0000",
+        "-0x8000_0001",
+    ] {
+        assert_eq!(rt; number_of(rt.alloc(), literal)?, None, "{literal}");
     }
+    Ok(())
 }
 
 #[test]

@@ -1,5 +1,7 @@
 //! Modules as they are written.
-use crate::span::Span;
+use std::alloc::Global;
+use std::borrow::CowStr;
+use wast_lexer::Span;
 
 #[derive(Drop, Debug)]
 pub struct Module<'a> {
@@ -17,9 +19,9 @@ pub struct Func<'a> {
 }
 
 /// A name under which a function is exported.
-#[derive(Clone, Copy, Debug)]
+#[derive(Drop, Debug)]
 pub struct Export<'a> {
-    pub name: &'a str,
+    pub name: CowStr<'a, Global>,
 }
 
 /// An instruction, and where its mnemonic stands.

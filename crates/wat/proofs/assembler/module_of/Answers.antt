@@ -1,15 +1,23 @@
-use Rattle.std.proofs.Common.{map}
-use Rattle.wat.specs.Lexeme.{lexeme_of}
-use Rattle.wat.proofs.Laid.{tiles_are_cut}
+use Rattle.std.proofs.Common.{◌≡◌, false, Some, map, subst, sym, ◌∙◌, ap}
+use Rattle.wast_lexer.specs.declared.fault.LexFault.TheVariants.{Lex}
+use Rattle.wast_lexer.specs.Lexeme.{lexeme_of}
+use Rattle.wast_lexer.specs.Table.{IsTable}
 use Rattle.wat.proofs.Verdict.{spelled_by_none}
+use Rattle.wat.proofs.Stops.{table_tiles, table_stops}
 use Rattle.wat.proofs.Deserved.{unspelled}
 use Rattle.wat.proofs.assembler.module_of.Goals as goal
 
-pub parse_module-requires : goal.parse_module-requires
-parse_module-requires c = rw c.as_slice.ensures.value (tiles_are_cut c.args.text.now c.in-Ok.tokens.items c.in-Ok.ensures.tiled c.in-Ok.ensures.within)
+pub returns-in-Some-Lex : goal.returns-in-Some-Lex
+returns-in-Some-Lex c =
+    let text = c.args.text.now in
+    let is = subst (λ allow. IsTable allow text c.in-Ok.table.tokens.items c.in-Ok.table.fault) c.new.ensures.allow (subst (λ t. IsTable c.new.result.allow t c.in-Ok.table.tokens.items c.in-Ok.table.fault) c.new.ensures.input c.in-Ok.ensures.table) in
+    let fault : c.in-Ok.table.fault ≡ Some (Lex c.in-Some-Lex.span c.in-Some-Lex.error) = sym c.in-Some-Lex.ensures ∙ ap Some c.in-Some-Lex.field-0-is in
+    unspelled text c.misspelled.result c.misspelled.ensures (λ tree s. table_stops false text c.in-Ok.table.tokens.items c.in-Ok.table.fault c.in-Some-Lex.span c.in-Some-Lex.error is fault s.tokens s.tiled)
 
 pub returns : goal.returns
 returns c =
-    let none = rw (c.in-Err-Refused.field-0-is, c.as_slice.ensures.value) at c.in-Err-Refused.ensures.refused in
-    unspelled c.args.text.now c.misspelled-in-Err-Refused.result c.misspelled-in-Err-Refused.ensures
-    (spelled_by_none c.args.text.now (map (lexeme_of c.args.text.now) c.in-Ok.tokens.items) c.in-Ok.ensures.tiled none.0)
+    let text = c.args.text.now in
+    let is = subst (λ allow. IsTable allow text c.in-Ok.table.tokens.items c.in-Ok.table.fault) c.new.ensures.allow (subst (λ t. IsTable c.new.result.allow t c.in-Ok.table.tokens.items c.in-Ok.table.fault) c.new.ensures.input c.in-Ok.ensures.table) in
+    let none = rw c.in-Err-Refused.field-0-is at c.in-Err-Refused.ensures.refused in
+    unspelled text c.misspelled-in-Err-Refused.result c.misspelled-in-Err-Refused.ensures
+    (spelled_by_none text (map (lexeme_of text) c.in-Ok.table.tokens.items) (table_tiles false text c.in-Ok.table.tokens.items c.in-Ok.table.fault is (sym c.in-None.ensures)) none.0)

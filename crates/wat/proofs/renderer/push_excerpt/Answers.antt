@@ -1,6 +1,6 @@
 use Rattle.std.proofs.Common.{arith, string_bytes, ◌∙◌, ap}
 use Rattle.std.proofs.lemmas.Result.{on_ok_weaker}
-use Rattle.wat.specs.Span.{line_of, column_of}
+use Rattle.wast_lexer.specs.Span.{line_of, column_of}
 use Rattle.wat.proofs.Lines.{line_of-le, column_of-le}
 use Rattle.wat.proofs.Shown.{excerpt_pieces}
 use Rattle.wat.proofs.renderer.push_excerpt.Goals as goal
