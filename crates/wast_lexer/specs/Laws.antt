@@ -1,8 +1,21 @@
 -- The laws of tokens.
-use Rattle.std.specs.Prelude.{◌≡◌, ℕ, Bool, List}
+use Rattle.std.specs.Prelude.{◌≡◌, ℕ, Bool, true, List, [], ◌∷◌, ◌++◌, encode_utf8}
+use Rattle.std.specs.List.{list_all}
+use Rattle.wast_lexer.specs.declared.token.TokenKind.{TokenKind}
+use Rattle.wast_lexer.specs.Kinds.{starts_refused}
 use Rattle.wast_lexer.specs.Lexeme.{Lexeme}
-use Rattle.wast_lexer.specs.Tiling.{Tiles}
+use Rattle.wast_lexer.specs.Tiling.{Begins, Tiles}
 
 -- a text is at most one list of tokens, with one setting for the refused characters
 abbrev pub OneTiling : Type 0
 OneTiling = (allow opened : Bool) (from : ℕ) (text : List ℕ) (ts us : List Lexeme) → Tiles allow opened from text ts → Tiles allow opened from text us → ts ≡ us
+
+-- at most one token begins a text, whatever follows it
+abbrev pub OneToken : Type 0
+OneToken =
+    (allow opened : Bool) (j k : TokenKind) (v w r s : List ℕ) → Begins allow opened j v r → Begins allow opened k w s → v ++ r ≡ w ++ s → (j ≡ k) × (v ≡ w) × (r ≡ s)
+
+-- the bytes of the nine characters are refused
+abbrev pub NineAreRefused : Type 0
+NineAreRefused =
+    list_all (λ c. starts_refused (encode_utf8 c)) (0x202A ∷ 0x202B ∷ 0x202D ∷ 0x202E ∷ 0x2066 ∷ 0x2067 ∷ 0x2068 ∷ 0x2069 ∷ 0x206C ∷ []) ≡ true

@@ -368,7 +368,7 @@ fn texts_of_faults(rt: HostRuntime) -> Result<(), Fail> {
 /// binary.
 #[test]
 fn refused_growths(rt: HostRuntime) -> Result<(), Fail> {
-    let text = "(module (func (export \"a\") nop i32.const 1 drop) (func (export \"b\")))";
+    let text = "(module (func (export \"a\") nop i32.const 1 drop) (func (export \"\\62\")))";
     match assemble(rt.alloc(), text.as_bytes()) {
         Ok(binary) => assert_eq!(rt; binary.len(), 43),
         Err(fault) => {
