@@ -1,6 +1,6 @@
 //! Readers of tokens.
 
-ghost use Rattle.std.specs.Prelude.{◌≡◌, ◌≢◌, ◌≤◌, ℕ, List, [], IfOk, IfErr, MatchOption, length, drop, true, false};
+ghost use Rattle.std.specs.Prelude.{IsOk, ◌≡◌, ◌≢◌, ◌≤◌, ℕ, List, [], IfOk, IfErr, MatchOption, length, drop, true, false};
 ghost use Rattle.std.specs.Str.{IsUtf8};
 ghost use Rattle.std.specs.Cow.{cow_str_bytes, IsBorrowedStr};
 ghost use Rattle.wast_lexer_strings.specs.Strings.{IsString};
@@ -47,11 +47,12 @@ impl Token {
         self.src(text)
     }
 
-    /// The bytes that a string stands for, borrowed where nothing is escaped.
+    /// The bytes that a string stands for, borrowed where nothing is escaped: no memory is then wanted.
     pub fn string<'a>(&self, alloc: Global, text: &'a str) -> Result<Bytes<'a>, AllocError>
         requires own { IsOf text.now self.now }
         requires kind { self.now.kind ≡ String }
-        ensures { IfOk result (λ b. IsString (text_of text.now self.now) b) }
+        ensures value { IfOk result (λ b. IsString (text_of text.now self.now) b) }
+        ensures plain { is_plain (text_of text.now self.now) ≡ true → IsOk result }
     {
         let word = self.src(text).as_bytes();
         match plain_string(word) {
