@@ -11,7 +11,7 @@ pub enum Mnemonic {
     I32Const,
 }
 
-/// The mnemonics in the order of the table.
+/// The mnemonics in the order of the profile.
 const MNEMONICS: [Mnemonic; 3] = [Mnemonic::Nop, Mnemonic::Drop, Mnemonic::I32Const];
 
 impl Mnemonic {
