@@ -1,6 +1,6 @@
 -- The examples, computed.
 use Rattle.std.proofs.Common.{refl, arith}
-use Rattle.wasm_encoder_base.specs.Leb.{uleb, leb, digits}
+use Rattle.wasm_encoder_bytes.specs.Leb.{uleb, leb, digits}
 use Rattle.wasm_encoder_base.specs.Table.{table}
 use Rattle.wasm_encoder_base.specs.Instr.{row_at}
 use Rattle.wasm_encoder_base.specs.Examples.{CallIndirect, BrTable, Load, BrOnCast, Try, Float}

@@ -1,11 +1,11 @@
 pub mod Examples
-pub mod LebSteps
 pub mod Mapped
-pub mod ReadSteps
-pub mod Shortest
-pub mod UniqueBytes
 pub mod UniqueInstr
-pub mod UniqueLeb
 pub mod UniqueOperands
-pub mod UniqueParts
 pub mod UniqueTypes
+pub use Rattle.wasm_encoder_bytes.proofs.LebSteps
+pub use Rattle.wasm_encoder_bytes.proofs.ReadSteps
+pub use Rattle.wasm_encoder_bytes.proofs.Shortest
+pub use Rattle.wasm_encoder_bytes.proofs.UniqueBytes
+pub use Rattle.wasm_encoder_bytes.proofs.UniqueLeb
+pub use Rattle.wasm_encoder_bytes.proofs.UniqueParts

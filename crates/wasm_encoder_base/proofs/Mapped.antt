@@ -1,8 +1,8 @@
 -- Lists spelled through a view.
 use Rattle.std.proofs.Common.{ℕ, suc, ◌≡◌, List, [], ◌∷◌, ◌++◌, length, map, refl, ap, ◌∙◌, flat_map, append_assoc}
 use Rattle.std.specs.Prelude.{Result, Ok, Err, OnOk}
-use Rattle.wasm_encoder_base.specs.Leb.{uleb}
-use Rattle.wasm_encoder_base.specs.Bytes.{counted}
+use Rattle.wasm_encoder_bytes.specs.Leb.{uleb}
+use Rattle.wasm_encoder_bytes.specs.Bytes.{counted}
 
 length_view : {A B : Type 0} (view : A → B) (xs : List A) → length xs ≡ length (map view xs)
 length_view view [] = refl

@@ -5,14 +5,14 @@ use Rattle.std.proofs.lemmas.List.{append_cancel_right}
 use Rattle.std.specs.Cmp.Lexicographic.{same_text as text_equal}
 use Rattle.std.specs.List.{AllByRecursion}
 use Rattle.std.specs.Option.{option_map}
-use Rattle.wasm_encoder_base.specs.Leb.{uleb, leb, digits}
+use Rattle.wasm_encoder_bytes.specs.Leb.{uleb, leb, digits}
 use Rattle.wasm_encoder_base.specs.Instr.{Instr, Kind, Nothing, kind_of, kind_of_row, operand_bytes, instr_bytes, expr_bytes, row_among, row_at, kind_at, IsInstr}
 use Rattle.wasm_encoder_base.specs.Balanced.{Turn, Opens, Closes, Stays, turn_of, turned, IsBalanced}
 use Rattle.wasm_encoder_base.specs.Table.{Entry, Row, table, same_text}
 use Rattle.wasm_encoder_base.specs.Distinct.{opcodes, mnemonics, single_mnemonic, are_distinct, begins, apart_from, are_apart}
-use Rattle.wasm_encoder_base.specs.Unique.{Unique, Injective}
+use Rattle.wasm_encoder_bytes.specs.Unique.{Unique, Injective}
 use Rattle.wasm_encoder_base.proofs.UniqueOperands.{operands_one}
-use Rattle.wasm_encoder_base.proofs.UniqueParts.{cons_head, cons_tail, append_cancel, injective_all}
+use Rattle.wasm_encoder_bytes.proofs.UniqueParts.{cons_head, cons_tail, append_cancel, injective_all}
 
 pub opcodes-apart : are_apart (opcodes table) ≡ true
 unfolding table uleb leb digits

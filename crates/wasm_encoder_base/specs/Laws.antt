@@ -1,41 +1,14 @@
 -- The laws that the crate's law functions prove.
-use Rattle.std.specs.Prelude.{ℕ, ◌≡◌, List, length, true, filter}
+use Rattle.std.specs.Prelude.{◌≡◌, length, true, filter}
 use Rattle.std.specs.List.{AllByRecursion}
-use Rattle.wasm_encoder_base.specs.Leb.{uleb, sleb}
-use Rattle.wasm_encoder_base.specs.Decodes.{IsShortest, unsigned_of, signed_of}
-use Rattle.wasm_encoder_base.specs.Bytes.{counted, sized}
 use Rattle.wasm_encoder_base.specs.Types.{heap_bytes, ref_bytes, val_bytes, field_bytes, func_bytes, sub_bytes}
 use Rattle.wasm_encoder_base.specs.Instr.{IsInstr, instr_bytes, expr_bytes}
 use Rattle.wasm_encoder_base.specs.Balanced.{IsBalanced}
 use Rattle.wasm_encoder_base.specs.Table.{table}
 use Rattle.wasm_encoder_base.specs.Distinct.{opcodes, mnemonics, single_mnemonic, are_distinct, are_apart}
-use Rattle.wasm_encoder_base.specs.Unique.{Unique, Any}
+use Rattle.wasm_encoder_bytes.specs.Unique.{Unique, Any}
 
--- `spell` gives the byte list that decodes to the number and than which no shorter one does, and no other list is that.
-pub record IsTheShortest {A : Type 0} (decode : List ℕ → A) (spell : A → List ℕ) : Type 0 where
-  pub shortest : (n : A) → IsShortest decode n (spell n)
-  pub only : (n : A) (bytes : List ℕ) → IsShortest decode n bytes → bytes ≡ spell n
-
-abbrev pub ShortestUnsigned : Type 0
-ShortestUnsigned = IsTheShortest unsigned_of uleb
-
-abbrev pub ShortestSigned : Type 0
-ShortestSigned = IsTheShortest signed_of sleb
-
--- Numbers, names and lists of numbers are told apart by their bytes, whatever follows.
-abbrev pub OneUnsigned : Type 0
-OneUnsigned = Unique Any uleb
-
-abbrev pub OneSigned : Type 0
-OneSigned = Unique Any sleb
-
-abbrev pub OneName : Type 0
-OneName = Unique Any sized
-
-abbrev pub OneList : Type 0
-OneList = Unique (AllByRecursion Any) (counted uleb)
-
--- The same of types.
+-- Types are told apart by their bytes, whatever follows.
 abbrev pub OneHeapType : Type 0
 OneHeapType = Unique Any heap_bytes
 

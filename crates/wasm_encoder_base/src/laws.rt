@@ -1,22 +1,13 @@
 //! Laws of the spellings: functions without parameters whose contracts are the laws. They do nothing.
 
 ghost use Rattle.wasm_encoder_base.specs.Examples.{CallIndirect, BrTable, Load, BrOnCast, Try, Float};
-ghost use Rattle.wasm_encoder_base.specs.Laws.{ShortestUnsigned, ShortestSigned, OneUnsigned, OneSigned, OneName, OneList, OneHeapType, OneRefType, OneValType, OneFieldType, OneFuncType, OneSubType, OneInstruction, OneExpression, EntryCount, OpcodesDistinct, OpcodesApart, MnemonicsDistinct};
+ghost use Rattle.std.specs.Prelude.{◌≡◌, ◌∷◌, []};
+ghost use Rattle.wasm_encoder_base.specs.Types.{ref_bytes};
+ghost use Rattle.wasm_encoder_base.specs.Views.{ref_view};
+ghost use Rattle.wasm_encoder_base.specs.Laws.{OneHeapType, OneRefType, OneValType, OneFieldType, OneFuncType, OneSubType, OneInstruction, OneExpression, EntryCount, OpcodesDistinct, OpcodesApart, MnemonicsDistinct};
 
-/// What is written for a number is the byte list that decodes to it and than which no shorter one does,
-/// unsigned and signed; no other byte list is that.
-pub fn shortest()
-    ensures unsigned { ShortestUnsigned }
-    ensures signed { ShortestSigned }
-{}
-
-/// Numbers, names and lists of numbers are told apart by their bytes, whatever follows these.
-pub fn one_reading()
-    ensures unsigned { OneUnsigned }
-    ensures signed { OneSigned }
-    ensures names { OneName }
-    ensures lists { OneList }
-{}
+use crate::types::RefType;
+pub use wasm_encoder_bytes::laws::{one_reading, shortest};
 
 /// Types are told apart by their bytes, whatever follows these.
 pub fn one_type()
@@ -26,6 +17,14 @@ pub fn one_type()
     ensures field_types { OneFieldType }
     ensures function_types { OneFuncType }
     ensures sub_types { OneSubType }
+{}
+
+/// The constants of [`RefType`](crate::RefType) are the short forms of the text format: `funcref`, `externref`
+/// and `exnref`.
+pub fn short_forms()
+    ensures funcref { ref_bytes (ref_view RefType.FUNCREF) ≡ 0x70 ∷ [] }
+    ensures externref { ref_bytes (ref_view RefType.EXTERNREF) ≡ 0x6F ∷ [] }
+    ensures exnref { ref_bytes (ref_view RefType.EXNREF) ≡ 0x69 ∷ [] }
 {}
 
 /// Instructions are told apart by their bytes, whatever follows these; so are expressions, whose last byte

@@ -4,26 +4,17 @@
 //! Every LEB128 that is written is the shortest one.
 #![tactic(auto)]
 
-mod encode;
-mod error;
-mod ieee;
-mod items;
 pub mod laws;
-mod leb;
-mod reading;
 mod section;
 mod types;
 
-pub use encode::Encode;
-pub use error::EncodeError;
-pub use ieee::{Ieee32, Ieee64};
-pub use items::{Bytes, Items};
-pub use leb::encoding_size;
-pub use reading::{read_s33, read_u32};
 pub use section::{Section, SectionId};
 pub use types::{
     AbstractHeapType, ArrayType, CompositeType, FieldType, FuncType, HeapType, RefType,
     StorageType, StructType, SubType, ValType,
+};
+pub use wasm_encoder_bytes::{
+    Bytes, Encode, EncodeError, Ieee32, Ieee64, Items, encoding_size, read_s33, read_u32,
 };
 
 #[cfg(test)]

@@ -2,7 +2,7 @@
 
 ghost use Rattle.std.specs.Prelude.{◌≡◌, ℕ};
 
-use crate::encode::Encode;
+use wasm_encoder_bytes::Encode;
 
 /// The kinds of sections; each number is the section's first byte.
 #[derive(Clone, Copy, Debug, PartialEq, Eq, Hash)]

@@ -4,10 +4,8 @@ ghost use Rattle.std.specs.Prelude.{◌≡◌, ◌∷◌, [], IfOk};
 ghost use Rattle.wasm_encoder_base.specs.Types.{abstract_heap_byte, heap_bytes, ref_bytes, val_bytes, storage_bytes, field_bytes, func_bytes, struct_bytes, array_bytes, composite_bytes, supertype_bytes, sub_bytes};
 ghost use Rattle.wasm_encoder_base.specs.Views.{abstract_view, heap_view, ref_view, val_view, storage_view, field_view, func_view, struct_view, array_view, composite_view, sub_view, func_fits, struct_fits, composite_fits};
 
-use crate::encode::{Encode, encode_both};
-use crate::error::EncodeError;
-use crate::items::Items;
 use std::alloc::{AllocError, Global};
+use wasm_encoder_bytes::{Encode, EncodeError, Items, encode_both};
 
 /// A heap type with a name of its own; each number is its byte.
 #[derive(Clone, Copy, Debug, PartialEq, Eq, Hash)]

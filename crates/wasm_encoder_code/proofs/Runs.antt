@@ -57,10 +57,10 @@ type_self (Reference r) = rw (flag_self r.nullable, heap_self r.heap_type) refl
 run : ℕ → ValType → Run
 run n t = record { count = n; val_type = t }
 
-joins_same : (t u : ValType) (n : ℕ) (rs : List Run) → same_type t u ≡ true → joins t (record { count = n; val_type = u } ∷ rs) ≡ record { count = n + 1; val_type = u } ∷ rs
+pub joins_same : (t u : ValType) (n : ℕ) (rs : List Run) → same_type t u ≡ true → joins t (record { count = n; val_type = u } ∷ rs) ≡ record { count = n + 1; val_type = u } ∷ rs
 joins_same t u n rs e = rw (e, joins) refl
 
-joins_other : (t u : ValType) (n : ℕ) (rs : List Run) → same_type t u ≡ false → joins t (record { count = n; val_type = u } ∷ rs) ≡ record { count = 1; val_type = t } ∷ record { count = n; val_type = u } ∷ rs
+pub joins_other : (t u : ValType) (n : ℕ) (rs : List Run) → same_type t u ≡ false → joins t (record { count = n; val_type = u } ∷ rs) ≡ record { count = 1; val_type = t } ∷ record { count = n; val_type = u } ∷ rs
 joins_other t u n rs e = rw (e, joins) refl
 
 leading_same : (t u : ValType) (us : List ValType) → same_type t u ≡ true → leading t (u ∷ us) ≡ suc (leading t us)

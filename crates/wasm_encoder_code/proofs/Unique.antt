@@ -1,5 +1,5 @@
 -- Bodies and expressions are told apart by their bytes.
-use Rattle.std.proofs.Common.{ℕ, zero, suc, ◌≡◌, ◌+◌, Bool, true, false, List, [], ◌∷◌, ◌++◌, refl, sym, ap, ◌∙◌, add-one, flat_map}
+use Rattle.std.proofs.Common.{ℕ, List, refl, sym, ◌∙◌}
 use Rattle.wasm_encoder_base.specs.Instr.{expr_bytes}
 use Rattle.wasm_encoder_base.specs.Types.{ValType}
 use Rattle.wasm_encoder_base.specs.Unique.{Unique, Injective, Any}
@@ -8,37 +8,14 @@ use Rattle.wasm_encoder_base.proofs.UniqueInstr.{injective_expr, unique_expr}
 use Rattle.wasm_encoder_base.proofs.UniqueLeb.{unique_uleb}
 use Rattle.wasm_encoder_base.proofs.UniqueParts.{unique_pair, unique_via, unique_where, injective_pair, injective_via, injective_where, injective_of}
 use Rattle.wasm_encoder_base.proofs.UniqueTypes.{unique_val}
-use Rattle.wasm_encoder_code.specs.Body.{Run, Body, IsBody, joins, joined, same_type, run_bytes, locals_bytes, body_bytes}
+use Rattle.wasm_encoder_code.specs.Body.{Run, Body, IsBody, joined, apart, run_bytes, locals_bytes, body_bytes}
 use Rattle.wasm_encoder_code.specs.Laws.{IsOneToOne, IsExpression, OneBody, OneExpression}
-use Rattle.wasm_encoder_code.proofs.Runs.{type_one}
+use Rattle.wasm_encoder_code.proofs.JoinedRuns.{joined-apart}
 
 unique_run : Unique Any run_bytes
 unique_run =
     unique_where (λ r _. (tt, tt))
     (unique_via {A = Run} (λ r. (r.count, r.val_type)) (λ p. record { count = p.0; val_type = p.1 }) (λ r. refl) (unique_pair unique_uleb unique_val))
-
--- the locals are had back from their runs
-repeated : ℕ → ValType → List ValType
-repeated zero t = []
-repeated (suc n) t = t ∷ repeated n t
-
-apart : List Run → List ValType
-apart rs = flat_map (λ r. repeated r.count r.val_type) rs
-
-joins-by : (b : Bool) (t : ValType) (r : Run) (rs : List Run) → same_type t r.val_type ≡ b → apart (elim b as (λ _. List Run) [ true ↦ record { count = r.count + 1; val_type = r.val_type } ∷ rs | false ↦ record { count = 1; val_type = t } ∷ r ∷ rs ]) ≡ t ∷ apart (r ∷ rs)
-unfolding apart repeated
-joins-by true t r rs e = ap (λ n. repeated n r.val_type ++ apart rs) (add-one r.count) ∙ ap (λ v. v ∷ (repeated r.count r.val_type ++ apart rs)) (sym (type_one t r.val_type e))
-joins-by false t r rs e = refl
-
-joins-apart : (t : ValType) (rs : List Run) → apart (joins t rs) ≡ t ∷ apart rs
-unfolding apart repeated
-joins-apart t [] = refl
-joins-apart t (r ∷ rs) = joins-by (same_type t r.val_type) t r rs refl
-
-joined-apart : (ts : List ValType) → apart (joined ts) ≡ ts
-unfolding apart
-joined-apart [] = refl
-joined-apart (t ∷ ts) = joins-apart t (joined ts) ∙ ap (λ v. t ∷ v) (joined-apart ts)
 
 pub unique_locals : Unique Any locals_bytes
 unique_locals = unique_where (λ _ _. tt) (unique_via {A = List ValType} joined apart joined-apart (unique_list unique_run))

@@ -3,7 +3,8 @@ use Rattle.std.specs.Prelude.{ℕ, ◌≡◌, List, drop}
 use Rattle.std.specs.List.{AllByRecursion}
 use Rattle.wasm_encoder_base.specs.Balanced.{IsBalanced}
 use Rattle.wasm_encoder_base.specs.Instr.{Instr, IsInstr, expr_bytes}
-use Rattle.wasm_encoder_code.specs.Body.{Body, IsBody, body_bytes, place_of}
+use Rattle.wasm_encoder_base.specs.Types.{ValType}
+use Rattle.wasm_encoder_code.specs.Body.{Run, AreRuns, joined, apart, Body, IsBody, body_bytes, place_of}
 
 -- b is the spelling of x, which meets P
 pub record IsSpelling {A : Type 0} (P : A → Type 0) (spell : A → List ℕ) (b : List ℕ) (x : A) : Type 0 where
@@ -29,3 +30,15 @@ OneExpression = IsOneToOne IsExpression expr_bytes
 -- At the place of instruction k the bytes of it and of those after it begin, up to the end.
 abbrev pub PlaceBegins : Type 0
 PlaceBegins = (b : Body) (k : ℕ) → drop (place_of b k) (body_bytes b) ≡ expr_bytes (drop k b.instructions)
+
+-- Joined locals are runs with positive counts, neighbours of different types, which stand for these locals.
+pub record IsJoined (ts : List ValType) : Type 0 where
+  pub runs : AreRuns (joined ts)
+  pub locals : apart (joined ts) ≡ ts
+
+abbrev pub LocalsJoined : Type 0
+LocalsJoined = (ts : List ValType) → IsJoined ts
+
+-- And every such list of runs is had by joining the locals that it stands for.
+abbrev pub RunsJoined : Type 0
+RunsJoined = (rs : List Run) → AreRuns rs → joined (apart rs) ≡ rs

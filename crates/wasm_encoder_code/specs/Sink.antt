@@ -5,7 +5,7 @@ use Rattle.std.specs.Borrow.{RestsIfErr, Fml, u8}
 use Rattle.std.specs.contracts.vec.Vec as vec
 use Rattle.std.specs.contracts.alloc.Global as global
 use Rattle.std.specs.contracts.impls.GlobalAllocator.TheImpl.{ghosts}
-use Rattle.wasm_encoder_base.specs.declared.error.EncodeError.{EncodeError}
+use Rattle.wasm_encoder_base.specs.EncodeError.{EncodeError}
 use Rattle.wasm_encoder_code.specs.declared.sink.InstructionSink.{InstructionSink}
 
 -- a vector of bytes, as the logic names it

@@ -1,7 +1,7 @@
 //! Laws of the bytes of bodies and expressions: functions without parameters whose contracts are the laws.
 //! They do nothing.
 
-ghost use Rattle.wasm_encoder_code.specs.Laws.{OneBody, OneExpression, PlaceBegins};
+ghost use Rattle.wasm_encoder_code.specs.Laws.{OneBody, OneExpression, LocalsJoined, RunsJoined, PlaceBegins};
 
 /// A body has one byte string, and one byte string is that of at most one body.
 pub fn one_body()
@@ -16,4 +16,11 @@ pub fn one_expression()
 /// An instruction of a body begins at its place: after the locals and the instructions before it.
 pub fn places()
     ensures { PlaceBegins }
+{}
+
+/// Joining locals gives runs with positive counts, neighbours of different types, that stand for these locals; and
+/// it gives every such list of runs. So a body of such runs is that of its locals, joined.
+pub fn runs()
+    ensures locals_joined { LocalsJoined }
+    ensures runs_joined { RunsJoined }
 {}

@@ -19,4 +19,8 @@ pub use wasm_encoder_instr::{
 };
 
 #[cfg(test)]
+mod const_expr_tests;
+#[cfg(test)]
+mod sink_tests;
+#[cfg(test)]
 mod tests;

@@ -8,7 +8,7 @@ use wasm_encoder_base::{Encode, EncodeError, HeapType, Ieee32, Ieee64};
 use wasm_encoder_instr::{BlockType, GcOp, Instruction, NumericOp, VectorArgOp};
 
 /// Appends instructions to a vector of bytes; its calls chain. A refused call leaves the vector as it was.
-#[derive(Drop)]
+#[derive(Debug, Drop)]
 pub struct InstructionSink<'a> {
     sink: &'a mut Vec<u8>,
 }

@@ -2,37 +2,8 @@
 use Rattle.std.proofs.Common.{◌≡◌, Some, refl}
 use Rattle.wasm_encoder_base.specs.Leb.{uleb, leb, digits}
 use Rattle.wasm_encoder_base.specs.Table.{table}
-use Rattle.wasm_encoder_base.specs.Instr.{Nothing, OfMemory, kind_at, kind_of, row_at}
-use Rattle.wasm_encoder_instr.specs.Compare.{compare_opcode}
-use Rattle.wasm_encoder_instr.specs.declared.compare.CompareOp.{CompareOp}
-use Rattle.wasm_encoder_instr.specs.declared.compare.CompareOp.TheVariants.{I32Eqz}
-use Rattle.wasm_encoder_instr.specs.Numeric.{numeric_opcode}
-use Rattle.wasm_encoder_instr.specs.declared.numeric.NumericOp.{NumericOp}
-use Rattle.wasm_encoder_instr.specs.declared.numeric.NumericOp.TheVariants.{I32Clz}
-use Rattle.wasm_encoder_instr.specs.Convert.{convert_opcode}
-use Rattle.wasm_encoder_instr.specs.declared.convert.ConvertOp.{ConvertOp}
-use Rattle.wasm_encoder_instr.specs.declared.convert.ConvertOp.TheVariants.{I32WrapI64}
-use Rattle.wasm_encoder_instr.specs.Vector.{vector_opcode}
-use Rattle.wasm_encoder_instr.specs.declared.vector.VectorOp.{VectorOp}
-use Rattle.wasm_encoder_instr.specs.declared.vector.VectorOp.TheVariants.{I8x16Swizzle}
-use Rattle.wasm_encoder_instr.specs.VectorNarrow.{vector_narrow_opcode}
-use Rattle.wasm_encoder_instr.specs.declared.vector_narrow.VectorNarrowOp.{VectorNarrowOp}
-use Rattle.wasm_encoder_instr.specs.declared.vector_narrow.VectorNarrowOp.TheVariants.{I8x16Abs}
-use Rattle.wasm_encoder_instr.specs.VectorWide.{vector_wide_opcode}
-use Rattle.wasm_encoder_instr.specs.declared.vector_wide.VectorWideOp.{VectorWideOp}
-use Rattle.wasm_encoder_instr.specs.declared.vector_wide.VectorWideOp.TheVariants.{I32x4Abs}
-use Rattle.wasm_encoder_instr.specs.VectorFloat.{vector_float_opcode}
-use Rattle.wasm_encoder_instr.specs.declared.vector_float.VectorFloatOp.{VectorFloatOp}
-use Rattle.wasm_encoder_instr.specs.declared.vector_float.VectorFloatOp.TheVariants.{F32x4Abs}
-use Rattle.wasm_encoder_instr.specs.Access.{access_opcode}
-use Rattle.wasm_encoder_instr.specs.declared.access.AccessOp.{AccessOp}
-use Rattle.wasm_encoder_instr.specs.declared.access.AccessOp.TheVariants.{I32Load}
-use Rattle.wasm_encoder_instr.specs.Atomic.{atomic_opcode}
-use Rattle.wasm_encoder_instr.specs.declared.atomic.AtomicOp.{AtomicOp}
-use Rattle.wasm_encoder_instr.specs.declared.atomic.AtomicOp.TheVariants.{MemoryAtomicNotify}
-use Rattle.wasm_encoder_instr.specs.AtomicRmw.{atomic_rmw_opcode}
-use Rattle.wasm_encoder_instr.specs.declared.atomic_rmw.AtomicRmwOp.{AtomicRmwOp}
-use Rattle.wasm_encoder_instr.specs.declared.atomic_rmw.AtomicRmwOp.TheVariants.{I32AtomicRmwAdd}
+use Rattle.wasm_encoder_base.specs.Instr.{kind_at, kind_of, row_at}
+use Rattle.wasm_encoder_opcodes.proofs.InTable.{compare_listed, numeric_listed, convert_listed, vector_listed, vector_narrow_listed, vector_wide_listed, vector_float_listed, access_listed, atomic_listed, atomic_rmw_listed}
 use Rattle.wasm_encoder_instr.specs.Bulk.{bulk_view}
 use Rattle.wasm_encoder_instr.specs.declared.bulk.BulkOp.{BulkOp}
 use Rattle.wasm_encoder_instr.specs.declared.bulk.BulkOp.TheVariants as bulk_ops
@@ -45,56 +16,6 @@ use Rattle.wasm_encoder_instr.specs.declared.vector_arg.VectorArgOp.TheVariants 
 use Rattle.wasm_encoder_instr.specs.Instruction.{instr_view}
 use Rattle.wasm_encoder_instr.specs.declared.instruction.Instruction.{Instruction}
 use Rattle.wasm_encoder_instr.specs.declared.instruction.Instruction.TheVariants as variants
-
-compare_listed : (op : CompareOp) → kind_at (compare_opcode op) ≡ Some Nothing
-unfolding row_at table uleb leb digits
-compare_listed I32Eqz = refl
-compare_listed _ = refl
-
-numeric_listed : (op : NumericOp) → kind_at (numeric_opcode op) ≡ Some Nothing
-unfolding row_at table uleb leb digits
-numeric_listed I32Clz = refl
-numeric_listed _ = refl
-
-convert_listed : (op : ConvertOp) → kind_at (convert_opcode op) ≡ Some Nothing
-unfolding row_at table uleb leb digits
-convert_listed I32WrapI64 = refl
-convert_listed _ = refl
-
-vector_listed : (op : VectorOp) → kind_at (vector_opcode op) ≡ Some Nothing
-unfolding row_at table uleb leb digits
-vector_listed I8x16Swizzle = refl
-vector_listed _ = refl
-
-vector_narrow_listed : (op : VectorNarrowOp) → kind_at (vector_narrow_opcode op) ≡ Some Nothing
-unfolding row_at table uleb leb digits
-vector_narrow_listed I8x16Abs = refl
-vector_narrow_listed _ = refl
-
-vector_wide_listed : (op : VectorWideOp) → kind_at (vector_wide_opcode op) ≡ Some Nothing
-unfolding row_at table uleb leb digits
-vector_wide_listed I32x4Abs = refl
-vector_wide_listed _ = refl
-
-vector_float_listed : (op : VectorFloatOp) → kind_at (vector_float_opcode op) ≡ Some Nothing
-unfolding row_at table uleb leb digits
-vector_float_listed F32x4Abs = refl
-vector_float_listed _ = refl
-
-access_listed : (op : AccessOp) → kind_at (access_opcode op) ≡ Some OfMemory
-unfolding row_at table uleb leb digits
-access_listed I32Load = refl
-access_listed _ = refl
-
-atomic_listed : (op : AtomicOp) → kind_at (atomic_opcode op) ≡ Some OfMemory
-unfolding row_at table uleb leb digits
-atomic_listed MemoryAtomicNotify = refl
-atomic_listed _ = refl
-
-atomic_rmw_listed : (op : AtomicRmwOp) → kind_at (atomic_rmw_opcode op) ≡ Some OfMemory
-unfolding row_at table uleb leb digits
-atomic_rmw_listed I32AtomicRmwAdd = refl
-atomic_rmw_listed _ = refl
 
 bulk_listed : (op : BulkOp) → kind_at (bulk_view op).opcode ≡ Some (kind_of (bulk_view op).operands)
 unfolding row_at table uleb leb digits

@@ -6,16 +6,16 @@ use Rattle.wasm_encoder_base.specs.Views.{val_view}
 use Rattle.wasm_encoder_instr.specs.Block.{block_view}
 use Rattle.wasm_encoder_instr.specs.Catch.{catch_view}
 use Rattle.wasm_encoder_instr.specs.MemArg.{mem_arg_view}
-use Rattle.wasm_encoder_instr.specs.Compare.{compare_opcode}
-use Rattle.wasm_encoder_instr.specs.Numeric.{numeric_opcode}
-use Rattle.wasm_encoder_instr.specs.Convert.{convert_opcode}
-use Rattle.wasm_encoder_instr.specs.Vector.{vector_opcode}
-use Rattle.wasm_encoder_instr.specs.VectorNarrow.{vector_narrow_opcode}
-use Rattle.wasm_encoder_instr.specs.VectorWide.{vector_wide_opcode}
-use Rattle.wasm_encoder_instr.specs.VectorFloat.{vector_float_opcode}
-use Rattle.wasm_encoder_instr.specs.Access.{access_opcode}
-use Rattle.wasm_encoder_instr.specs.Atomic.{atomic_opcode}
-use Rattle.wasm_encoder_instr.specs.AtomicRmw.{atomic_rmw_opcode}
+use Rattle.wasm_encoder_opcodes.specs.Compare.{compare_opcode}
+use Rattle.wasm_encoder_opcodes.specs.Numeric.{numeric_opcode}
+use Rattle.wasm_encoder_opcodes.specs.Convert.{convert_opcode}
+use Rattle.wasm_encoder_opcodes.specs.Vector.{vector_opcode}
+use Rattle.wasm_encoder_opcodes.specs.VectorNarrow.{vector_narrow_opcode}
+use Rattle.wasm_encoder_opcodes.specs.VectorWide.{vector_wide_opcode}
+use Rattle.wasm_encoder_opcodes.specs.VectorFloat.{vector_float_opcode}
+use Rattle.wasm_encoder_opcodes.specs.Access.{access_opcode}
+use Rattle.wasm_encoder_opcodes.specs.Atomic.{atomic_opcode}
+use Rattle.wasm_encoder_opcodes.specs.AtomicRmw.{atomic_rmw_opcode}
 use Rattle.wasm_encoder_instr.specs.Bulk.{bulk_view}
 use Rattle.wasm_encoder_instr.specs.Gc.{gc_view}
 use Rattle.wasm_encoder_instr.specs.VectorArg.{vector_arg_view, can_encode_vector_arg}

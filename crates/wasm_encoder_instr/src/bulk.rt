@@ -2,9 +2,9 @@ ghost use Rattle.std.specs.Prelude.{◌≡◌, ◌++◌, OnOk, OnErr, IsErrOf, L
 ghost use Rattle.wasm_encoder_base.specs.Instr.{instr_bytes};
 ghost use Rattle.wasm_encoder_instr.specs.Bulk.{bulk_view};
 
-use crate::prefixed::Prefixed;
 use crate::put::{put_three, put_two};
 use wasm_encoder_base::{Encode, EncodeError};
+use wasm_encoder_opcodes::Prefixed;
 
 /// Bulk instructions on memories and tables, with their operands: opcodes FC 8 to 17.
 #[derive(Clone, Copy, Debug)]

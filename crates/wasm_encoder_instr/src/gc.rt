@@ -2,9 +2,9 @@ ghost use Rattle.std.specs.Prelude.{◌≡◌, ◌++◌, OnOk, OnErr, IsErrOf, L
 ghost use Rattle.wasm_encoder_base.specs.Instr.{instr_bytes};
 ghost use Rattle.wasm_encoder_instr.specs.Gc.{gc_view};
 
-use crate::prefixed::Prefixed;
 use crate::put::{put_cast, put_three, put_two};
 use wasm_encoder_base::{Encode, EncodeError, HeapType, RefType};
+use wasm_encoder_opcodes::Prefixed;
 
 /// References, structures and arrays, with their operands: opcodes D0 to D6 and FB.
 #[derive(Clone, Copy, Debug)]

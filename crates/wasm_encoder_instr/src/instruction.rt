@@ -2,25 +2,18 @@ ghost use Rattle.std.specs.Prelude.{◌≡◌, ◌++◌, OnOk, OnErr, IsErrOf, L
 ghost use Rattle.wasm_encoder_base.specs.Instr.{instr_bytes};
 ghost use Rattle.wasm_encoder_instr.specs.Instruction.{instr_view, can_encode_instr, fits_instr};
 
-use crate::access::AccessOp;
-use crate::atomic::AtomicOp;
-use crate::atomic_rmw::AtomicRmwOp;
 use crate::block::BlockType;
 use crate::bulk::BulkOp;
 use crate::catch::Catch;
-use crate::compare::CompareOp;
-use crate::convert::ConvertOp;
 use crate::gc::GcOp;
 use crate::mem_arg::MemArg;
-use crate::numeric::NumericOp;
-use crate::prefixed::Prefixed;
 use crate::put::{put_catches, put_three, put_two, put_types};
-use crate::vector::VectorOp;
 use crate::vector_arg::VectorArgOp;
-use crate::vector_float::VectorFloatOp;
-use crate::vector_narrow::VectorNarrowOp;
-use crate::vector_wide::VectorWideOp;
 use wasm_encoder_base::{Encode, EncodeError, Ieee32, Ieee64, Items, ValType};
+use wasm_encoder_opcodes::{
+    AccessOp, AtomicOp, AtomicRmwOp, CompareOp, ConvertOp, NumericOp, Prefixed, VectorFloatOp,
+    VectorNarrowOp, VectorOp, VectorWideOp,
+};
 
 /// An instruction (WebAssembly 3.0, 5.4). Those of one family stand behind a variant of their own.
 #[derive(Debug, Drop)]

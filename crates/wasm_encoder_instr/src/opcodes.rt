@@ -1,7 +1,9 @@
 //! One vector for each opcode, from the tables of the WebAssembly Core Specification 3.0, 5.4, and of the
 //! threads, relaxed vector and wide arithmetic instructions.
 
+ghost use Rattle.std.specs.Prelude.{IsTrue};
 ghost use Rattle.wasm_encoder_instr.specs.Instruction.{can_encode_instr};
+ghost use Rattle.wasm_encoder_instr.specs.VectorArg.{can_encode_vector_arg};
 
 use crate::{
     AccessOp, AtomicOp, AtomicRmwOp, BlockType, BulkOp, Catch, CompareOp, ConvertOp, GcOp,
@@ -13,12 +15,54 @@ use wasm_encoder_base::{
     AbstractHeapType, Encode, HeapType, Ieee32, Ieee64, Items, RefType, ValType,
 };
 
-/// Whether these bytes are the instruction's.
-fn spells(alloc: Global, instruction: &Instruction, bytes: &[u8]) -> bool
-    requires { can_encode_instr instruction.now }
-{
+/// Whether the instruction can be encoded and these bytes are its own.
+fn spells(alloc: Global, instruction: &Instruction, bytes: &[u8]) -> bool {
     let mut sink = Vec::new(alloc);
-    instruction.encode(&mut sink).is_ok() && sink.as_slice() == bytes
+    is_encodable(instruction) && instruction.encode(&mut sink).is_ok() && sink.as_slice() == bytes
+}
+
+/// Whether `encode` takes the instruction: its memory argument, if it has one, has an alignment whose logarithm is below 16.
+fn is_encodable(instruction: &Instruction) -> bool
+    ensures { IsTrue result → can_encode_instr instruction.now }
+{
+    match instruction {
+        Instruction::Access(_, memarg)
+        | Instruction::Atomic(_, memarg)
+        | Instruction::AtomicRmw(_, memarg) => memarg.align < 16,
+        Instruction::VectorArg(op) => is_encodable_vector_arg(op),
+        _ => true,
+    }
+}
+
+/// The same of the vector instructions with operands.
+fn is_encodable_vector_arg(op: &VectorArgOp) -> bool
+    ensures { IsTrue result → can_encode_vector_arg op.now }
+{
+    match op {
+        VectorArgOp::V128Load(memarg)
+        | VectorArgOp::V128Load8x8S(memarg)
+        | VectorArgOp::V128Load8x8U(memarg)
+        | VectorArgOp::V128Load16x4S(memarg)
+        | VectorArgOp::V128Load16x4U(memarg)
+        | VectorArgOp::V128Load32x2S(memarg)
+        | VectorArgOp::V128Load32x2U(memarg)
+        | VectorArgOp::V128Load8Splat(memarg)
+        | VectorArgOp::V128Load16Splat(memarg)
+        | VectorArgOp::V128Load32Splat(memarg)
+        | VectorArgOp::V128Load64Splat(memarg)
+        | VectorArgOp::V128Store(memarg)
+        | VectorArgOp::V128Load32Zero(memarg)
+        | VectorArgOp::V128Load64Zero(memarg)
+        | VectorArgOp::V128Load8Lane { memarg, .. }
+        | VectorArgOp::V128Load16Lane { memarg, .. }
+        | VectorArgOp::V128Load32Lane { memarg, .. }
+        | VectorArgOp::V128Load64Lane { memarg, .. }
+        | VectorArgOp::V128Store8Lane { memarg, .. }
+        | VectorArgOp::V128Store16Lane { memarg, .. }
+        | VectorArgOp::V128Store32Lane { memarg, .. }
+        | VectorArgOp::V128Store64Lane { memarg, .. } => memarg.align < 16,
+        _ => true,
+    }
 }
 
 #[test]
@@ -559,6 +603,7 @@ fn opcodes_atomic(rt: HostRuntime) {
             "{op:?}"
         );
     }
+    assert!(rt; spells(alloc, &Instruction::AtomicFence, &[0xfe, 0x03, 0x00]));
 }
 
 #[test]
@@ -633,63 +678,109 @@ fn opcodes_atomic_rmw(rt: HostRuntime) {
 }
 
 #[test]
-fn opcodes_plain(rt: HostRuntime) {
+fn opcodes_control(rt: HostRuntime) {
     let alloc = rt.alloc();
+    let labels = [1, 2];
+    let catches = [
+        Catch::One { tag: 1, label: 2 },
+        Catch::OneRef { tag: 3, label: 4 },
+        Catch::All { label: 5 },
+        Catch::AllRef { label: 6 },
+    ];
     let vectors = [
-        (Instruction::Unreachable, [0x00]),
-        (Instruction::Nop, [0x01]),
-        (Instruction::Else, [0x05]),
-        (Instruction::ThrowRef, [0x0a]),
-        (Instruction::End, [0x0b]),
-        (Instruction::Return, [0x0f]),
-        (Instruction::CatchAll, [0x19]),
-        (Instruction::Drop, [0x1a]),
+        (Instruction::Unreachable, [0x00].as_slice()),
+        (Instruction::Nop, [0x01].as_slice()),
+        (
+            Instruction::Block(BlockType::Empty),
+            [0x02, 0x40].as_slice(),
+        ),
+        (Instruction::Loop(BlockType::Empty), [0x03, 0x40].as_slice()),
+        (Instruction::If(BlockType::Empty), [0x04, 0x40].as_slice()),
+        (Instruction::Else, [0x05].as_slice()),
+        (Instruction::Throw(5), [0x08, 0x05].as_slice()),
+        (Instruction::ThrowRef, [0x0a].as_slice()),
+        (Instruction::End, [0x0b].as_slice()),
+        (Instruction::Br(5), [0x0c, 0x05].as_slice()),
+        (Instruction::BrIf(5), [0x0d, 0x05].as_slice()),
+        (
+            Instruction::BrTable(Items::borrowed(&labels), 3),
+            [0x0e, 0x02, 0x01, 0x02, 0x03].as_slice(),
+        ),
+        (Instruction::Return, [0x0f].as_slice()),
+        (Instruction::Call(5), [0x10, 0x05].as_slice()),
+        (
+            Instruction::CallIndirect {
+                type_index: 1,
+                table_index: 2,
+            },
+            [0x11, 0x01, 0x02].as_slice(),
+        ),
+        (Instruction::ReturnCall(5), [0x12, 0x05].as_slice()),
+        (
+            Instruction::ReturnCallIndirect {
+                type_index: 1,
+                table_index: 2,
+            },
+            [0x13, 0x01, 0x02].as_slice(),
+        ),
+        (Instruction::CallRef(5), [0x14, 0x05].as_slice()),
+        (Instruction::ReturnCallRef(5), [0x15, 0x05].as_slice()),
+        (
+            Instruction::TryTable(BlockType::FunctionType(7), Items::borrowed(&catches)),
+            [
+                0x1f, 0x07, 0x04, 0x00, 0x01, 0x02, 0x01, 0x03, 0x04, 0x02, 0x05, 0x03, 0x06,
+            ]
+            .as_slice(),
+        ),
     ];
     for (instruction, bytes) in vectors {
-        assert!(rt; spells(alloc, &instruction, &bytes), "{instruction:?}");
+        assert!(rt; spells(alloc, &instruction, bytes), "{instruction:?}");
     }
-    let vectors = [(Instruction::Select, [0x1b])];
+}
+
+/// The exception instructions of the earlier proposal.
+#[test]
+fn opcodes_legacy_exceptions(rt: HostRuntime) {
+    let alloc = rt.alloc();
+    let vectors = [
+        (Instruction::Try(BlockType::Empty), [0x06, 0x40].as_slice()),
+        (Instruction::Catch(5), [0x07, 0x05].as_slice()),
+        (Instruction::Rethrow(5), [0x09, 0x05].as_slice()),
+        (Instruction::Delegate(5), [0x18, 0x05].as_slice()),
+        (Instruction::CatchAll, [0x19].as_slice()),
+    ];
     for (instruction, bytes) in vectors {
-        assert!(rt; spells(alloc, &instruction, &bytes), "{instruction:?}");
+        assert!(rt; spells(alloc, &instruction, bytes), "{instruction:?}");
     }
 }
 
 #[test]
-fn opcodes_calls(rt: HostRuntime) {
+fn opcodes_parametric(rt: HostRuntime) {
     let alloc = rt.alloc();
+    let types = [ValType::I64, ValType::Ref(RefType::FUNCREF)];
     let vectors = [
-        (Instruction::Catch(5), [0x07, 0x05]),
-        (Instruction::Throw(5), [0x08, 0x05]),
-        (Instruction::Rethrow(5), [0x09, 0x05]),
-        (Instruction::Br(5), [0x0c, 0x05]),
-        (Instruction::BrIf(5), [0x0d, 0x05]),
-        (Instruction::Call(5), [0x10, 0x05]),
+        (Instruction::Drop, [0x1a].as_slice()),
+        (Instruction::Select, [0x1b].as_slice()),
+        (
+            Instruction::TypedSelect(ValType::I32),
+            [0x1c, 0x01, 0x7f].as_slice(),
+        ),
+        (
+            Instruction::TypedSelectMulti(Items::borrowed(&types)),
+            [0x1c, 0x02, 0x7e, 0x70].as_slice(),
+        ),
     ];
     for (instruction, bytes) in vectors {
-        assert!(rt; spells(alloc, &instruction, &bytes), "{instruction:?}");
+        assert!(rt; spells(alloc, &instruction, bytes), "{instruction:?}");
     }
 }
 
 #[test]
-fn opcodes_branches(rt: HostRuntime) {
+fn opcodes_variable_table_memory(rt: HostRuntime) {
     let alloc = rt.alloc();
     let vectors = [
-        (Instruction::ReturnCall(5), [0x12, 0x05]),
-        (Instruction::CallRef(5), [0x14, 0x05]),
-        (Instruction::ReturnCallRef(5), [0x15, 0x05]),
-        (Instruction::Delegate(5), [0x18, 0x05]),
         (Instruction::LocalGet(5), [0x20, 0x05]),
         (Instruction::LocalSet(5), [0x21, 0x05]),
-    ];
-    for (instruction, bytes) in vectors {
-        assert!(rt; spells(alloc, &instruction, &bytes), "{instruction:?}");
-    }
-}
-
-#[test]
-fn opcodes_variables(rt: HostRuntime) {
-    let alloc = rt.alloc();
-    let vectors = [
         (Instruction::LocalTee(5), [0x22, 0x05]),
         (Instruction::GlobalGet(5), [0x23, 0x05]),
         (Instruction::GlobalSet(5), [0x24, 0x05]),
@@ -706,81 +797,21 @@ fn opcodes_variables(rt: HostRuntime) {
 #[test]
 fn opcodes_constants(rt: HostRuntime) {
     let alloc = rt.alloc();
-    assert!(rt;
-        spells(
-            alloc,
-            &Instruction::CallIndirect {
-                type_index: 1,
-                table_index: 2
-            },
-            &[0x11, 0x01, 0x02]
-        )
-    );
-    assert!(rt;
-        spells(
-            alloc,
-            &Instruction::ReturnCallIndirect {
-                type_index: 1,
-                table_index: 2
-            },
-            &[0x13, 0x01, 0x02]
-        )
-    );
-    assert!(rt; spells(alloc, &Instruction::I32Const(-1), &[0x41, 0x7f]));
-    assert!(rt; spells(alloc, &Instruction::I64Const(64), &[0x42, 0xc0, 0x00]));
-    assert!(rt;
-        spells(
-            alloc,
-            &Instruction::F32Const(Ieee32::new(0x3f800000)),
-            &[0x43, 0x00, 0x00, 0x80, 0x3f]
-        )
-    );
-    assert!(rt;
-        spells(
-            alloc,
-            &Instruction::F64Const(Ieee64::new(0x3ff0000000000000)),
-            &[0x44, 0x00, 0x00, 0x00, 0x00, 0x00, 0x00, 0xf0, 0x3f]
-        )
-    );
-    assert!(rt;
-        spells(
-            alloc,
-            &Instruction::TypedSelect(ValType::I32),
-            &[0x1c, 0x01, 0x7f]
-        )
-    );
-    assert!(rt; spells(alloc, &Instruction::AtomicFence, &[0xfe, 0x03, 0x00]));
-}
-
-#[test]
-fn opcodes_blocks_and_lists(rt: HostRuntime) {
-    let alloc = rt.alloc();
-    let labels = [1, 2];
-    let types = [ValType::I64, ValType::Ref(RefType::FUNCREF)];
-    let catches = [
-        Catch::One { tag: 1, label: 2 },
-        Catch::OneRef { tag: 3, label: 4 },
-        Catch::All { label: 5 },
-        Catch::AllRef { label: 6 },
+    let vectors = [
+        (Instruction::I32Const(-1), [0x41, 0x7f].as_slice()),
+        (Instruction::I64Const(64), [0x42, 0xc0, 0x00].as_slice()),
+        (
+            Instruction::F32Const(Ieee32::new(0x3f800000)),
+            [0x43, 0x00, 0x00, 0x80, 0x3f].as_slice(),
+        ),
+        (
+            Instruction::F64Const(Ieee64::new(0x3ff0000000000000)),
+            [0x44, 0x00, 0x00, 0x00, 0x00, 0x00, 0x00, 0xf0, 0x3f].as_slice(),
+        ),
     ];
-    assert!(rt; spells(alloc, &Instruction::Block(BlockType::Empty), &[0x02, 0x40]));
-    assert!(rt; spells(alloc, &Instruction::Loop(BlockType::Empty), &[0x03, 0x40]));
-    assert!(rt; spells(alloc, &Instruction::If(BlockType::Empty), &[0x04, 0x40]));
-    assert!(rt; spells(alloc, &Instruction::Try(BlockType::Empty), &[0x06, 0x40]));
-    let br_table = Instruction::BrTable(Items::borrowed(&labels), 3);
-    assert!(rt; spells(alloc, &br_table, &[0x0e, 0x02, 0x01, 0x02, 0x03]));
-    let select = Instruction::TypedSelectMulti(Items::borrowed(&types));
-    assert!(rt; spells(alloc, &select, &[0x1c, 0x02, 0x7e, 0x70]));
-    let try_table = Instruction::TryTable(BlockType::FunctionType(7), Items::borrowed(&catches));
-    assert!(rt;
-        spells(
-            alloc,
-            &try_table,
-            &[
-                0x1f, 0x07, 0x04, 0x00, 0x01, 0x02, 0x01, 0x03, 0x04, 0x02, 0x05, 0x03, 0x06
-            ]
-        )
-    );
+    for (instruction, bytes) in vectors {
+        assert!(rt; spells(alloc, &instruction, bytes), "{instruction:?}");
+    }
 }
 
 #[test]
@@ -1007,56 +1038,85 @@ fn opcodes_bulk(rt: HostRuntime) {
 #[test]
 fn opcodes_lanes(rt: HostRuntime) {
     let alloc = rt.alloc();
-    let instruction = Instruction::VectorArg(VectorArgOp::I8x16ExtractLaneS(3));
-    assert!(rt; spells(alloc, &instruction, &[0xfd, 0x15, 0x03]));
-    let instruction = Instruction::VectorArg(VectorArgOp::I8x16ExtractLaneU(3));
-    assert!(rt; spells(alloc, &instruction, &[0xfd, 0x16, 0x03]));
-    let instruction = Instruction::VectorArg(VectorArgOp::I8x16ReplaceLane(3));
-    assert!(rt; spells(alloc, &instruction, &[0xfd, 0x17, 0x03]));
-    let instruction = Instruction::VectorArg(VectorArgOp::I16x8ExtractLaneS(3));
-    assert!(rt; spells(alloc, &instruction, &[0xfd, 0x18, 0x03]));
-    let instruction = Instruction::VectorArg(VectorArgOp::I16x8ExtractLaneU(3));
-    assert!(rt; spells(alloc, &instruction, &[0xfd, 0x19, 0x03]));
-    let instruction = Instruction::VectorArg(VectorArgOp::I16x8ReplaceLane(3));
-    assert!(rt; spells(alloc, &instruction, &[0xfd, 0x1a, 0x03]));
-    let instruction = Instruction::VectorArg(VectorArgOp::I32x4ExtractLane(3));
-    assert!(rt; spells(alloc, &instruction, &[0xfd, 0x1b, 0x03]));
-    let instruction = Instruction::VectorArg(VectorArgOp::I32x4ReplaceLane(3));
-    assert!(rt; spells(alloc, &instruction, &[0xfd, 0x1c, 0x03]));
-    let instruction = Instruction::VectorArg(VectorArgOp::I64x2ExtractLane(3));
-    assert!(rt; spells(alloc, &instruction, &[0xfd, 0x1d, 0x03]));
-    let instruction = Instruction::VectorArg(VectorArgOp::I64x2ReplaceLane(3));
-    assert!(rt; spells(alloc, &instruction, &[0xfd, 0x1e, 0x03]));
-    let instruction = Instruction::VectorArg(VectorArgOp::F32x4ExtractLane(3));
-    assert!(rt; spells(alloc, &instruction, &[0xfd, 0x1f, 0x03]));
-    let instruction = Instruction::VectorArg(VectorArgOp::F32x4ReplaceLane(3));
-    assert!(rt; spells(alloc, &instruction, &[0xfd, 0x20, 0x03]));
-    let instruction = Instruction::VectorArg(VectorArgOp::F64x2ExtractLane(3));
-    assert!(rt; spells(alloc, &instruction, &[0xfd, 0x21, 0x03]));
-    let instruction = Instruction::VectorArg(VectorArgOp::F64x2ReplaceLane(3));
-    assert!(rt; spells(alloc, &instruction, &[0xfd, 0x22, 0x03]));
-    let shuffle = VectorArgOp::I8x16Shuffle([0, 1, 2, 3, 4, 5, 6, 7, 8, 9, 10, 11, 12, 13, 14, 31]);
-    assert!(rt;
-        spells(
-            alloc,
-            &Instruction::VectorArg(shuffle),
-            &[
-                0xfd, 0x0d, 0x00, 0x01, 0x02, 0x03, 0x04, 0x05, 0x06, 0x07, 0x08, 0x09, 0x0a, 0x0b,
-                0x0c, 0x0d, 0x0e, 0x1f
-            ]
-        )
-    );
-    let constant = VectorArgOp::V128Const(-2);
-    assert!(rt;
-        spells(
-            alloc,
-            &Instruction::VectorArg(constant),
-            &[
+    let lanes = [0, 1, 2, 3, 4, 5, 6, 7, 8, 9, 10, 11, 12, 13, 14, 31];
+    let vectors = [
+        (
+            VectorArgOp::V128Const(-2),
+            [
                 0xfd, 0x0c, 0xfe, 0xff, 0xff, 0xff, 0xff, 0xff, 0xff, 0xff, 0xff, 0xff, 0xff, 0xff,
-                0xff, 0xff, 0xff, 0xff
+                0xff, 0xff, 0xff, 0xff,
             ]
-        )
-    );
+            .as_slice(),
+        ),
+        (
+            VectorArgOp::I8x16Shuffle(lanes),
+            [
+                0xfd, 0x0d, 0x00, 0x01, 0x02, 0x03, 0x04, 0x05, 0x06, 0x07, 0x08, 0x09, 0x0a, 0x0b,
+                0x0c, 0x0d, 0x0e, 0x1f,
+            ]
+            .as_slice(),
+        ),
+        (
+            VectorArgOp::I8x16ExtractLaneS(3),
+            [0xfd, 0x15, 0x03].as_slice(),
+        ),
+        (
+            VectorArgOp::I8x16ExtractLaneU(3),
+            [0xfd, 0x16, 0x03].as_slice(),
+        ),
+        (
+            VectorArgOp::I8x16ReplaceLane(3),
+            [0xfd, 0x17, 0x03].as_slice(),
+        ),
+        (
+            VectorArgOp::I16x8ExtractLaneS(3),
+            [0xfd, 0x18, 0x03].as_slice(),
+        ),
+        (
+            VectorArgOp::I16x8ExtractLaneU(3),
+            [0xfd, 0x19, 0x03].as_slice(),
+        ),
+        (
+            VectorArgOp::I16x8ReplaceLane(3),
+            [0xfd, 0x1a, 0x03].as_slice(),
+        ),
+        (
+            VectorArgOp::I32x4ExtractLane(3),
+            [0xfd, 0x1b, 0x03].as_slice(),
+        ),
+        (
+            VectorArgOp::I32x4ReplaceLane(3),
+            [0xfd, 0x1c, 0x03].as_slice(),
+        ),
+        (
+            VectorArgOp::I64x2ExtractLane(3),
+            [0xfd, 0x1d, 0x03].as_slice(),
+        ),
+        (
+            VectorArgOp::I64x2ReplaceLane(3),
+            [0xfd, 0x1e, 0x03].as_slice(),
+        ),
+        (
+            VectorArgOp::F32x4ExtractLane(3),
+            [0xfd, 0x1f, 0x03].as_slice(),
+        ),
+        (
+            VectorArgOp::F32x4ReplaceLane(3),
+            [0xfd, 0x20, 0x03].as_slice(),
+        ),
+        (
+            VectorArgOp::F64x2ExtractLane(3),
+            [0xfd, 0x21, 0x03].as_slice(),
+        ),
+        (
+            VectorArgOp::F64x2ReplaceLane(3),
+            [0xfd, 0x22, 0x03].as_slice(),
+        ),
+    ];
+    for (op, bytes) in vectors {
+        let instruction = Instruction::VectorArg(op);
+        assert!(rt; spells(alloc, &instruction, bytes), "{instruction:?}");
+    }
 }
 
 #[test]
@@ -1067,48 +1127,98 @@ fn opcodes_vector_memory(rt: HostRuntime) {
         align: 2,
         target: MemArgTarget::Memory(1),
     };
-    let instruction = Instruction::VectorArg(VectorArgOp::V128Load(memarg));
-    assert!(rt; spells(alloc, &instruction, &[0xfd, 0x00, 0x42, 0x01, 0x08]));
-    let instruction = Instruction::VectorArg(VectorArgOp::V128Load8x8S(memarg));
-    assert!(rt; spells(alloc, &instruction, &[0xfd, 0x01, 0x42, 0x01, 0x08]));
-    let instruction = Instruction::VectorArg(VectorArgOp::V128Load8x8U(memarg));
-    assert!(rt; spells(alloc, &instruction, &[0xfd, 0x02, 0x42, 0x01, 0x08]));
-    let instruction = Instruction::VectorArg(VectorArgOp::V128Load16x4S(memarg));
-    assert!(rt; spells(alloc, &instruction, &[0xfd, 0x03, 0x42, 0x01, 0x08]));
-    let instruction = Instruction::VectorArg(VectorArgOp::V128Load16x4U(memarg));
-    assert!(rt; spells(alloc, &instruction, &[0xfd, 0x04, 0x42, 0x01, 0x08]));
-    let instruction = Instruction::VectorArg(VectorArgOp::V128Load32x2S(memarg));
-    assert!(rt; spells(alloc, &instruction, &[0xfd, 0x05, 0x42, 0x01, 0x08]));
-    let instruction = Instruction::VectorArg(VectorArgOp::V128Load32x2U(memarg));
-    assert!(rt; spells(alloc, &instruction, &[0xfd, 0x06, 0x42, 0x01, 0x08]));
-    let instruction = Instruction::VectorArg(VectorArgOp::V128Load8Splat(memarg));
-    assert!(rt; spells(alloc, &instruction, &[0xfd, 0x07, 0x42, 0x01, 0x08]));
-    let instruction = Instruction::VectorArg(VectorArgOp::V128Load16Splat(memarg));
-    assert!(rt; spells(alloc, &instruction, &[0xfd, 0x08, 0x42, 0x01, 0x08]));
-    let instruction = Instruction::VectorArg(VectorArgOp::V128Load32Splat(memarg));
-    assert!(rt; spells(alloc, &instruction, &[0xfd, 0x09, 0x42, 0x01, 0x08]));
-    let instruction = Instruction::VectorArg(VectorArgOp::V128Load64Splat(memarg));
-    assert!(rt; spells(alloc, &instruction, &[0xfd, 0x0a, 0x42, 0x01, 0x08]));
-    let instruction = Instruction::VectorArg(VectorArgOp::V128Store(memarg));
-    assert!(rt; spells(alloc, &instruction, &[0xfd, 0x0b, 0x42, 0x01, 0x08]));
-    let instruction = Instruction::VectorArg(VectorArgOp::V128Load32Zero(memarg));
-    assert!(rt; spells(alloc, &instruction, &[0xfd, 0x5c, 0x42, 0x01, 0x08]));
-    let instruction = Instruction::VectorArg(VectorArgOp::V128Load64Zero(memarg));
-    assert!(rt; spells(alloc, &instruction, &[0xfd, 0x5d, 0x42, 0x01, 0x08]));
-    let instruction = Instruction::VectorArg(VectorArgOp::V128Load8Lane { memarg, lane: 3 });
-    assert!(rt; spells(alloc, &instruction, &[0xfd, 0x54, 0x42, 0x01, 0x08, 0x03]));
-    let instruction = Instruction::VectorArg(VectorArgOp::V128Load16Lane { memarg, lane: 3 });
-    assert!(rt; spells(alloc, &instruction, &[0xfd, 0x55, 0x42, 0x01, 0x08, 0x03]));
-    let instruction = Instruction::VectorArg(VectorArgOp::V128Load32Lane { memarg, lane: 3 });
-    assert!(rt; spells(alloc, &instruction, &[0xfd, 0x56, 0x42, 0x01, 0x08, 0x03]));
-    let instruction = Instruction::VectorArg(VectorArgOp::V128Load64Lane { memarg, lane: 3 });
-    assert!(rt; spells(alloc, &instruction, &[0xfd, 0x57, 0x42, 0x01, 0x08, 0x03]));
-    let instruction = Instruction::VectorArg(VectorArgOp::V128Store8Lane { memarg, lane: 3 });
-    assert!(rt; spells(alloc, &instruction, &[0xfd, 0x58, 0x42, 0x01, 0x08, 0x03]));
-    let instruction = Instruction::VectorArg(VectorArgOp::V128Store16Lane { memarg, lane: 3 });
-    assert!(rt; spells(alloc, &instruction, &[0xfd, 0x59, 0x42, 0x01, 0x08, 0x03]));
-    let instruction = Instruction::VectorArg(VectorArgOp::V128Store32Lane { memarg, lane: 3 });
-    assert!(rt; spells(alloc, &instruction, &[0xfd, 0x5a, 0x42, 0x01, 0x08, 0x03]));
-    let instruction = Instruction::VectorArg(VectorArgOp::V128Store64Lane { memarg, lane: 3 });
-    assert!(rt; spells(alloc, &instruction, &[0xfd, 0x5b, 0x42, 0x01, 0x08, 0x03]));
+    let vectors = [
+        (
+            VectorArgOp::V128Load(memarg),
+            [0xfd, 0x00, 0x42, 0x01, 0x08].as_slice(),
+        ),
+        (
+            VectorArgOp::V128Load8x8S(memarg),
+            [0xfd, 0x01, 0x42, 0x01, 0x08].as_slice(),
+        ),
+        (
+            VectorArgOp::V128Load8x8U(memarg),
+            [0xfd, 0x02, 0x42, 0x01, 0x08].as_slice(),
+        ),
+        (
+            VectorArgOp::V128Load16x4S(memarg),
+            [0xfd, 0x03, 0x42, 0x01, 0x08].as_slice(),
+        ),
+        (
+            VectorArgOp::V128Load16x4U(memarg),
+            [0xfd, 0x04, 0x42, 0x01, 0x08].as_slice(),
+        ),
+        (
+            VectorArgOp::V128Load32x2S(memarg),
+            [0xfd, 0x05, 0x42, 0x01, 0x08].as_slice(),
+        ),
+        (
+            VectorArgOp::V128Load32x2U(memarg),
+            [0xfd, 0x06, 0x42, 0x01, 0x08].as_slice(),
+        ),
+        (
+            VectorArgOp::V128Load8Splat(memarg),
+            [0xfd, 0x07, 0x42, 0x01, 0x08].as_slice(),
+        ),
+        (
+            VectorArgOp::V128Load16Splat(memarg),
+            [0xfd, 0x08, 0x42, 0x01, 0x08].as_slice(),
+        ),
+        (
+            VectorArgOp::V128Load32Splat(memarg),
+            [0xfd, 0x09, 0x42, 0x01, 0x08].as_slice(),
+        ),
+        (
+            VectorArgOp::V128Load64Splat(memarg),
+            [0xfd, 0x0a, 0x42, 0x01, 0x08].as_slice(),
+        ),
+        (
+            VectorArgOp::V128Store(memarg),
+            [0xfd, 0x0b, 0x42, 0x01, 0x08].as_slice(),
+        ),
+        (
+            VectorArgOp::V128Load32Zero(memarg),
+            [0xfd, 0x5c, 0x42, 0x01, 0x08].as_slice(),
+        ),
+        (
+            VectorArgOp::V128Load64Zero(memarg),
+            [0xfd, 0x5d, 0x42, 0x01, 0x08].as_slice(),
+        ),
+        (
+            VectorArgOp::V128Load8Lane { memarg, lane: 3 },
+            [0xfd, 0x54, 0x42, 0x01, 0x08, 0x03].as_slice(),
+        ),
+        (
+            VectorArgOp::V128Load16Lane { memarg, lane: 3 },
+            [0xfd, 0x55, 0x42, 0x01, 0x08, 0x03].as_slice(),
+        ),
+        (
+            VectorArgOp::V128Load32Lane { memarg, lane: 3 },
+            [0xfd, 0x56, 0x42, 0x01, 0x08, 0x03].as_slice(),
+        ),
+        (
+            VectorArgOp::V128Load64Lane { memarg, lane: 3 },
+            [0xfd, 0x57, 0x42, 0x01, 0x08, 0x03].as_slice(),
+        ),
+        (
+            VectorArgOp::V128Store8Lane { memarg, lane: 3 },
+            [0xfd, 0x58, 0x42, 0x01, 0x08, 0x03].as_slice(),
+        ),
+        (
+            VectorArgOp::V128Store16Lane { memarg, lane: 3 },
+            [0xfd, 0x59, 0x42, 0x01, 0x08, 0x03].as_slice(),
+        ),
+        (
+            VectorArgOp::V128Store32Lane { memarg, lane: 3 },
+            [0xfd, 0x5a, 0x42, 0x01, 0x08, 0x03].as_slice(),
+        ),
+        (
+            VectorArgOp::V128Store64Lane { memarg, lane: 3 },
+            [0xfd, 0x5b, 0x42, 0x01, 0x08, 0x03].as_slice(),
+        ),
+    ];
+    for (op, bytes) in vectors {
+        let instruction = Instruction::VectorArg(op);
+        assert!(rt; spells(alloc, &instruction, bytes), "{instruction:?}");
+    }
 }

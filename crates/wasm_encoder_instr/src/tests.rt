@@ -1,6 +1,6 @@
 use crate::{
-    BlockType, Catch, Handle, Instruction, MemArg, MemArgOrdering, MemArgTarget, Ordering,
-    VectorArgOp,
+    AtomicRmwOp, BlockType, Catch, Handle, Instruction, MemArg, MemArgOrdering, MemArgTarget,
+    Ordering, VectorArgOp,
 };
 use std::alloc::Global;
 use std::test::Fail;
@@ -49,6 +49,22 @@ fn ample_encode(rt: HostRuntime) -> Result<(), Fail> {
     assert_eq!(rt;
         encoded(alloc, &load)?.as_slice(),
         [0xaa, 0xfd, 0x00, 0x42, 0x01, 0x08].as_slice()
+    );
+    Ok(())
+}
+
+/// A memory argument of memory 0 without an offset.
+#[test]
+fn ample_exchange(rt: HostRuntime) -> Result<(), Fail> {
+    let memarg = MemArg {
+        offset: 0,
+        align: 2,
+        target: MemArgTarget::Memory(0),
+    };
+    let exchange = Instruction::AtomicRmw(AtomicRmwOp::I64AtomicRmw32CmpxchgU, memarg);
+    assert_eq!(rt;
+        encoded(rt.alloc(), &exchange)?.as_slice(),
+        [0xaa, 0xfe, 0x4e, 0x02, 0x00].as_slice()
     );
     Ok(())
 }

@@ -3,9 +3,9 @@ ghost use Rattle.wasm_encoder_base.specs.Instr.{instr_bytes};
 ghost use Rattle.wasm_encoder_instr.specs.VectorArg.{vector_arg_view, can_encode_vector_arg};
 
 use crate::mem_arg::{Lane, MemArg};
-use crate::prefixed::Prefixed;
 use crate::put::{put_raw, put_three, put_two, put_v128};
 use wasm_encoder_base::{Encode, EncodeError};
+use wasm_encoder_opcodes::Prefixed;
 
 /// Vector instructions with operands: opcodes FD.
 #[derive(Clone, Copy, Debug)]

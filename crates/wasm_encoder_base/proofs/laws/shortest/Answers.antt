@@ -1,5 +1,0 @@
-use Rattle.wasm_encoder_base.proofs.Shortest.{shortest-unsigned, shortest-signed}
-use Rattle.wasm_encoder_base.proofs.laws.shortest.Goals as goal
-
-pub returns : goal.returns
-returns c = record { unsigned = shortest-unsigned; signed = shortest-signed }

@@ -1,0 +1,6 @@
+pub mod LebSteps
+pub mod ReadSteps
+pub mod Shortest
+pub mod UniqueBytes
+pub mod UniqueLeb
+pub mod UniqueParts

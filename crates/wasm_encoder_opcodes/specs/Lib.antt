@@ -1,0 +1,11 @@
+pub mod Access
+pub mod Atomic
+pub mod AtomicRmw
+pub mod Compare
+pub mod Convert
+pub mod Laws
+pub mod Numeric
+pub mod Vector
+pub mod VectorFloat
+pub mod VectorNarrow
+pub mod VectorWide
