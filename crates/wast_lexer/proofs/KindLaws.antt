@@ -8,7 +8,7 @@ use Rattle.std.proofs.lemmas.Bool.Decides.{nat_tests}
 use Rattle.wast_lexer_strings.specs.Strings.{IsString}
 use Rattle.wast_lexer_numbers.specs.declared.kind.NumberKind.{NumberKind}
 use Rattle.wast_lexer_numbers.specs.Numbers.{IsNumber}
-use Rattle.wast_lexer_numbers.specs.Scan.{number}
+use Rattle.wast_lexer_numbers.specs.NumberScan.{number}
 use Rattle.wast_lexer_numbers.proofs.ByteLaws.{is_number_byte, number_bytes, all_more}
 use Rattle.wast_lexer_numbers.proofs.NumberLaws.{number_scanned, scanned_number}
 use Rattle.wast_lexer.specs.declared.token.TokenKind.TheVariants.{String, Id, Keyword, Reserved}

@@ -17,3 +17,5 @@ pub mod ReaderLaws
 pub mod LevelLaws
 pub mod TableLaws
 pub mod NameLaws
+pub use Rattle.wast_lexer_numbers.proofs.NumberLaws
+pub use Rattle.wast_lexer_strings.proofs.StringReading

@@ -6,8 +6,8 @@ use Rattle.std.proofs.Math.Seq.{take-append_seam}
 use Rattle.std.proofs.lemmas.Bool.Decides.{nat_tests}
 use Rattle.std.proofs.lemmas.List.{length-drop}
 use Rattle.wast_lexer_strings.specs.Strings.{is_quote}
-use Rattle.wast_lexer_strings.specs.Scan.{is_empty}
-use Rattle.wast_lexer_numbers.specs.Scan.{number}
+use Rattle.wast_lexer_strings.specs.StringScan.{is_empty}
+use Rattle.wast_lexer_numbers.specs.NumberScan.{number}
 use Rattle.wast_lexer.specs.declared.token.TokenKind.{TokenKind}
 use Rattle.wast_lexer.specs.declared.token.TokenKind.TheVariants.{Id, Keyword, Annotation, Reserved}
 use Rattle.wast_lexer.specs.Kinds.{starts, is_idchar, is_lower, is_name}

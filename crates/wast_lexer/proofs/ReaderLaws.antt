@@ -6,8 +6,8 @@ use Rattle.wast_lexer_strings.specs.Strings.{is_backslash, Elements, IsString}
 use Rattle.wast_lexer_strings.specs.Strings.Element.{Plain, Letter, Hex, Scalar}
 use Rattle.wast_lexer_strings.specs.Strings.Elements.{None', More}
 use Rattle.wast_lexer_strings.specs.Strings.{is_quote}
-use Rattle.wast_lexer_strings.specs.Scan.{Read}
-use Rattle.wast_lexer_strings.proofs.Reading.{whole_read}
+use Rattle.wast_lexer_strings.specs.StringScan.{Read}
+use Rattle.wast_lexer_strings.proofs.StringReading.{whole_read}
 use Rattle.wast_lexer_strings.specs.declared.error.LexError.TheVariants.{InvalidUtf8Id}
 use Rattle.std.specs.Prelude.{Some}
 use Rattle.std.specs.Str.{IsUtf8, IsCharBoundary}

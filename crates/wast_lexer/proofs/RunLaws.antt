@@ -4,10 +4,10 @@ use Rattle.std.specs.Str.{IsUtf8, is_utf8}
 use Rattle.std.proofs.lemmas.Str.{IsUtf8-from_is_utf8, is_utf8-from_IsUtf8}
 use Rattle.std.proofs.lemmas.Bool.{cases_Bool}
 use Rattle.wast_lexer_strings.specs.Strings.{is_quote, IsString}
-use Rattle.wast_lexer_strings.specs.Scan.{Read, more, State, on_step, step, read, is_empty, is_text}
-use Rattle.wast_lexer_strings.specs.Scan.State.{Within}
-use Rattle.wast_lexer_strings.specs.Scan.Step.{Go, Done, Fault}
-use Rattle.wast_lexer_strings.proofs.Reading.{string_read}
+use Rattle.wast_lexer_strings.specs.StringScan.{Read, more, State, on_step, step, read, is_empty, is_text}
+use Rattle.wast_lexer_strings.specs.StringScan.State.{Within}
+use Rattle.wast_lexer_strings.specs.StringScan.Step.{Go, Done, Fault}
+use Rattle.wast_lexer_strings.proofs.StringReading.{string_read}
 use Rattle.wast_lexer_strings.proofs.Sound.{read_sound}
 use Rattle.wast_lexer.specs.Kinds.{starts, is_idchar, Run}
 use Rattle.wast_lexer.specs.Kinds.Run.{Ends, Char, Quoted}

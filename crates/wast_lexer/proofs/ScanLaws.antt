@@ -10,7 +10,7 @@ use Rattle.wast_lexer_strings.specs.Strings.{is_quote}
 use Rattle.wast_lexer_numbers.specs.declared.kind.NumberKind.{NumberKind}
 use Rattle.wast_lexer_numbers.specs.declared.kind.NumberKind.TheVariants as kinds
 use Rattle.wast_lexer_numbers.specs.Numbers.{IsNumber}
-use Rattle.wast_lexer_numbers.specs.Scan.{number}
+use Rattle.wast_lexer_numbers.specs.NumberScan.{number}
 use Rattle.wast_lexer_numbers.proofs.NumberLaws.{number_scanned, scanned_number}
 use Rattle.wast_lexer.specs.declared.token.TokenKind.{TokenKind}
 use Rattle.wast_lexer.specs.declared.token.TokenKind.TheVariants.{LineComment, BlockComment, Whitespace, LParen, RParen, String, Id, Keyword, Annotation, Reserved, Integer, Float}

@@ -10,3 +10,15 @@ pub mod Groups
 pub mod Table
 pub mod Scan
 pub mod Levels
+pub use Rattle.wast_lexer_strings.specs.Strings
+pub use Rattle.wast_lexer_strings.specs.StringScan
+pub use Rattle.wast_lexer_strings.specs.declared.error.LexError
+pub use Rattle.wast_lexer_numbers.specs.Numbers
+pub use Rattle.wast_lexer_numbers.specs.NumberScan
+pub use Rattle.wast_lexer_numbers.specs.Readings
+pub use Rattle.wast_lexer_numbers.specs.declared.kind.FloatKind
+pub use Rattle.wast_lexer_numbers.specs.declared.kind.IntegerKind
+pub use Rattle.wast_lexer_numbers.specs.declared.kind.NumberKind
+pub use Rattle.wast_lexer_numbers.specs.declared.kind.SignToken
+pub use Rattle.wast_lexer_numbers.specs.declared.parts.Float
+pub use Rattle.wast_lexer_numbers.specs.declared.parts.Integer

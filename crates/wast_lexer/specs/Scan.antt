@@ -3,11 +3,11 @@
 use Rattle.std.specs.Prelude.{option_map, ◌≡◌, ◌≤◌, ◌<◌, ℕ, ◌+◌, ◌-◌, Bool, false, not, cond, ◌&&◌, ◌||◌, ◌==◌, if◌then◌else◌, List, [], ◌∷◌, Option, Some, None, Result, Ok, Err, length, take, drop}
 use Rattle.wast_lexer_strings.specs.declared.error.LexError.{LexError}
 use Rattle.wast_lexer_strings.specs.Strings.{is_quote}
-use Rattle.wast_lexer_strings.specs.Scan.{Read, State, on_step, step, read, is_empty, is_text}
-use Rattle.wast_lexer_strings.specs.Scan.State.{Within}
+use Rattle.wast_lexer_strings.specs.StringScan.{Read, State, on_step, step, read, is_empty, is_text}
+use Rattle.wast_lexer_strings.specs.StringScan.State.{Within}
 use Rattle.wast_lexer_numbers.specs.declared.kind.NumberKind.{NumberKind}
 use Rattle.wast_lexer_numbers.specs.declared.kind.NumberKind.TheVariants as number
-use Rattle.wast_lexer_numbers.specs.Scan as numbers
+use Rattle.wast_lexer_numbers.specs.NumberScan as numbers
 use Rattle.wast_lexer.specs.declared.token.TokenKind.{TokenKind}
 use Rattle.wast_lexer.specs.declared.token.TokenKind.TheVariants.{LineComment, BlockComment, Whitespace, LParen, RParen, String, Id, Keyword, Annotation, Reserved, Integer, Float}
 use Rattle.wast_lexer.specs.Kinds.{starts, is_space, is_open, is_close, is_semicolon, is_mark, may_stand, is_idchar, is_name, is_lower, is_at}

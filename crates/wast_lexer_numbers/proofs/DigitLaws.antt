@@ -5,7 +5,7 @@ use Rattle.std.proofs.lemmas.Bool.{cases_Bool}
 use Rattle.std.proofs.lemmas.Bool.Decides.{nat_tests}
 use Rattle.wast_lexer_numbers.specs.Numbers.{is_base, Digits}
 use Rattle.wast_lexer_numbers.specs.Numbers.Digits.{Last, Next, Gap}
-use Rattle.wast_lexer_numbers.specs.Scan.{after}
+use Rattle.wast_lexer_numbers.specs.NumberScan.{after}
 
 on_base : (hex gap : Bool) (c : ℕ) (text : List ℕ) → is_base hex c ≡ true → after hex gap (c ∷ text) ≡ after hex false text
 on_base hex gap c text h = rw (after, h) refl

@@ -13,7 +13,7 @@ use Rattle.wast_lexer_numbers.specs.declared.parts.Float.{Float as FloatParts}
 use Rattle.wast_lexer_numbers.specs.declared.parts.Float.TheVariants as parts
 use Rattle.wast_lexer_numbers.specs.Numbers.{Digits, IsMagnitude, IsNumber, inf, nan, nan_prefix, sign_text, base_text}
 use Rattle.wast_lexer_numbers.specs.Readings.{IsValOf, IsFloatOf, text_now, is_point_first, is_ascii}
-use Rattle.wast_lexer_numbers.specs.Scan.{after, prefixed, sign_of, unsigned, is_all, ends_power, ends_fraction, float_if, magnitude, nan_if, based, payload, body}
+use Rattle.wast_lexer_numbers.specs.NumberScan.{after, prefixed, sign_of, unsigned, is_all, ends_power, ends_fraction, float_if, magnitude, nan_if, based, payload, body}
 use Rattle.std.specs.Str.{IsUtf8, IsCharBoundary}
 use Rattle.std.proofs.lemmas.Str.{IsCharBoundary-after_ascii}
 use Rattle.wast_lexer_numbers.proofs.NumberLaws.{number_scanned, sign_split, prefixed_split}

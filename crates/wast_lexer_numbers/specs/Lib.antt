@@ -1,4 +1,4 @@
 pub mod Numbers
 pub mod Readings
-pub mod Scan
+pub mod NumberScan
 pub mod Laws

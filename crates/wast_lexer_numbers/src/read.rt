@@ -6,7 +6,7 @@ ghost use Rattle.wast_lexer_numbers.specs.declared.kind.FloatKind.TheVariants.{N
 ghost use Rattle.wast_lexer_numbers.specs.declared.kind.NumberKind.TheVariants as kinds;
 ghost use Rattle.wast_lexer_numbers.specs.Numbers.{IsNumber, Digits, sign_text};
 ghost use Rattle.wast_lexer_numbers.specs.Readings.{IsIntegerOf, IsFloatOf, IsValOf, IsTailOf, text_now, is_ascii, exponent_of, is_point_first};
-ghost use Rattle.wast_lexer_numbers.specs.Scan.{after, magnitude, ends_fraction, body};
+ghost use Rattle.wast_lexer_numbers.specs.NumberScan.{after, magnitude, ends_fraction, body};
 
 use crate::kind::{FloatKind, IntegerKind, SignToken};
 use crate::parts::{Float, Integer};

@@ -2,7 +2,7 @@
 
 ghost use Rattle.std.specs.Prelude.{◌≡◌, ◌&&◌, ℕ, Bool, List, None, Some, true, false, MatchOption};
 ghost use Rattle.wast_lexer_numbers.specs.Numbers.{is_base, is_power};
-ghost use Rattle.wast_lexer_numbers.specs.Scan.{begins_number, after, prefixed, sign_of, unsigned, is_all, ends_power, ends_fraction, magnitude, body, number};
+ghost use Rattle.wast_lexer_numbers.specs.NumberScan.{begins_number, after, prefixed, sign_of, unsigned, is_all, ends_power, ends_fraction, magnitude, body, number};
 
 use crate::kind::{FloatKind, IntegerKind, NumberKind, SignToken};
 

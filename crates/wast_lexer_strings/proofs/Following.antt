@@ -7,16 +7,16 @@ use Rattle.std.specs.Prelude.{encode_utf8, ◌≤◌}
 use Rattle.std.proofs.lemmas.Str.{length-encode, len_utf8_bounds}
 use Rattle.wast_lexer_strings.specs.declared.piece.Piece.{Piece}
 use Rattle.wast_lexer_strings.specs.declared.piece.Piece.TheVariants.{Byte, Char}
-use Rattle.wast_lexer_strings.specs.Scan.{meant}
+use Rattle.wast_lexer_strings.specs.StringScan.{meant}
 use Rattle.std.proofs.lemmas.Bool.{cases_Bool}
 use Rattle.std.proofs.lemmas.Str.{IsUtf8-from_is_utf8, is_utf8-from_IsUtf8}
-use Rattle.wast_lexer_strings.proofs.Reading.{more_more, cell}
+use Rattle.wast_lexer_strings.proofs.StringReading.{more_more, cell}
 use Rattle.simdutf8.specs.Steps.{IsClosed}
 use Rattle.simdutf8.proofs.Chars.{StepsThen-IsUtf8}
 use Rattle.wast_lexer_strings.specs.declared.utf8.Tail.{Tail}
 use Rattle.wast_lexer_strings.specs.Feeds.{Completes, Leads, Fails}
-use Rattle.wast_lexer_strings.specs.Scan.{Read, more, read, is_empty, is_text}
-use Rattle.wast_lexer_strings.specs.Scan.State.{Within}
+use Rattle.wast_lexer_strings.specs.StringScan.{Read, more, read, is_empty, is_text}
+use Rattle.wast_lexer_strings.specs.StringScan.State.{Within}
 
 abbrev pub Reads : List ℕ → ℕ → ℕ → Tail → Bool → Type 0
 Reads text from at tail some = (out : List ℕ) × (read Within (drop from text) ≡ more out (read Within (drop at text))) × ((bytes : List ℕ) → IsUtf8 (out ++ bytes) ↔ Completes tail bytes) × (some ≡ not (is_empty out))

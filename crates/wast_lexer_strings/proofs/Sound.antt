@@ -4,11 +4,11 @@ use Rattle.std.specs.Prelude.{encode_utf8, nat_lt, ◌==◌}
 use Rattle.std.proofs.lemmas.Bool.{cases_Bool}
 use Rattle.std.proofs.lemmas.Bool.Decides.{nat_tests}
 use Rattle.wast_lexer_strings.specs.Strings.{is_quote, is_backslash, is_hex, hex_value, is_string_byte, escaped, is_scalar_value, is_digits, number, Element, Elements}
-use Rattle.wast_lexer_strings.specs.Scan.{Read, more, State, Step, letter_step, digit_step, step, read}
+use Rattle.wast_lexer_strings.specs.StringScan.{Read, more, State, Step, letter_step, digit_step, step, read}
 use Rattle.wast_lexer_strings.specs.Strings.Element.{Plain, Letter, Hex, Scalar}
 use Rattle.wast_lexer_strings.specs.Strings.Elements.{None', More}
-use Rattle.wast_lexer_strings.specs.Scan.State.{Within, Escape, Digit, Open, Number, Gap}
-use Rattle.wast_lexer_strings.specs.Scan.Step.{Go, Done, Fault}
+use Rattle.wast_lexer_strings.specs.StringScan.State.{Within, Escape, Digit, Open, Number, Gap}
+use Rattle.wast_lexer_strings.specs.StringScan.Step.{Go, Done, Fault}
 
 abbrev pub InString : List ℕ → List ℕ → List ℕ → Type 0
 InString w b rest = (inner : List ℕ) × Elements inner b × (w ≡ inner ++ 34 ∷ rest)

@@ -1,8 +1,8 @@
 -- The laws of strings.
 use Rattle.std.specs.Prelude.{◌≡◌, ℕ, List, ◌∷◌, ◌++◌, Some}
 use Rattle.wast_lexer_strings.specs.Strings.{Elements}
-use Rattle.wast_lexer_strings.specs.Scan.{Read, read}
-use Rattle.wast_lexer_strings.specs.Scan.State.{Within}
+use Rattle.wast_lexer_strings.specs.StringScan.{Read, read}
+use Rattle.wast_lexer_strings.specs.StringScan.State.{Within}
 
 -- behind its first quote, the scan reads a string's bytes and what follows it
 abbrev pub ReadsWhatIsWritten : Type 0

@@ -1,4 +1,4 @@
 pub mod Strings
-pub mod Scan
+pub mod StringScan
 pub mod Feeds
 pub mod Laws

@@ -2,8 +2,8 @@
 
 ghost use Rattle.std.specs.Prelude.{◌≡◌, ◌≢◌, ◌≤◌, ◌<◌, ℕ, length, slice_index, false, true};
 ghost use Rattle.wast_lexer_strings.specs.Strings.{is_hex, hex_value, is_string_byte, escaped};
-ghost use Rattle.wast_lexer_strings.specs.Scan.{Gives};
-ghost use Rattle.wast_lexer_strings.specs.Scan.State.{Within, Escape, Digit, Open, Gap, Number};
+ghost use Rattle.wast_lexer_strings.specs.StringScan.{Gives};
+ghost use Rattle.wast_lexer_strings.specs.StringScan.State.{Within, Escape, Digit, Open, Gap, Number};
 
 use crate::error::LexError;
 

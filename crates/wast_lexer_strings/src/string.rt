@@ -2,8 +2,8 @@
 
 ghost use Rattle.std.specs.Prelude.{◌≡◌, ◌≤◌, ◌&&◌, ℕ, List, length, drop, IfOk};
 ghost use Rattle.wast_lexer_strings.specs.Strings.{IsString};
-ghost use Rattle.wast_lexer_strings.specs.Scan.{FindsRest, read, is_text, is_empty};
-ghost use Rattle.wast_lexer_strings.specs.Scan.State.{Within};
+ghost use Rattle.wast_lexer_strings.specs.StringScan.{FindsRest, read, is_text, is_empty};
+ghost use Rattle.wast_lexer_strings.specs.StringScan.State.{Within};
 
 use crate::error::LexError;
 use crate::piece::{Piece, read_piece};

@@ -2,7 +2,7 @@
 
 ghost use Rattle.std.specs.Prelude.{◌≡◌, ◌↔◌, ◌≤◌, ◌<◌, ℕ, IsTrue, MatchOption};
 ghost use Rattle.simdutf8.specs.Steps.{IsClosed, Step, least_after, most_after};
-ghost use Rattle.wast_lexer_strings.specs.Scan.{meant};
+ghost use Rattle.wast_lexer_strings.specs.StringScan.{meant};
 ghost use Rattle.wast_lexer_strings.specs.Feeds.{Leads, Fails};
 
 use crate::piece::Piece;

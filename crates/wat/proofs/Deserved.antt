@@ -3,37 +3,18 @@ use Rattle.std.proofs.Common.{ℕ, ◌≡◌, ◌<◌, ◌^◌, List, length, re
 use Rattle.std.specs.Str.{IsUtf8}
 use Rattle.wat.specs.declared.fault.Fault.{Fault}
 use Rattle.wat.specs.declared.fault.Fault.TheVariants as faults
-use Rattle.wat.specs.Tree.{Module}
-use Rattle.wat.specs.Meaning.{meant}
-use Rattle.wat.specs.Means.{Spells}
-use Rattle.wat.specs.Layout.{Lays, Fits}
+use Rattle.wat_profile.specs.Complaint.{Complaint}
+use Rattle.wat_profile.specs.Tree.{Module}
+use Rattle.wat_profile.specs.Meaning.{meant}
+use Rattle.wat_profile.specs.Means.{Spells}
+use Rattle.wat_profile.specs.Layout.{Lays, Fits}
 use Rattle.wat.specs.Headline.{TooLong, NotUtf8, Fails, Accepts, Assembles, Deserves}
-use Rattle.wat.specs.Answering.{IsNoText, IsMisspelled, IsUnspelled}
+use Rattle.wat.specs.Answering.{IsNoText}
 use Rattle.wat.proofs.Verdict.{one_condition}
 
-pub unspelled : (text : List ℕ) (f : Fault) → IsMisspelled f → ((tree : Module (List ℕ) ℕ) → ¬ (Spells text tree)) → IsUnspelled text f
-unspelled text (faults.Spelling error) m none = none
-unspelled text faults.Memory m none = tt
-unspelled text faults.Read m none = m
-unspelled text faults.TooLong m none = m
-unspelled text (faults.NotUtf8 offset) m none = m
-unspelled text (faults.NotWellFormed span) m none = m
-unspelled text (faults.Unmet error) m none = m
-unspelled text (faults.Uncovered span form) m none = m
-unspelled text faults.TooLarge m none = m
-unspelled text (faults.Write written) m none = m
-
-pub deserved : (bytes : List ℕ) (f : Fault) → length bytes < 2 ^ 32 → IsUtf8 bytes → IsUnspelled bytes f → Deserves bytes f
-deserved bytes (faults.Spelling error) short utf8 u = (short, utf8, u)
-deserved bytes faults.Memory short utf8 u = tt
-deserved bytes faults.Read short utf8 u = u
-deserved bytes faults.TooLong short utf8 u = absurd u
-deserved bytes (faults.NotUtf8 offset) short utf8 u = absurd u
-deserved bytes (faults.NotWellFormed span) short utf8 u = u
-deserved bytes (faults.Unmet error) short utf8 u = u
-deserved bytes (faults.Uncovered span form) short utf8 u = u
-deserved bytes faults.TooLarge short utf8 u = absurd u
-deserved bytes (faults.Write written) short utf8 u = u
+-- a text that spells no tree
+pub misspelled : (bytes : List ℕ) (error : Complaint) → length bytes < 2 ^ 32 → IsUtf8 bytes → ((tree : Module (List ℕ) ℕ) → ¬ (Spells bytes tree)) → Deserves bytes (faults.Spelling error)
+misspelled bytes error short utf8 none = (short, utf8, none)
 
 pub no_text : (bytes : List ℕ) (f : Fault) → IsNoText bytes f → Deserves bytes f
 no_text bytes faults.TooLong t = t

@@ -1,11 +1,11 @@
 -- Equal binaries mean equal modules, and conversely.
 use Rattle.std.proofs.Common.{ℕ, ◌≡◌, List, sym, subst}
-use Rattle.wat.specs.AbstractModule.{AbstractModule}
-use Rattle.wat.specs.Layout.{Lays, Reads}
+use Rattle.wat_profile.specs.AbstractModule.{AbstractModule}
+use Rattle.wat_profile.specs.Layout.{Lays, Reads}
 use Rattle.wat.specs.Headline.{Accepts, Assembles}
 use Rattle.wat.specs.Laws.{EqualBinaries}
 use Rattle.wat.proofs.Verdict.{one_meaning}
-use Rattle.wat.proofs.UniqueModule.{one_reading, one_binary}
+use Rattle.wat_profile.proofs.UniqueModule.{one_reading, one_binary}
 
 same_module : (text other binary another : List ℕ) → Assembles text binary → Assembles other another → binary ≡ another → (m : AbstractModule (List ℕ)) × Accepts text m × Accepts other m
 same_module text other binary another x y e =

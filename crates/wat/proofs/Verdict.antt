@@ -1,25 +1,12 @@
 -- A text means one module, and an input deserves one verdict.
-use Rattle.std.proofs.Common.{ℕ, ◌≡◌, false, List, refl, sym, ap, ◌∙◌, subst, arith, ⊎_elim}
+use Rattle.std.proofs.Common.{ℕ, ◌≡◌, List, refl, sym, ap, ◌∙◌, arith, ⊎_elim}
 use Rattle.std.proofs.lemmas.Bool.{cases_lt}
 use Rattle.std.specs.Str.{IsValidUpTo}
-use Rattle.wast_lexer.specs.Lexeme.{Lexeme}
-use Rattle.wast_lexer.specs.Tiling.{Tiles}
-use Rattle.wast_lexer.proofs.TilingLaws.{tile_once}
-use Rattle.wat.specs.Tokens.{significant}
-use Rattle.wat.specs.Tree.{Module}
-use Rattle.wat.specs.Syntax.{module_syntax}
-use Rattle.wat.specs.AbstractModule.{AbstractModule}
-use Rattle.wat.specs.Meaning.{meant}
-use Rattle.wat.specs.Means.{Spells}
+use Rattle.wat_profile.specs.AbstractModule.{AbstractModule}
+use Rattle.wat_profile.specs.Meaning.{meant}
 use Rattle.wat.specs.Headline.{Condition, TooLong, NotUtf8, Misspelled, Fails, Accepts, OneVerdict}
 use Rattle.wat.specs.Laws.{OneMeaning}
-use Rattle.wat.proofs.GrammarLaws.{one_value}
-use Rattle.wat.proofs.SyntaxLaws.{module_laws}
-
-one_spelling : (text : List ℕ) (a b : Module (List ℕ) ℕ) → Spells text a → Spells text b → a ≡ b
-one_spelling text a b x y =
-    let e = tile_once false false 0 text x.tokens y.tokens x.tiled y.tiled in
-    one_value module_syntax module_laws refl (significant y.tokens) a b (subst (λ ts. module_syntax.spells a (significant ts)) e x.spelled) y.spelled
+use Rattle.wat_profile.proofs.Spelling.{one_spelling}
 
 pub one_meaning : OneMeaning
 one_meaning text m n x y = x.meant.is_meant ∙ ap meant (one_spelling text x.tree y.tree x.spelled y.spelled) ∙ sym y.meant.is_meant
@@ -52,11 +39,3 @@ one_verdict = record {
   none_where_accepted = none_where_accepted;
   one_module = λ bytes m n x y. one_meaning bytes m n x.means y.means;
 }
-
--- tokens that tile a text and spell no tree leave it without one
-pub spelled_by_none : (text : List ℕ) (ts : List Lexeme) → Tiles false false 0 text ts → ((tree : Module (List ℕ) ℕ) → ¬ (module_syntax.spells tree (significant ts))) → (tree : Module (List ℕ) ℕ) → ¬ (Spells text tree)
-spelled_by_none text ts tiles none tree s =
-    none tree (subst (λ us. module_syntax.spells tree (significant us)) (tile_once false false 0 text s.tokens ts s.tiled tiles) s.spelled)
-
-pub spelled_by_tiles : (text : List ℕ) (ts : List Lexeme) (tree : Module (List ℕ) ℕ) → Tiles false false 0 text ts → module_syntax.spells tree (significant ts) → Spells text tree
-spelled_by_tiles text ts tree tiles s = record { tokens = ts; tiled = tiles; spelled = s }

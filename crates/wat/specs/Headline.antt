@@ -1,10 +1,10 @@
 -- What an input is worth: the first condition that it fails, or the module that it means; and which answer that is.
 use Rattle.std.specs.Prelude.{ℕ, ◌≡◌, ◌<◌, ◌≤◌, ◌^◌, List, length}
 use Rattle.std.specs.Str.{IsUtf8, IsValidUpTo}
-use Rattle.wat.specs.Tree.{Module}
-use Rattle.wat.specs.AbstractModule.{AbstractModule}
-use Rattle.wat.specs.Layout.{Fits, Reads}
-use Rattle.wat.specs.Means.{Spells, Means}
+use Rattle.wat_profile.specs.Tree.{Module}
+use Rattle.wat_profile.specs.AbstractModule.{AbstractModule}
+use Rattle.wat_profile.specs.Layout.{Fits, Reads}
+use Rattle.wat_profile.specs.Means.{Spells, Means}
 use Rattle.wat.specs.declared.fault.Fault.{Fault}
 use Rattle.wat.specs.declared.fault.Fault.TheVariants as faults
 

@@ -1,22 +1,14 @@
 //! From the bytes of a text to the bytes of a binary.
 
-ghost use Rattle.std.specs.Prelude.{◌≡◌, ◌<◌, ◌^◌, ℕ, List, length, map, Err, IfErr, MatchResult};
+ghost use Rattle.std.specs.Prelude.{◌≡◌, ◌<◌, ◌^◌, ℕ, length, Err, MatchResult};
 ghost use Rattle.std.specs.Str.{IsUtf8};
 ghost use Rattle.wat.specs.Headline.{Assembles, Deserves, Fails, TooLong, NotUtf8};
-ghost use Rattle.wat.specs.Answering.{IsNoText, IsMisspelled, IsUnspelled};
-ghost use Rattle.wat.specs.Means.{Spells};
-ghost use Rattle.wat.specs.Trees.{module_tree};
+ghost use Rattle.wat.specs.Answering.{IsNoText};
 
-use crate::encode::encode;
-use crate::error::Error;
 use crate::fault::Fault;
-use crate::lex_error::text_of;
-use crate::parse_fault::ParseFault;
-use crate::syntax::parse_module;
-use crate::tree::Module;
 use std::alloc::Global;
 use wasm_encoder_base::EncodeError;
-use wast_lexer::{LexFault, Lexer, Span, TokenTable};
+use wat_profile::{TextFault, encode, module_of};
 
 /// The binary of the module that a text spells.
 ///
@@ -35,7 +27,8 @@ pub fn assemble(alloc: Global, input: &[u8]) -> Result<Vec<u8>, Fault>
     };
     let module = match module_of(alloc, text) {
         Ok(module) => module,
-        Err(fault) => return Err(fault),
+        Err(TextFault::Misspelled(error)) => return Err(Fault::Spelling(error)),
+        Err(TextFault::Memory) => return Err(Fault::Memory),
     };
     match encode(alloc, &module) {
         Ok(binary) => Ok(binary),
@@ -56,42 +49,5 @@ fn utf8_of(input: &[u8]) -> Result<&str, Fault>
         Err(error) => Err(Fault::NotUtf8 {
             offset: error.valid_up_to(),
         }),
-    }
-}
-
-/// The module that a text spells.
-pub(crate) fn module_of(alloc: Global, text: &str) -> Result<Module<'_>, Fault>
-    requires { length text.now < 2 ^ 32 }
-    ensures { MatchResult result (λ m. Spells text.now (module_tree m)) (λ fault. IsUnspelled text.now fault) }
-{
-    let table = match TokenTable::new(alloc, Lexer::new(text)) {
-        Ok(table) => table,
-        Err(_) => return Err(Fault::Memory),
-    };
-    match table.fault() {
-        None => {}
-        Some(LexFault::Memory) => return Err(Fault::Memory),
-        Some(LexFault::Lex { span, error }) => {
-            return Err(misspelled(alloc, span.offset(), text_of(*error)));
-        }
-    }
-    match parse_module(alloc, text, &table) {
-        Ok(module) => Ok(module),
-        Err(ParseFault::Memory) => Err(Fault::Memory),
-        Err(ParseFault::Refused { offset, expected }) => Err(misspelled(
-            alloc,
-            offset,
-            expected.text(),
-        )),
-    }
-}
-
-/// The fault of a text that spells no module; `Memory` where the message finds none.
-fn misspelled(alloc: Global, offset: usize, message: &str) -> Fault
-    ensures { IsMisspelled result }
-{
-    match String::from_str(alloc, message) {
-        Ok(text) => Fault::Spelling(Error::new(Span::from_offset(offset), text)),
-        Err(_) => Fault::Memory,
     }
 }

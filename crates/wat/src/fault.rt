@@ -1,7 +1,7 @@
 //! Why no binary was made or written.
 
-use crate::error::Error;
 use wast_lexer::Span;
+use wat_profile::Error;
 
 /// Why no binary was made, read or written.
 ///

@@ -2,7 +2,6 @@ ghost use Rattle.std.specs.Prelude.{◌≡◌, ◌<◌, ◌^◌, [], length, IfO
 ghost use Rattle.wat.specs.Headline.{Assembles};
 
 use crate::counted::Counted;
-use crate::error::Error;
 use crate::fault::Fault;
 use crate::runner::run_into;
 use crate::{render, run, run_program};
@@ -12,6 +11,7 @@ use std::io::{ErrorKind, Read, Write};
 use std::process::Abort;
 use std::test::Fail;
 use wast_lexer::Span;
+use wat_profile::Error;
 
 /// Gives one byte a call; the call before which so many succeeded fails.
 #[derive(Drop)]

@@ -1,7 +1,5 @@
 //! Texts and their binaries, by the WebAssembly specification; nothing here is taken from this program's output.
 
-use crate::assembler::module_of;
-use crate::tree::{Instr, Instruction, Module};
 use crate::{Fault, Span, assemble};
 use std::alloc::Global;
 use std::process::Abort;
@@ -14,14 +12,6 @@ fn gives(rt: &impl Abort, alloc: Global, text: &str, sections: &[u8]) -> Result<
     assert_eq!(rt; &binary[..8], b"\0asm\x01\0\0\0".as_slice(), "{text}");
     assert_eq!(rt; &binary[8..], sections, "{text}");
     Ok(())
-}
-
-/// The tree that a text spells.
-fn tree_of(alloc: Global, text: &str) -> Result<Module<'_>, Fault> {
-    if text.len() > 4294967295 {
-        return Err(Fault::TooLong);
-    }
-    module_of(alloc, text)
 }
 
 /// Asserts that a text spells no module, and where.
@@ -270,77 +260,6 @@ fn no_text(rt: HostRuntime) {
             _ => assert!(rt; false, "{bytes:?}"),
         }
     }
-}
-
-#[test]
-fn trees(rt: HostRuntime) -> Result<(), Fail> {
-    let text = "(module\n  (func (export \"a\") nop i32.const -1 drop))";
-    let tree = tree_of(rt.alloc(), text)?;
-    assert_eq!(rt; tree.span, Span::from_offset(1));
-    assert_eq!(rt; tree.funcs.len(), 1);
-    let func = tree.funcs.first().ok_or("a function")?;
-    assert_eq!(rt; func.span.offset(), 11);
-    assert_eq!(rt; func.span.linecol_in(text), (1, 3));
-    assert_eq!(rt; func.exports.len(), 1);
-    assert!(rt; func.exports.iter().all(|e| e.name.as_str() == "a"));
-    assert_eq!(rt; func.body.len(), 3);
-    for (instr, kind) in func.body.iter().zip([
-        Instruction::Nop,
-        Instruction::I32Const(-1),
-        Instruction::Drop,
-    ]) {
-        assert_eq!(rt; instr.kind, kind);
-    }
-    Ok(())
-}
-
-/// The number of the only instruction of the only function; `None` where the text spells no module.
-fn number_of(alloc: Global, literal: &str) -> Result<Option<i32>, Fail> {
-    let text = format!(in alloc; "(module (func i32.const {literal}))")?;
-    match tree_of(alloc, text.as_str()) {
-        Err(_) => Ok(None),
-        Ok(tree) => {
-            let func = tree.funcs.first().ok_or("a function")?;
-            match func.body.first() {
-                Some(
-                    Instr {
-                        kind: Instruction::I32Const(value),
-                        ..
-                    },
-                ) => Ok(Some(*value)),
-                _ => Ok(None),
-            }
-        }
-    }
-}
-
-#[test]
-fn literals(rt: HostRuntime) -> Result<(), Fail> {
-    for (literal, value) in [
-        ("0", 0),
-        ("+7", 7),
-        ("2147483647", 2147483647),
-        ("2147483648", -2147483648),
-        ("4294967295", -1),
-        ("-2147483648", -2147483648),
-        ("1_000", 1000),
-        ("0xaF", 175),
-        ("+0x7fff_ffff", 2147483647),
-        ("-0x8000_0000", -2147483648),
-        ("00000000000000000000000000001", 1),
-    ] {
-        assert_eq!(rt; number_of(rt.alloc(), literal)?, Some(value), "{literal}");
-    }
-    for literal in [
-        "4294967296",
-        "-2147483649",
-        "99999999999999999999999",
-        "0x1_0000_0000",
-        "-0x8000_0001",
-    ] {
-        assert_eq!(rt; number_of(rt.alloc(), literal)?, None, "{literal}");
-    }
-    Ok(())
 }
 
 #[test]

@@ -1,5 +1,5 @@
 use Rattle.std.proofs.Common.{sym, ◌∙◌, ap, arith, ◌<◌, length, false-eqb}
-use Rattle.wast_lexer_strings.specs.Scan.{is_empty}
+use Rattle.wast_lexer_strings.specs.StringScan.{is_empty}
 use Rattle.wast_lexer.specs.Scan.{is_whole}
 use Rattle.wast_lexer.proofs.RunSteps.{string_is, end_is}
 use Rattle.wast_lexer.proofs.run.is_string.Goals as goal

@@ -1,5 +1,5 @@
 use Rattle.std.proofs.Common.{◌≡◌, length, true}
-use Rattle.wast_lexer_numbers.specs.Scan.{after}
+use Rattle.wast_lexer_numbers.specs.NumberScan.{after}
 use Rattle.wast_lexer_numbers.proofs.scan.after.Given as goal
 
 abbrev pub invariant-digits : goal.invariant-digits

@@ -1,5 +1,5 @@
 use Rattle.std.proofs.Common.{◌≡◌, length}
-use Rattle.wast_lexer_numbers.specs.Scan.{prefixed}
+use Rattle.wast_lexer_numbers.specs.NumberScan.{prefixed}
 use Rattle.wast_lexer_numbers.proofs.scan.prefixed.Given as goal
 
 abbrev pub invariant-bytes : goal.invariant-bytes

@@ -1,6 +1,6 @@
-use Rattle.wast_lexer_strings.proofs.Reading.{string_read}
+use Rattle.wast_lexer_strings.proofs.StringReading.{string_read}
 use Rattle.wast_lexer_strings.proofs.Sound.{read_sound}
-use Rattle.wast_lexer_strings.specs.Scan.State.{Within}
+use Rattle.wast_lexer_strings.specs.StringScan.State.{Within}
 use Rattle.wast_lexer_strings.proofs.laws.one_meaning.Goals as goal
 
 pub returns-clause-reads : goal.returns-clause-reads

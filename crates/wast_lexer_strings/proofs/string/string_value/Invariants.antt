@@ -1,6 +1,6 @@
 use Rattle.std.proofs.Common.{length, ◌-◌, ◌≡◌, ◌≤◌, drop}
-use Rattle.wast_lexer_strings.specs.Scan.{read, more}
-use Rattle.wast_lexer_strings.specs.Scan.State.{Within}
+use Rattle.wast_lexer_strings.specs.StringScan.{read, more}
+use Rattle.wast_lexer_strings.specs.StringScan.State.{Within}
 use Rattle.wast_lexer_strings.proofs.string.string_value.Given as goal
 
 abbrev pub invariant-elements : goal.invariant-elements

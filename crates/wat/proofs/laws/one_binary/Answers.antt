@@ -1,4 +1,4 @@
-use Rattle.wat.proofs.UniqueModule.{one_binary}
+use Rattle.wat_profile.proofs.UniqueModule.{one_binary}
 use Rattle.wat.proofs.laws.one_binary.Goals as goal
 
 pub returns : goal.returns

@@ -1,7 +1,7 @@
 use Rattle.std.proofs.Common.{refl}
-use Rattle.wat.specs.Syntax.{module_syntax}
-use Rattle.wat.proofs.GrammarLaws.{one_value}
-use Rattle.wat.proofs.SyntaxLaws.{module_laws}
+use Rattle.wat_profile.specs.Syntax.{module_syntax}
+use Rattle.wat_profile.proofs.GrammarLaws.{one_value}
+use Rattle.wat_profile.proofs.SyntaxLaws.{module_laws}
 use Rattle.wat.proofs.laws.one_tree.Goals as goal
 
 pub returns : goal.returns

@@ -1,4 +1,4 @@
-use Rattle.wat.proofs.Strings.{string_value_is}
+use Rattle.wat_profile.proofs.Strings.{string_value_is}
 use Rattle.wat.proofs.laws.string_value.Goals as goal
 
 pub returns : goal.returns

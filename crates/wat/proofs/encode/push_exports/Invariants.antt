@@ -1,8 +1,0 @@
-use Rattle.std.proofs.Common.{◌≡◌, ◌++◌, map, take}
-use Rattle.wat.specs.Meaning.{export_of}
-use Rattle.wat.specs.Trees.{export_tree}
-use Rattle.wat.specs.Encoding.{export_view}
-use Rattle.wat.proofs.encode.push_exports.Given as goal
-
-abbrev pub invariant-loop-name : goal.invariant-loop-name
-invariant-loop-name l = map export_view l.exports.items ≡ map export_view l.fn.exports.items ++ map (λ e. export_of l.index (export_tree e)) (take l.name-index l.names)

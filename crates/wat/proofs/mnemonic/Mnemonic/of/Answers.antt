@@ -1,7 +1,0 @@
-use Rattle.std.proofs.Common.{◌∙◌, ap}
-use Rattle.wasm_encoder_base.specs.Table.{find}
-use Rattle.wat.proofs.Mnemonics.{all_of_them}
-use Rattle.wat.proofs.mnemonic.Mnemonic.of.Goals as goal
-
-pub returns : goal.returns
-returns c = c.find_among.ensures ∙ ap (find c.args.text.now) all_of_them

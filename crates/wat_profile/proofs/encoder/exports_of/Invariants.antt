@@ -1,0 +1,8 @@
+use Rattle.std.proofs.Common.{◌≡◌, map, take}
+use Rattle.wat_profile.specs.Meaning.{exports_from}
+use Rattle.wat_profile.specs.Trees.{func_tree}
+use Rattle.wat_profile.specs.Encoding.{export_view}
+use Rattle.wat_profile.proofs.encoder.exports_of.Given as goal
+
+abbrev pub invariant-loop-index : goal.invariant-loop-index
+invariant-loop-index l = map export_view l.exports.items ≡ exports_from 0 (map func_tree (take l.index l.funcs))

@@ -1,0 +1,15 @@
+pub mod AbstractModule
+pub mod Answering
+pub mod Complaint
+pub mod Encoding
+pub mod Grammar
+pub mod Layout
+pub mod Meaning
+pub mod Means
+pub mod Parts
+pub mod Profile
+pub mod Reading
+pub mod Syntax
+pub mod Tokens
+pub mod Tree
+pub mod Trees

@@ -1,0 +1,45 @@
+//! The mnemonics of instructions.
+ghost use Rattle.std.specs.Prelude.{◌≡◌, map, option_map};
+ghost use Rattle.wasm_encoder_base.specs.Table.{find};
+ghost use Rattle.wat_profile.specs.Profile.{profile};
+ghost use Rattle.wat_profile.specs.Trees.{entry_of, mnemonic_text};
+
+#[derive(Clone, Copy, Debug, PartialEq, Eq)]
+pub enum Mnemonic {
+    Nop,
+    Drop,
+    I32Const,
+}
+
+/// The mnemonics in the order of the profile.
+const MNEMONICS: [Mnemonic; 3] = [Mnemonic::Nop, Mnemonic::Drop, Mnemonic::I32Const];
+
+impl Mnemonic {
+    /// The mnemonic that is written so.
+    pub fn of(text: &[u8]) -> Option<Mnemonic>
+        ensures { option_map entry_of result ≡ find text.now profile }
+    {
+        find_among(&MNEMONICS, text)
+    }
+
+    fn text(self) -> &'static str
+        ensures { result.now ≡ mnemonic_text self }
+    {
+        match self {
+            Mnemonic::Nop => "nop",
+            Mnemonic::Drop => "drop",
+            Mnemonic::I32Const => "i32.const",
+        }
+    }
+}
+
+fn find_among(mnemonics: &[Mnemonic], text: &[u8]) -> Option<Mnemonic>
+    ensures { option_map entry_of result ≡ find text.now (map entry_of mnemonics.now) }
+{
+    for mnemonic in mnemonics {
+        if text == mnemonic.text().as_bytes() {
+            return Some(*mnemonic);
+        }
+    }
+    None
+}

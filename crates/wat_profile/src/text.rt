@@ -1,0 +1,55 @@
+//! From a text to the module that it spells.
+
+ghost use Rattle.std.specs.Prelude.{◌≡◌, ◌<◌, ◌^◌, length, MatchResult};
+ghost use Rattle.wat_profile.specs.Answering.{IsErrorOf, IsUnspelled};
+ghost use Rattle.wat_profile.specs.Means.{Spells};
+ghost use Rattle.wat_profile.specs.Trees.{module_tree};
+
+use crate::error::Error;
+use crate::lex_error::text_of;
+use crate::parse_fault::ParseFault;
+use crate::syntax::parse_module;
+use crate::text_fault::TextFault;
+use crate::tree::Module;
+use std::alloc::Global;
+use wast_lexer::{LexFault, Lexer, Span, TokenTable};
+
+/// The module that a text spells, which is one at most.
+///
+/// Answers [`TextFault::Misspelled`] exactly where, memory found, the text spells none, and [`TextFault::Memory`] where
+/// a growth found no memory. The error's place is one of the text that its tokens reach, end to end.
+pub fn module_of(alloc: Global, text: &str) -> Result<Module<'_>, TextFault>
+    requires { length text.now < 2 ^ 32 }
+    ensures { MatchResult result (λ m. Spells text.now (module_tree m)) (λ fault. IsUnspelled text.now fault) }
+{
+    let table = match TokenTable::new(alloc, Lexer::new(text)) {
+        Ok(table) => table,
+        Err(_) => return Err(TextFault::Memory),
+    };
+    match table.fault() {
+        None => {}
+        Some(LexFault::Memory) => return Err(TextFault::Memory),
+        Some(LexFault::Lex { span, error }) => {
+            return Err(misspelled(alloc, span.offset(), text_of(*error)));
+        }
+    }
+    match parse_module(alloc, text, &table) {
+        Ok(module) => Ok(module),
+        Err(ParseFault::Memory) => Err(TextFault::Memory),
+        Err(ParseFault::Refused { offset, expected }) => Err(misspelled(
+            alloc,
+            offset,
+            expected.text(),
+        )),
+    }
+}
+
+/// The fault of a text that is misspelled at a place, with this message; `Memory` where the message finds none.
+fn misspelled(alloc: Global, offset: usize, message: &str) -> TextFault
+    ensures { IsErrorOf offset message.now result }
+{
+    match String::from_str(alloc, message) {
+        Ok(text) => TextFault::Misspelled(Error::new(Span::from_offset(offset), text)),
+        Err(_) => TextFault::Memory,
+    }
+}
