@@ -9,6 +9,7 @@ pub mod Types
 pub mod Views
 pub use Rattle.wasm_encoder_bytes.specs.Bytes
 pub use Rattle.wasm_encoder_bytes.specs.Decodes
+pub use Rattle.wasm_encoder_bytes.specs.Encodes
 pub use Rattle.wasm_encoder_bytes.specs.Leb
 pub use Rattle.wasm_encoder_bytes.specs.Reading
 pub use Rattle.wasm_encoder_bytes.specs.SpellingLaws

@@ -1,11 +1,13 @@
 //! Types and their spellings (WebAssembly 3.0, 5.3).
 
-ghost use Rattle.std.specs.Prelude.{◌≡◌, ◌∷◌, [], IfOk};
+ghost use Rattle.std.specs.Prelude.{◌≡◌, ◌<◌, ◌^◌, ◌∷◌, [], length, map, IfOk};
+ghost use Rattle.wasm_encoder_bytes.specs.Bytes.{counted};
+ghost use Rattle.wasm_encoder_bytes.specs.Encodes.{Encodes, Puts};
 ghost use Rattle.wasm_encoder_base.specs.Types.{abstract_heap_byte, heap_bytes, ref_bytes, val_bytes, storage_bytes, field_bytes, func_bytes, struct_bytes, array_bytes, composite_bytes, supertype_bytes, sub_bytes};
 ghost use Rattle.wasm_encoder_base.specs.Views.{abstract_view, heap_view, ref_view, val_view, storage_view, field_view, func_view, struct_view, array_view, composite_view, sub_view, func_fits, struct_fits, composite_fits};
 
 use std::alloc::{AllocError, Global};
-use wasm_encoder_bytes::{Encode, EncodeError, Items, encode_both};
+use wasm_encoder_bytes::{Encode, EncodeError, Items, encode_both, rolled_back};
 
 /// A heap type with a name of its own; each number is its byte.
 #[derive(Clone, Copy, Debug, PartialEq, Eq, Hash)]
@@ -226,13 +228,26 @@ impl Encode for FuncType {
 
     fn encode(&self, sink: &mut Vec<u8>) -> Result<(), EncodeError> {
         let start = sink.len();
-        0x60u8.encode(sink)?;
-        let result = encode_both(&self.params(), &self.results(), sink);
-        if result.is_err() {
-            sink.truncate(start);
-        }
-        result
+        let answer = put_func_type(self, sink);
+        rolled_back(sink, start, answer)
     }
+}
+
+/// Appends the bytes; refused, the sink is as it was and what was appended.
+fn put_func_type(func_type: &FuncType, sink: &mut Vec<u8>) -> Result<(), EncodeError>
+    ensures { Puts (func_bytes (func_view func_type.now)) (func_fits func_type.now) sink.old.items sink.new.items result }
+{
+    0x60u8.encode(sink)?;
+    encode_val_types(func_type.params(), sink)?;
+    encode_val_types(func_type.results(), sink)
+}
+
+/// Appends the count and the types.
+#[tactic(auto, using(crate::proofs::Mapped::counted_view))]
+fn encode_val_types(types: &[ValType], sink: &mut Vec<u8>) -> Result<(), EncodeError>
+    ensures { Encodes (counted val_bytes (map val_view types.now)) (length types.now < 2 ^ 32) sink.old.items sink.new.items result }
+{
+    types.encode(sink)
 }
 
 /// A structure's fields.
@@ -260,6 +275,7 @@ impl Encode for StructType {
 
     ghost spelling = { λ s. struct_bytes (struct_view s) };
 
+    #[tactic(auto, using(crate::proofs::Mapped::counted_view))]
     fn encode(&self, sink: &mut Vec<u8>) -> Result<(), EncodeError> {
         encode_both(&0x5Fu8, &self.fields.as_slice(), sink)
     }

@@ -1,5 +1,6 @@
 pub mod Bytes
 pub mod Decodes
+pub mod Encodes
 pub mod Leb
 pub mod Reading
 pub mod SpellingLaws

@@ -1,7 +1,9 @@
-ghost use Rattle.std.specs.Prelude.{◌≡◌, ℕ, ◌<◌, ◌^◌, ◌++◌, [], ◌∷◌, List, length, OnOk, OnErr, All, IsErrOf};
+ghost use Rattle.std.specs.Prelude.{◌≡◌, ℕ, ◌<◌, ◌^◌, ◌++◌, [], ◌∷◌, List, length, All};
 ghost use Rattle.wasm_encoder_bytes.specs.Leb.{uleb, sleb};
+ghost use Rattle.wasm_encoder_bytes.specs.Encodes.{Encodes, Puts};
 ghost use Rattle.wasm_encoder_bytes.specs.Bytes.{counted, sized};
 
+use crate::adding::rolled_back;
 use crate::error::EncodeError;
 use crate::leb::{push_signed, push_unsigned};
 
@@ -22,12 +24,10 @@ pub trait Encode {
     ///
     /// Answers [`EncodeError::TooLarge`] exactly where, memory found, a count or length does not fit, and
     /// [`EncodeError::Memory`] where a growth found no memory. Refused, the bytes of `sink` are unchanged.
+    /// All this is the record `Encodes` of `specs/`, which each call that appends in this way promises.
     fn encode(&self, sink: &mut Vec<u8>) -> Result<(), EncodeError>
         requires { can_encode self.now }
-        ensures spelled { OnOk result (sink.new.items ≡ sink.old.items ++ spelling self.now) }
-        ensures fits { OnOk result (fits self.now) }
-        ensures unchanged { OnErr result (sink.new.items ≡ sink.old.items) }
-        ensures too_large { IsErrOf result EncodeError.TooLarge → fits self.now → ⊥ };
+        ensures { Encodes (spelling self.now) (fits self.now) sink.old.items sink.new.items result };
 }
 
 /// The byte itself.
@@ -126,13 +126,7 @@ impl Encode for &str {
     ghost spelling = { λ text. sized text.now };
 
     fn encode(&self, sink: &mut Vec<u8>) -> Result<(), EncodeError> {
-        let start = sink.len();
-        self.len().encode(sink)?;
-        if sink.extend_from_slice(self.as_bytes()).is_err() {
-            sink.truncate(start);
-            return Err(EncodeError::Memory);
-        }
-        Ok(())
+        encode_sized(self.as_bytes(), sink)
     }
 }
 
@@ -159,21 +153,15 @@ impl<T: Encode> Encode for &[T] {
 
     fn encode(&self, sink: &mut Vec<u8>) -> Result<(), EncodeError> {
         let start = sink.len();
-        let result = put_all(*self, sink);
-        if result.is_err() {
-            sink.truncate(start);
-        }
-        result
+        let answer = put_all(*self, sink);
+        rolled_back(sink, start, answer)
     }
 }
 
 /// Appends the count and the items; refused, the sink is as it was and what was appended.
 fn put_all<T: Encode>(items: &[T], sink: &mut Vec<u8>) -> Result<(), EncodeError>
     requires { All T.can_encode items.now }
-    ensures spelled { OnOk result (sink.new.items ≡ sink.old.items ++ counted T.spelling items.now) }
-    ensures fits { OnOk result ((length items.now < 2 ^ 32) × All T.fits items.now) }
-    ensures too_large { IsErrOf result EncodeError.TooLarge → (length items.now < 2 ^ 32) → All T.fits items.now → ⊥ }
-    ensures grows { (more : List ℕ) × (sink.new.items ≡ sink.old.items ++ more) }
+    ensures { Puts (counted T.spelling items.now) ((length items.now < 2 ^ 32) × All T.fits items.now) sink.old.items sink.new.items result }
 {
     items.len().encode(sink)?;
     for item in items {
@@ -182,7 +170,7 @@ fn put_all<T: Encode>(items: &[T], sink: &mut Vec<u8>) -> Result<(), EncodeError
     Ok(())
 }
 
-/// Appends two spellings, one after the other; refused, the sink's bytes are unchanged.
+/// Appends two spellings, one after the other.
 pub fn encode_both<T: Encode, U: Encode>(
     first: &T,
     second: &U,
@@ -190,16 +178,21 @@ pub fn encode_both<T: Encode, U: Encode>(
 ) -> Result<(), EncodeError>
     requires first { T.can_encode first.now }
     requires second { U.can_encode second.now }
-    ensures spelled { OnOk result (sink.new.items ≡ sink.old.items ++ (T.spelling first.now ++ U.spelling second.now)) }
-    ensures fits { OnOk result (T.fits first.now × U.fits second.now) }
-    ensures unchanged { OnErr result (sink.new.items ≡ sink.old.items) }
-    ensures too_large { IsErrOf result EncodeError.TooLarge → T.fits first.now → U.fits second.now → ⊥ }
+    ensures { Encodes (T.spelling first.now ++ U.spelling second.now) (T.fits first.now × U.fits second.now) sink.old.items sink.new.items result }
 {
     let start = sink.len();
     first.encode(sink)?;
-    let result = second.encode(sink);
-    if result.is_err() {
-        sink.truncate(start);
-    }
-    result
+    let answer = second.encode(sink);
+    rolled_back(sink, start, answer)
+}
+
+/// Appends the byte count and the bytes as they are: a name, or a part that has its size before it.
+pub fn encode_sized(bytes: &[u8], sink: &mut Vec<u8>) -> Result<(), EncodeError>
+    ensures { Encodes (sized bytes.now) (length bytes.now < 2 ^ 32) sink.old.items sink.new.items result }
+{
+    let start = sink.len();
+    bytes.len().encode(sink)?;
+    let answer = sink.extend_from_slice(bytes);
+    rolled_back(sink, start, answer)?;
+    Ok(())
 }

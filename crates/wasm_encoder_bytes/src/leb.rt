@@ -1,6 +1,7 @@
-ghost use Rattle.std.specs.Prelude.{◌≡◌, ◌+◌, ◌<◌, ◌≤◌, ◌++◌, length, OnOk, OnErr};
+ghost use Rattle.std.specs.Prelude.{◌≡◌, ◌+◌, ◌<◌, ◌≤◌, ◌++◌, length, List, ℕ, OnOk, OnErr};
 ghost use Rattle.wasm_encoder_bytes.specs.Leb.{seven, leb, uleb, sleb};
 
+use crate::adding::rolled_back;
 use std::alloc::AllocError;
 
 /// How many bytes the shortest unsigned LEB128 of `n` has: 1 to 5 (WebAssembly 3.0, 5.2.2).
@@ -48,7 +49,8 @@ pub fn seven(flip: bool, d: u8) -> u8
     if flip { 127 - d } else { d }
 }
 
-/// Appends `n`, seven bits at a time; the last byte stands for less than `limit`.
+/// Appends `n`, seven bits at a time, the last byte of which stands for less than `limit`; refused, the
+/// sink's bytes are unchanged.
 fn push_leb(sink: &mut Vec<u8>, flip: bool, limit: u64, n: u64) -> Result<(), AllocError>
     requires low { 0 < limit }
     requires high { limit ≤ 128 }
@@ -56,17 +58,22 @@ fn push_leb(sink: &mut Vec<u8>, flip: bool, limit: u64, n: u64) -> Result<(), Al
     ensures err { OnErr result (sink.new.items ≡ sink.old.items) }
 {
     let start = sink.len();
+    let answer = put_leb(sink, flip, limit, n);
+    rolled_back(sink, start, answer)
+}
+
+/// The same; refused, the sink is as it was and what was appended.
+fn put_leb(sink: &mut Vec<u8>, flip: bool, limit: u64, n: u64) -> Result<(), AllocError>
+    requires low { 0 < limit }
+    requires high { limit ≤ 128 }
+    ensures ok { OnOk result (sink.new.items ≡ sink.old.items ++ leb flip limit n) }
+    ensures grows { (more : List ℕ) × (sink.new.items ≡ sink.old.items ++ more) }
+{
     let mut rest = n;
     while rest >= limit {
-        if sink.push(128 + seven(flip, (rest % 128) as u8)).is_err() {
-            sink.truncate(start);
-            return Err(AllocError);
-        }
+        sink.push(128 + seven(flip, (rest % 128) as u8))?;
         rest /= 128;
     }
-    if sink.push(seven(flip, rest as u8)).is_err() {
-        sink.truncate(start);
-        return Err(AllocError);
-    }
+    sink.push(seven(flip, rest as u8))?;
     Ok(())
 }

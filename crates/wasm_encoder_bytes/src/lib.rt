@@ -5,6 +5,7 @@
 //! is the shortest one.
 #![tactic(auto)]
 
+mod adding;
 mod encode;
 mod error;
 mod ieee;
@@ -13,7 +14,8 @@ pub mod laws;
 mod leb;
 mod reading;
 
-pub use encode::{Encode, encode_both};
+pub use adding::{Added, rolled_back};
+pub use encode::{Encode, encode_both, encode_sized};
 pub use error::EncodeError;
 pub use ieee::{Ieee32, Ieee64};
 pub use items::{Bytes, Items};

@@ -9,12 +9,11 @@ ghost use Rattle.wasm_encoder_code.specs.Locals.{pair_bytes, LocalsFit};
 ghost use Rattle.wasm_encoder_code.specs.Sink.{bytes_row};
 ghost use Rattle.wasm_encoder_code.specs.contracts.function.Function.{the_row};
 
-use crate::added::Added;
 use crate::locals::joined;
 use crate::sink::InstructionSink;
 use std::alloc::{AllocError, Global};
 use std::marker::Model;
-use wasm_encoder_base::{Encode, EncodeError, ValType};
+use wasm_encoder_base::{Added, Encode, EncodeError, ValType};
 use wasm_encoder_instr::Instruction;
 
 /// The body of a function: its locals and its instructions. Contracts see the bytes.

@@ -1,7 +1,7 @@
 -- What the encoder's instructions are: an opcode of the table and its operands (WebAssembly 3.0, 5.4).
 use Rattle.std.specs.Prelude.{◌<◌, ◌^◌, [], ◌∷◌, length, map}
 use Rattle.wasm_encoder_base.specs.Leb.{uleb}
-use Rattle.wasm_encoder_base.specs.Instr.{Instr, Operands, NoOperands, Index, Pair, LabelTable, Block, TryTable, ValTypes, I32, I64, F32, F64, Memory, Fence}
+use Rattle.wasm_encoder_base.specs.Instr.{Instr, Operands, NoOperands, Index, Pair, LabelTable, Block, TryTable, ValTypes, I32, I64, F32, F64, Memory, Fence, counts_fit}
 use Rattle.wasm_encoder_base.specs.Views.{val_view}
 use Rattle.wasm_encoder_instr.specs.Block.{block_view}
 use Rattle.wasm_encoder_instr.specs.Catch.{catch_view}
@@ -89,13 +89,6 @@ can_encode_instr (variants.AtomicRmw op memarg) = memarg.align < 16
 can_encode_instr (variants.VectorArg op) = can_encode_vector_arg op
 can_encode_instr _ = Unit {0}
 
--- the counts of lists are at most 4294967295
-abbrev pub counts_fit : Operands → Type 0
-counts_fit (LabelTable labels default) = length labels < 2 ^ 32
-counts_fit (ValTypes types) = length types < 2 ^ 32
-counts_fit (TryTable block_type catches) = length catches < 2 ^ 32
-counts_fit _ = Unit {0}
-
--- those of the instruction's operands
+-- the counts of the instruction's operands are at most 4294967295
 abbrev pub fits_instr : Instruction → Type 0
 fits_instr i = counts_fit (instr_view i).operands

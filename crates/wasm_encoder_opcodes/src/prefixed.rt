@@ -1,6 +1,6 @@
 ghost use Rattle.std.specs.Prelude.{◌≡◌, ◌+◌, ◌++◌, ◌∷◌};
 
-use wasm_encoder_base::{Encode, EncodeError};
+use wasm_encoder_base::{Encode, EncodeError, encode_both};
 
 /// An opcode of two parts: a prefix, which is a byte, and a number.
 #[derive(Clone, Copy, Debug)]
@@ -18,12 +18,6 @@ impl Encode for Prefixed {
 
     fn encode(&self, sink: &mut Vec<u8>) -> Result<(), EncodeError> {
         let Prefixed(prefix, number) = self;
-        let start = sink.len();
-        prefix.encode(sink)?;
-        let result = number.encode(sink);
-        if result.is_err() {
-            sink.truncate(start);
-        }
-        result
+        encode_both(prefix, number, sink)
     }
 }
