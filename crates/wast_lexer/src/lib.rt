@@ -26,6 +26,3 @@ pub use token::{Token, TokenKind};
 pub use tokens::Tokens;
 pub use wast_lexer_numbers::{Float, FloatKind, Integer, IntegerKind, SignToken};
 pub use wast_lexer_strings::LexError;
-
-#[cfg(test)]
-mod tests;

@@ -1,0 +1,42 @@
+//! What the crates that read text say of the texts on standard input, one a line.
+//!
+//! A line is a word, which says what is asked, and a text in which `%` and two hexadecimal digits stand for a byte:
+//! - `tokens TEXT`: the tokens of the text, a line each: kind, offset, length, what the token's reader answers, and for
+//!   a `(` the index of the token that ends its group; then why there are no more, where that isn't the end;
+//! - `allowed TEXT`: the same, with confusing characters allowed;
+//! - `place OFFSET TEXT`: the line and the column of an offset;
+//! - `errors`: the text of each lexical error.
+#![tactic(auto)]
+
+mod lexer;
+
+use percent_encoding::percent_decode;
+use std::io;
+
+fn main(rt: HostRuntime) -> io::Result<()> {
+    for line in rt.lines(rt.alloc()) {
+        let line = line?;
+        println!(rt; "> {line}")?;
+        answer(rt, line.as_str())?;
+    }
+    Ok(())
+}
+
+/// Prints what a line asks for.
+fn answer(rt: HostRuntime, line: &str) -> io::Result<()> {
+    let (word, rest) = line.split_once(' ').unwrap_or((line, ""));
+    let Ok(text) = percent_decode(rest.as_bytes()).decode_utf8(rt.alloc()) else {
+        return println!(rt; "no text");
+    };
+    if word == "tokens" {
+        lexer::tokens(rt, text.as_str(), false)
+    } else if word == "allowed" {
+        lexer::tokens(rt, text.as_str(), true)
+    } else if word == "place" {
+        lexer::place(rt, text.as_str())
+    } else if word == "errors" {
+        lexer::errors(rt)
+    } else {
+        println!(rt; "no such word")
+    }
+}
