@@ -19,6 +19,4 @@ pub use wast_lexer::Span;
 pub use wat_profile::Error;
 
 #[cfg(test)]
-mod run_tests;
-#[cfg(test)]
-mod tests;
+mod bound_tests;

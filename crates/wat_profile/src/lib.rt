@@ -21,8 +21,3 @@ pub use error::Error;
 pub use text::module_of;
 pub use text_fault::TextFault;
 pub use tree::{Export, Func, Instr, Instruction, Module};
-
-#[cfg(test)]
-mod encoder_tests;
-#[cfg(test)]
-mod tests;

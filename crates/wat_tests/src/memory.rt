@@ -1,0 +1,89 @@
+//! Calls that want memory: each finds it, and where a growth is refused (`bin/refuse`) answers so and nothing else; a test whose
+//! name begins with `refused_growths` then fails by its result.
+
+use std::alloc::Global;
+use std::process::Abort;
+use std::test::Fail;
+use wat::{Error, Fault, Span, assemble, render};
+
+#[test]
+fn ample_assemble(rt: HostRuntime) -> Result<(), Fail> {
+    assert_eq!(rt; assemble(rt.alloc(), b"(module)")?.len(), 8);
+    Ok(())
+}
+
+#[test]
+fn ample_message(rt: HostRuntime) -> Result<(), Fail> {
+    assert_message(&rt, rt.alloc())
+}
+
+#[test]
+fn ample_render(rt: HostRuntime) -> Result<(), Fail> {
+    let text = render(rt.alloc(), &Fault::Memory, b"")?;
+    assert_eq!(rt; text.as_str(), "out of memory");
+    Ok(())
+}
+
+/// 100,000 comments in one another, and as many in a row.
+#[test]
+fn many_comments(rt: HostRuntime) -> Result<(), Fail> {
+    let mut text = String::from_str(rt.alloc(), "(module ")?;
+    for part in ["(;", ";)", "(;;) "] {
+        for _ in 0..100_000 {
+            text.push_str(part)?;
+        }
+    }
+    text.push_str(")")?;
+    assert_eq!(rt; assemble(rt.alloc(), text.as_str().as_bytes())?.len(), 8);
+    Ok(())
+}
+
+#[test]
+fn refused_growths_of_a_binary(rt: HostRuntime) -> Result<(), Fail> {
+    let text = b"(module (func (export \"a\") nop i32.const 1 drop) (func (export \"\\62\")))";
+    match assemble(rt.alloc(), text) {
+        Ok(binary) => assert_eq!(rt; binary.len(), 43),
+        Err(fault) => {
+            assert!(rt; matches!(&fault, Fault::Memory));
+            return Err(fault.into());
+        }
+    }
+    Ok(())
+}
+
+#[test]
+fn refused_growths_of_a_fault(rt: HostRuntime) -> Result<(), Fail> {
+    match assemble(rt.alloc(), b"(module (func (export \"a\") drop) $)") {
+        Err(Fault::Memory) => Err("out of memory".into()),
+        Err(Fault::Spelling(error)) => {
+            assert_eq!(rt; error.span().offset(), 33);
+            Ok(())
+        }
+        _ => {
+            assert!(rt; false);
+            Ok(())
+        }
+    }
+}
+
+#[test]
+fn refused_growths_of_a_message(rt: HostRuntime) -> Result<(), Fail> {
+    assert_message(&rt, rt.alloc())
+}
+
+fn assert_message(rt: &impl Abort, alloc: Global) -> Result<(), Fail> {
+    let error = Error::new(Span::from_offset(0), String::from_str(alloc, "x")?);
+    assert_eq!(rt; error.message(alloc)?.as_str(), "x");
+    Ok(())
+}
+
+#[test]
+fn refused_growths_of_a_text(rt: HostRuntime) -> Result<(), Fail> {
+    let fault = Fault::NotWellFormed(Span::from_offset(1));
+    let text = render(rt.alloc(), &fault, b"\t(")?;
+    assert_eq!(rt;
+        text.as_str(),
+        "module isn't well formed\n     --> <anon>:1:2\n      |\n    1 |     (\n      |     ^"
+    );
+    Ok(())
+}
