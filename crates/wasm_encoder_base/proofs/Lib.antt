@@ -1,3 +1,4 @@
+pub mod Entries
 pub mod Examples
 pub mod Mapped
 pub mod UniqueInstr

@@ -6,9 +6,9 @@ use Rattle.std.specs.Cmp.Lexicographic.{same_text as text_equal}
 use Rattle.std.specs.List.{AllByRecursion}
 use Rattle.std.specs.Option.{option_map}
 use Rattle.wasm_encoder_bytes.specs.Leb.{uleb, leb, digits}
-use Rattle.wasm_encoder_base.specs.Instr.{Instr, Kind, Nothing, kind_of, kind_of_row, operand_bytes, instr_bytes, expr_bytes, row_among, row_at, kind_at, IsInstr}
+use Rattle.wasm_encoder_base.specs.Instr.{Instr, Kind, Nothing, kind_of, kind_of_syntax, operand_bytes, instr_bytes, expr_bytes, kind_at, IsInstr}
 use Rattle.wasm_encoder_base.specs.Balanced.{Turn, Opens, Closes, Stays, turn_of, turned, IsBalanced}
-use Rattle.wasm_encoder_base.specs.Table.{Entry, Row, table, same_text}
+use Rattle.wasm_encoder_base.specs.Table.{Entry, table, entry_among, entry_at, same_text}
 use Rattle.wasm_encoder_base.specs.Distinct.{opcodes, mnemonics, single_mnemonic, are_distinct, begins, apart_from, are_apart}
 use Rattle.wasm_encoder_bytes.specs.Unique.{Unique, Injective}
 use Rattle.wasm_encoder_base.proofs.UniqueOperands.{operands_one}
@@ -30,8 +30,8 @@ pub table-entries : length table ≡ 575
 unfolding table uleb leb digits
 table-entries = refl
 
-no-empty-opcode : row_at [] ≡ None
-unfolding row_at table uleb leb digits
+no-empty-opcode : entry_at [] ≡ None
+unfolding entry_at table uleb leb digits
 no-empty-opcode = refl
 
 -- what a test that chooses by another knows
@@ -43,10 +43,10 @@ neither-true : (a b : Bool) → (elim a as (λ _. Bool) [ true ↦ false | false
 neither-true true b e = cc
 neither-true false b e = (refl, e)
 
--- an entry that stands in the list with this row: here, or later
-row-cases : (a : Bool) (r row : Row) (rest : Option Row) → (elim a as (λ _. Option Row) [ true ↦ Some r | false ↦ rest ]) ≡ Some row → (a ≡ true) ⊎ (rest ≡ Some row)
-row-cases true r row rest e = inl refl
-row-cases false r row rest e = inr e
+-- an entry that stands in the list: here, or later
+entry-cases : (a : Bool) (e entry : Entry) (rest : Option Entry) → (elim a as (λ _. Option Entry) [ true ↦ Some e | false ↦ rest ]) ≡ Some entry → (a ≡ true) ⊎ (rest ≡ Some entry)
+entry-cases true e entry rest q = inl refl
+entry-cases false e entry rest q = inr q
 
 same-text : (a b : List ℕ) → same_text a b ≡ true → a ≡ b
 same-text a b e = text_equal a b (sym e)
@@ -58,12 +58,12 @@ begins-either (x ∷ xs) (y ∷ ys) r s e =
     ⊎_elim (λ p. inl (rw (eq-eqb x y (cons_head e), begins) p)) (λ p. inr (rw (eq-eqb y x (sym (cons_head e)), begins) p)) (begins-either xs ys r s (cons_tail e))
 
 -- a text apart from those of a list that has this one
-apart-at : (x b : List ℕ) (es : List Entry) (row : Row) → apart_from x (opcodes es) ≡ true → row_among b es ≡ Some row → (begins x b ≡ false) × (begins b x ≡ false)
-apart-at x b [] row p q = cc
-apart-at x b (y ∷ ys) row p q =
+apart-at : (x b : List ℕ) (es : List Entry) (entry : Entry) → apart_from x (opcodes es) ≡ true → entry_among b es ≡ Some entry → (begins x b ≡ false) × (begins b x ≡ false)
+apart-at x b [] entry p q = cc
+apart-at x b (y ∷ ys) entry p q =
     let h = neither-true (begins x y.opcode) _ p in
     let k = neither-true (begins y.opcode x) (apart_from x (opcodes ys)) h.1 in
-    ⊎_elim (λ e. let f = same-text b y.opcode e in rw f (h.0, k.0)) (λ e. apart-at x b ys row k.1 e) (row-cases (same_text b y.opcode) y.row row (row_among b ys) q)
+    ⊎_elim (λ e. let f = same-text b y.opcode e in rw f (h.0, k.0)) (λ e. apart-at x b ys entry k.1 e) (entry-cases (same_text b y.opcode) y entry (entry_among b ys) q)
 
 true-false : {Z : Type 0} (b : Bool) → b ≡ true → b ≡ false → Z
 true-false b p q = absurd cc
@@ -73,38 +73,38 @@ not-apart : {Z : Type 0} (a b r s : List ℕ) → a ++ r ≡ b ++ s → begins a
 not-apart a b r s e p q = ⊎_elim (λ m. true-false (begins a b) m p) (λ m. true-false (begins b a) m q) (begins-either a b r s e)
 
 -- two opcodes of a list of which none begins another
-apart-same : (es : List Entry) (a b r s : List ℕ) (j k : Row) → are_apart (opcodes es) ≡ true → row_among a es ≡ Some j → row_among b es ≡ Some k → a ++ r ≡ b ++ s → a ≡ b
+apart-same : (es : List Entry) (a b r s : List ℕ) (j k : Entry) → are_apart (opcodes es) ≡ true → entry_among a es ≡ Some j → entry_among b es ≡ Some k → a ++ r ≡ b ++ s → a ≡ b
 apart-same [] a b r s j k t p q e = cc
 apart-same (x ∷ xs) a b r s j k t p q e =
     let u = both-true (apart_from x.opcode (opcodes xs)) (are_apart (opcodes xs)) t in
     ⊎_elim
     (λ f. ⊎_elim (λ g. same-text a x.opcode f ∙ sym (same-text b x.opcode g))
     (λ g. let z = same-text a x.opcode f in let w = apart-at x.opcode b xs k u.0 g in not-apart x.opcode b r s (subst (λ v. v ++ r ≡ b ++ s) z e) w.0 w.1)
-    (row-cases (same_text b x.opcode) x.row k (row_among b xs) q))
+    (entry-cases (same_text b x.opcode) x k (entry_among b xs) q))
     (λ f. ⊎_elim
     (λ g. let z = same-text b x.opcode g in let w = apart-at x.opcode a xs j u.0 f in not-apart a x.opcode r s (subst (λ v. a ++ r ≡ v ++ s) z e) w.1 w.0)
     (λ g. apart-same xs a b r s j k u.1 f g e)
-    (row-cases (same_text b x.opcode) x.row k (row_among b xs) q))
-    (row-cases (same_text a x.opcode) x.row j (row_among a xs) p)
+    (entry-cases (same_text b x.opcode) x k (entry_among b xs) q))
+    (entry-cases (same_text a x.opcode) x j (entry_among a xs) p)
 
-opcode-one : (a b r s : List ℕ) (j k : Row) → row_at a ≡ Some j → row_at b ≡ Some k → a ++ r ≡ b ++ s → a ≡ b
-unfolding row_at
+opcode-one : (a b r s : List ℕ) (j k : Entry) → entry_at a ≡ Some j → entry_at b ≡ Some k → a ++ r ≡ b ++ s → a ≡ b
+unfolding entry_at
 opcode-one a b r s j k p q e = apart-same table a b r s j k opcodes-apart p q e
 
 some_one : {A : Type 0} {x y : A} → Some x ≡ Some y → x ≡ y
 some_one e = cc
 
--- an opcode with operands has a row
-has_row : (k : Kind) (row : Option Row) → option_map kind_of_row row ≡ Some k → (r : Row) × (row ≡ Some r)
-has_row k (Some r) e = (r, refl)
-has_row k None e = absurd cc
+-- an opcode with operands has an entry
+has_entry : (k : Kind) (found : Option Entry) → option_map (λ e. kind_of_syntax e.operands) found ≡ Some k → (entry : Entry) × (found ≡ Some entry)
+has_entry k (Some entry) e = (entry, refl)
+has_entry k None e = absurd cc
 
-row_listed : (o : List ℕ) (k : Kind) → kind_at o ≡ Some k → (r : Row) × (row_at o ≡ Some r)
-row_listed o k e = has_row k (row_at o) e
+entry_listed : (o : List ℕ) (k : Kind) → kind_at o ≡ Some k → (entry : Entry) × (entry_at o ≡ Some entry)
+entry_listed o k e = has_entry k (entry_at o) e
 
 -- opcodes of the table are told apart, whatever follows
 pub opcode_listed : (a b r s : List ℕ) (j k : Kind) → kind_at a ≡ Some j → kind_at b ≡ Some k → a ++ r ≡ b ++ s → a ≡ b
-opcode_listed a b r s j k p q e = let u = row_listed a j p in let v = row_listed b k q in opcode-one a b r s u.0 v.0 u.1 v.1 e
+opcode_listed a b r s j k p q e = let u = entry_listed a j p in let v = entry_listed b k q in opcode-one a b r s u.0 v.0 u.1 v.1 e
 
 pub unique_instr : Unique IsInstr instr_bytes
 unique_instr = record {
@@ -118,15 +118,15 @@ unique_instr = record {
 }
 
 -- no instruction has no bytes
-opcode-full : (o : List ℕ) (row : Row) → row_at o ≡ Some row → o ≢ []
-opcode-full o row p e = let n : None ≡ Some row = sym no-empty-opcode ∙ ap row_at (sym e) ∙ p in cc
+opcode-full : (o : List ℕ) (entry : Entry) → entry_at o ≡ Some entry → o ≢ []
+opcode-full o entry p e = let n : None ≡ Some entry = sym no-empty-opcode ∙ ap entry_at (sym e) ∙ p in cc
 
 append-full : (a b : List ℕ) → a ++ b ≡ [] → a ≡ []
 append-full [] b e = refl
 append-full (x ∷ a) b e = cc
 
 instr-full : (i : Instr) → IsInstr i → instr_bytes i ≢ []
-instr-full i p e = let u = row_listed i.opcode (kind_of i.operands) p.listed in opcode-full i.opcode u.0 u.1 (append-full i.opcode (operand_bytes i.operands) e)
+instr-full i p e = let u = entry_listed i.opcode (kind_of i.operands) p.listed in opcode-full i.opcode u.0 u.1 (append-full i.opcode (operand_bytes i.operands) e)
 
 -- a body that ends where its bytes end
 pub injective_expr : Injective (AllByRecursion IsInstr) expr_bytes
@@ -134,7 +134,7 @@ injective_expr = record { reads = λ x y p q e. (injective_all unique_instr inst
 
 -- the end is an instruction
 end_listed : kind_at (0x0B ∷ []) ≡ Some Nothing
-unfolding row_at table uleb leb digits
+unfolding entry_at table uleb leb digits
 end_listed = refl
 
 -- no instruction that may stand where no block is open begins with the end

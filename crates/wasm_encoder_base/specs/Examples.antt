@@ -1,7 +1,7 @@
 -- Instructions and their bytes, by hand.
 use Rattle.std.specs.Prelude.{ℕ, ◌≡◌, List, [], ◌∷◌, true, false}
 use Rattle.wasm_encoder_base.specs.Types.{Abstract, AnyHeap, EqHeap}
-use Rattle.wasm_encoder_base.specs.Instr.{Instr, NoResult, CatchTag, CatchAllRef, Pair, LabelTable, TryTable, Cast, F32, Memory, IsInstr, instr_bytes}
+use Rattle.wasm_encoder_base.specs.Instr.{Instr, NoResult, CatchTag, CatchAllRef, Indirect, Init, LabelTable, TryTable, Cast, F32, Memory, IsInstr, instr_bytes}
 
 -- the instruction has these bytes
 pub record IsSpelled (i : Instr) (bytes : List ℕ) : Type 0 where
@@ -10,7 +10,11 @@ pub record IsSpelled (i : Instr) (bytes : List ℕ) : Type 0 where
 
 -- call_indirect 2 (type 1)
 abbrev pub CallIndirect : Type 0
-CallIndirect = IsSpelled (record { opcode = 0x11 ∷ []; operands = Pair 1 2 }) (0x11 ∷ 0x01 ∷ 0x02 ∷ [])
+CallIndirect = IsSpelled (record { opcode = 0x11 ∷ []; operands = Indirect 2 1 }) (0x11 ∷ 0x01 ∷ 0x02 ∷ [])
+
+-- memory.init 1 2: the segment stands before the memory
+abbrev pub MemoryInit : Type 0
+MemoryInit = IsSpelled (record { opcode = 0xFC ∷ 0x08 ∷ []; operands = Init 1 2 }) (0xFC ∷ 0x08 ∷ 0x02 ∷ 0x01 ∷ [])
 
 -- br_table 1 2 3
 abbrev pub BrTable : Type 0

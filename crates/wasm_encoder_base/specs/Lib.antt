@@ -3,9 +3,11 @@ pub mod Distinct
 pub mod Examples
 pub mod Instr
 pub mod Laws
-pub mod Row
+pub mod OperandSyntax
+pub mod Samples
 pub mod Table
 pub mod Types
+pub mod Uncovered
 pub mod Views
 pub use Rattle.wasm_encoder_bytes.specs.Bytes
 pub use Rattle.wasm_encoder_bytes.specs.Decodes

@@ -1,10 +1,11 @@
 //! Laws of the spellings: functions without parameters whose contracts are the laws. They do nothing.
 
-ghost use Rattle.wasm_encoder_base.specs.Examples.{CallIndirect, BrTable, Load, BrOnCast, Try, Float};
+ghost use Rattle.wasm_encoder_base.specs.Samples.{SamplesListed, DoublesListed};
+ghost use Rattle.wasm_encoder_base.specs.Examples.{CallIndirect, MemoryInit, BrTable, Load, BrOnCast, Try, Float};
 ghost use Rattle.std.specs.Prelude.{◌≡◌, ◌∷◌, []};
 ghost use Rattle.wasm_encoder_base.specs.Types.{ref_bytes};
 ghost use Rattle.wasm_encoder_base.specs.Views.{ref_view};
-ghost use Rattle.wasm_encoder_base.specs.Laws.{OneHeapType, OneRefType, OneValType, OneFieldType, OneFuncType, OneSubType, OneInstruction, OneExpression, EntryCount, OpcodesDistinct, OpcodesApart, MnemonicsDistinct};
+ghost use Rattle.wasm_encoder_base.specs.Laws.{OneHeapType, OneRefType, OneValType, OneFieldType, OneFuncType, OneSubType, OneInstruction, OneExpression, EntryCount, OpcodesDistinct, OpcodesApart, MnemonicsDistinct, EntriesDistinct, UncoveredDistinct, UncoveredUnlisted};
 
 use crate::types::RefType;
 pub use wasm_encoder_bytes::laws::{one_reading, shortest};
@@ -35,17 +36,29 @@ pub fn one_instruction()
 {}
 
 /// The table of instructions has 575 entries; their opcodes are distinct and none begins another; their
-/// mnemonics are distinct, save `select`, `ref.test` and `ref.cast`.
+/// mnemonics are distinct, save `select`, `ref.test` and `ref.cast`, which have two entries each, and no two
+/// entries have a mnemonic and the operands in common.
 pub fn distinct_entries()
     ensures entries { EntryCount }
     ensures opcodes { OpcodesDistinct }
     ensures none_begins_another { OpcodesApart }
     ensures mnemonics { MnemonicsDistinct }
+    ensures doubles { DoublesListed }
+    ensures operands { EntriesDistinct }
 {}
 
-/// A few instructions of the table and their bytes, by hand.
+/// The mnemonics of the instructions that are refused as uncovered are distinct from each other and from the
+/// table's.
+pub fn distinct_uncovered()
+    ensures mnemonics { UncoveredDistinct }
+    ensures unlisted { UncoveredUnlisted }
+{}
+
+/// Entries of the table of each operand syntax, and a few instructions and their bytes, by hand.
 pub fn examples()
+    ensures entries { SamplesListed }
     ensures indices { CallIndirect }
+    ensures segments { MemoryInit }
     ensures labels { BrTable }
     ensures memory_argument { Load }
     ensures reference_types { BrOnCast }

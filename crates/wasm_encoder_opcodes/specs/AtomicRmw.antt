@@ -1,10 +1,62 @@
 -- Atomic instructions that read, change and write: opcodes FE from 30 on. (WebAssembly 3.0, 5.4)
-use Rattle.std.specs.Prelude.{ℕ, List, ◌∷◌}
+use Rattle.std.specs.Prelude.{ℕ, List, ◌∷◌, codes}
 use Rattle.wasm_encoder_base.specs.Leb.{uleb}
 use Rattle.wasm_encoder_opcodes.specs.declared.atomic_rmw.AtomicRmwOp.{AtomicRmwOp}
 use Rattle.wasm_encoder_opcodes.specs.declared.atomic_rmw.AtomicRmwOp.TheVariants.{I32AtomicRmwAdd, I64AtomicRmwAdd, I32AtomicRmw8AddU, I32AtomicRmw16AddU, I64AtomicRmw8AddU, I64AtomicRmw16AddU, I64AtomicRmw32AddU, I32AtomicRmwSub, I64AtomicRmwSub, I32AtomicRmw8SubU, I32AtomicRmw16SubU, I64AtomicRmw8SubU, I64AtomicRmw16SubU, I64AtomicRmw32SubU, I32AtomicRmwAnd, I64AtomicRmwAnd, I32AtomicRmw8AndU, I32AtomicRmw16AndU, I64AtomicRmw8AndU, I64AtomicRmw16AndU, I64AtomicRmw32AndU, I32AtomicRmwOr, I64AtomicRmwOr, I32AtomicRmw8OrU, I32AtomicRmw16OrU, I64AtomicRmw8OrU, I64AtomicRmw16OrU, I64AtomicRmw32OrU, I32AtomicRmwXor, I64AtomicRmwXor, I32AtomicRmw8XorU, I32AtomicRmw16XorU, I64AtomicRmw8XorU, I64AtomicRmw16XorU, I64AtomicRmw32XorU, I32AtomicRmwXchg, I64AtomicRmwXchg, I32AtomicRmw8XchgU, I32AtomicRmw16XchgU, I64AtomicRmw8XchgU, I64AtomicRmw16XchgU, I64AtomicRmw32XchgU, I32AtomicRmwCmpxchg, I64AtomicRmwCmpxchg, I32AtomicRmw8CmpxchgU, I32AtomicRmw16CmpxchgU, I64AtomicRmw8CmpxchgU, I64AtomicRmw16CmpxchgU, I64AtomicRmw32CmpxchgU}
 
--- the number of each instruction
+-- the mnemonic of each instruction
+abbrev pub atomic_rmw_mnemonic : AtomicRmwOp → List ℕ
+atomic_rmw_mnemonic I32AtomicRmwAdd = codes "i32.atomic.rmw.add"
+atomic_rmw_mnemonic I64AtomicRmwAdd = codes "i64.atomic.rmw.add"
+atomic_rmw_mnemonic I32AtomicRmw8AddU = codes "i32.atomic.rmw8.add_u"
+atomic_rmw_mnemonic I32AtomicRmw16AddU = codes "i32.atomic.rmw16.add_u"
+atomic_rmw_mnemonic I64AtomicRmw8AddU = codes "i64.atomic.rmw8.add_u"
+atomic_rmw_mnemonic I64AtomicRmw16AddU = codes "i64.atomic.rmw16.add_u"
+atomic_rmw_mnemonic I64AtomicRmw32AddU = codes "i64.atomic.rmw32.add_u"
+atomic_rmw_mnemonic I32AtomicRmwSub = codes "i32.atomic.rmw.sub"
+atomic_rmw_mnemonic I64AtomicRmwSub = codes "i64.atomic.rmw.sub"
+atomic_rmw_mnemonic I32AtomicRmw8SubU = codes "i32.atomic.rmw8.sub_u"
+atomic_rmw_mnemonic I32AtomicRmw16SubU = codes "i32.atomic.rmw16.sub_u"
+atomic_rmw_mnemonic I64AtomicRmw8SubU = codes "i64.atomic.rmw8.sub_u"
+atomic_rmw_mnemonic I64AtomicRmw16SubU = codes "i64.atomic.rmw16.sub_u"
+atomic_rmw_mnemonic I64AtomicRmw32SubU = codes "i64.atomic.rmw32.sub_u"
+atomic_rmw_mnemonic I32AtomicRmwAnd = codes "i32.atomic.rmw.and"
+atomic_rmw_mnemonic I64AtomicRmwAnd = codes "i64.atomic.rmw.and"
+atomic_rmw_mnemonic I32AtomicRmw8AndU = codes "i32.atomic.rmw8.and_u"
+atomic_rmw_mnemonic I32AtomicRmw16AndU = codes "i32.atomic.rmw16.and_u"
+atomic_rmw_mnemonic I64AtomicRmw8AndU = codes "i64.atomic.rmw8.and_u"
+atomic_rmw_mnemonic I64AtomicRmw16AndU = codes "i64.atomic.rmw16.and_u"
+atomic_rmw_mnemonic I64AtomicRmw32AndU = codes "i64.atomic.rmw32.and_u"
+atomic_rmw_mnemonic I32AtomicRmwOr = codes "i32.atomic.rmw.or"
+atomic_rmw_mnemonic I64AtomicRmwOr = codes "i64.atomic.rmw.or"
+atomic_rmw_mnemonic I32AtomicRmw8OrU = codes "i32.atomic.rmw8.or_u"
+atomic_rmw_mnemonic I32AtomicRmw16OrU = codes "i32.atomic.rmw16.or_u"
+atomic_rmw_mnemonic I64AtomicRmw8OrU = codes "i64.atomic.rmw8.or_u"
+atomic_rmw_mnemonic I64AtomicRmw16OrU = codes "i64.atomic.rmw16.or_u"
+atomic_rmw_mnemonic I64AtomicRmw32OrU = codes "i64.atomic.rmw32.or_u"
+atomic_rmw_mnemonic I32AtomicRmwXor = codes "i32.atomic.rmw.xor"
+atomic_rmw_mnemonic I64AtomicRmwXor = codes "i64.atomic.rmw.xor"
+atomic_rmw_mnemonic I32AtomicRmw8XorU = codes "i32.atomic.rmw8.xor_u"
+atomic_rmw_mnemonic I32AtomicRmw16XorU = codes "i32.atomic.rmw16.xor_u"
+atomic_rmw_mnemonic I64AtomicRmw8XorU = codes "i64.atomic.rmw8.xor_u"
+atomic_rmw_mnemonic I64AtomicRmw16XorU = codes "i64.atomic.rmw16.xor_u"
+atomic_rmw_mnemonic I64AtomicRmw32XorU = codes "i64.atomic.rmw32.xor_u"
+atomic_rmw_mnemonic I32AtomicRmwXchg = codes "i32.atomic.rmw.xchg"
+atomic_rmw_mnemonic I64AtomicRmwXchg = codes "i64.atomic.rmw.xchg"
+atomic_rmw_mnemonic I32AtomicRmw8XchgU = codes "i32.atomic.rmw8.xchg_u"
+atomic_rmw_mnemonic I32AtomicRmw16XchgU = codes "i32.atomic.rmw16.xchg_u"
+atomic_rmw_mnemonic I64AtomicRmw8XchgU = codes "i64.atomic.rmw8.xchg_u"
+atomic_rmw_mnemonic I64AtomicRmw16XchgU = codes "i64.atomic.rmw16.xchg_u"
+atomic_rmw_mnemonic I64AtomicRmw32XchgU = codes "i64.atomic.rmw32.xchg_u"
+atomic_rmw_mnemonic I32AtomicRmwCmpxchg = codes "i32.atomic.rmw.cmpxchg"
+atomic_rmw_mnemonic I64AtomicRmwCmpxchg = codes "i64.atomic.rmw.cmpxchg"
+atomic_rmw_mnemonic I32AtomicRmw8CmpxchgU = codes "i32.atomic.rmw8.cmpxchg_u"
+atomic_rmw_mnemonic I32AtomicRmw16CmpxchgU = codes "i32.atomic.rmw16.cmpxchg_u"
+atomic_rmw_mnemonic I64AtomicRmw8CmpxchgU = codes "i64.atomic.rmw8.cmpxchg_u"
+atomic_rmw_mnemonic I64AtomicRmw16CmpxchgU = codes "i64.atomic.rmw16.cmpxchg_u"
+atomic_rmw_mnemonic I64AtomicRmw32CmpxchgU = codes "i64.atomic.rmw32.cmpxchg_u"
+
+-- its number
 abbrev pub atomic_rmw_number : AtomicRmwOp → ℕ
 atomic_rmw_number I32AtomicRmwAdd = 30
 atomic_rmw_number I64AtomicRmwAdd = 31

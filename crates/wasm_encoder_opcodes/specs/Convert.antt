@@ -1,10 +1,55 @@
 -- Conversions of numbers, and the numbers of 128 bits: opcodes A7 to C4, and FC 0 to 7 and 19 to 22. (WebAssembly 3.0, 5.4)
-use Rattle.std.specs.Prelude.{ℕ, List, [], ◌∷◌, nat_lt, if◌then◌else◌}
+use Rattle.std.specs.Prelude.{ℕ, List, [], ◌∷◌, nat_lt, if◌then◌else◌, codes}
 use Rattle.wasm_encoder_base.specs.Leb.{uleb}
 use Rattle.wasm_encoder_opcodes.specs.declared.convert.ConvertOp.{ConvertOp}
 use Rattle.wasm_encoder_opcodes.specs.declared.convert.ConvertOp.TheVariants.{I32WrapI64, I32TruncF32S, I32TruncF32U, I32TruncF64S, I32TruncF64U, I64ExtendI32S, I64ExtendI32U, I64TruncF32S, I64TruncF32U, I64TruncF64S, I64TruncF64U, F32ConvertI32S, F32ConvertI32U, F32ConvertI64S, F32ConvertI64U, F32DemoteF64, F64ConvertI32S, F64ConvertI32U, F64ConvertI64S, F64ConvertI64U, F64PromoteF32, I32ReinterpretF32, I64ReinterpretF64, F32ReinterpretI32, F64ReinterpretI64, I32Extend8S, I32Extend16S, I64Extend8S, I64Extend16S, I64Extend32S, I32TruncSatF32S, I32TruncSatF32U, I32TruncSatF64S, I32TruncSatF64U, I64TruncSatF32S, I64TruncSatF32U, I64TruncSatF64S, I64TruncSatF64U, I64Add128, I64Sub128, I64MulWideS, I64MulWideU}
 
--- the number of each instruction
+-- the mnemonic of each instruction
+abbrev pub convert_mnemonic : ConvertOp → List ℕ
+convert_mnemonic I32WrapI64 = codes "i32.wrap_i64"
+convert_mnemonic I32TruncF32S = codes "i32.trunc_f32_s"
+convert_mnemonic I32TruncF32U = codes "i32.trunc_f32_u"
+convert_mnemonic I32TruncF64S = codes "i32.trunc_f64_s"
+convert_mnemonic I32TruncF64U = codes "i32.trunc_f64_u"
+convert_mnemonic I64ExtendI32S = codes "i64.extend_i32_s"
+convert_mnemonic I64ExtendI32U = codes "i64.extend_i32_u"
+convert_mnemonic I64TruncF32S = codes "i64.trunc_f32_s"
+convert_mnemonic I64TruncF32U = codes "i64.trunc_f32_u"
+convert_mnemonic I64TruncF64S = codes "i64.trunc_f64_s"
+convert_mnemonic I64TruncF64U = codes "i64.trunc_f64_u"
+convert_mnemonic F32ConvertI32S = codes "f32.convert_i32_s"
+convert_mnemonic F32ConvertI32U = codes "f32.convert_i32_u"
+convert_mnemonic F32ConvertI64S = codes "f32.convert_i64_s"
+convert_mnemonic F32ConvertI64U = codes "f32.convert_i64_u"
+convert_mnemonic F32DemoteF64 = codes "f32.demote_f64"
+convert_mnemonic F64ConvertI32S = codes "f64.convert_i32_s"
+convert_mnemonic F64ConvertI32U = codes "f64.convert_i32_u"
+convert_mnemonic F64ConvertI64S = codes "f64.convert_i64_s"
+convert_mnemonic F64ConvertI64U = codes "f64.convert_i64_u"
+convert_mnemonic F64PromoteF32 = codes "f64.promote_f32"
+convert_mnemonic I32ReinterpretF32 = codes "i32.reinterpret_f32"
+convert_mnemonic I64ReinterpretF64 = codes "i64.reinterpret_f64"
+convert_mnemonic F32ReinterpretI32 = codes "f32.reinterpret_i32"
+convert_mnemonic F64ReinterpretI64 = codes "f64.reinterpret_i64"
+convert_mnemonic I32Extend8S = codes "i32.extend8_s"
+convert_mnemonic I32Extend16S = codes "i32.extend16_s"
+convert_mnemonic I64Extend8S = codes "i64.extend8_s"
+convert_mnemonic I64Extend16S = codes "i64.extend16_s"
+convert_mnemonic I64Extend32S = codes "i64.extend32_s"
+convert_mnemonic I32TruncSatF32S = codes "i32.trunc_sat_f32_s"
+convert_mnemonic I32TruncSatF32U = codes "i32.trunc_sat_f32_u"
+convert_mnemonic I32TruncSatF64S = codes "i32.trunc_sat_f64_s"
+convert_mnemonic I32TruncSatF64U = codes "i32.trunc_sat_f64_u"
+convert_mnemonic I64TruncSatF32S = codes "i64.trunc_sat_f32_s"
+convert_mnemonic I64TruncSatF32U = codes "i64.trunc_sat_f32_u"
+convert_mnemonic I64TruncSatF64S = codes "i64.trunc_sat_f64_s"
+convert_mnemonic I64TruncSatF64U = codes "i64.trunc_sat_f64_u"
+convert_mnemonic I64Add128 = codes "i64.add128"
+convert_mnemonic I64Sub128 = codes "i64.sub128"
+convert_mnemonic I64MulWideS = codes "i64.mul_wide_s"
+convert_mnemonic I64MulWideU = codes "i64.mul_wide_u"
+
+-- its number
 abbrev pub convert_number : ConvertOp → ℕ
 convert_number I32WrapI64 = 0xA7
 convert_number I32TruncF32S = 0xA8

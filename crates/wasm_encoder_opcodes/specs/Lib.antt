@@ -3,7 +3,6 @@ pub mod Atomic
 pub mod AtomicRmw
 pub mod Compare
 pub mod Convert
-pub mod Laws
 pub mod Numeric
 pub mod Vector
 pub mod VectorFloat

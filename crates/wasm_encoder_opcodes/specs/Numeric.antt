@@ -1,9 +1,76 @@
 -- Arithmetic on numbers: opcodes 67 to A6. (WebAssembly 3.0, 5.4)
-use Rattle.std.specs.Prelude.{ℕ, List, [], ◌∷◌}
+use Rattle.std.specs.Prelude.{ℕ, List, [], ◌∷◌, codes}
 use Rattle.wasm_encoder_opcodes.specs.declared.numeric.NumericOp.{NumericOp}
 use Rattle.wasm_encoder_opcodes.specs.declared.numeric.NumericOp.TheVariants.{I32Clz, I32Ctz, I32Popcnt, I32Add, I32Sub, I32Mul, I32DivS, I32DivU, I32RemS, I32RemU, I32And, I32Or, I32Xor, I32Shl, I32ShrS, I32ShrU, I32Rotl, I32Rotr, I64Clz, I64Ctz, I64Popcnt, I64Add, I64Sub, I64Mul, I64DivS, I64DivU, I64RemS, I64RemU, I64And, I64Or, I64Xor, I64Shl, I64ShrS, I64ShrU, I64Rotl, I64Rotr, F32Abs, F32Neg, F32Ceil, F32Floor, F32Trunc, F32Nearest, F32Sqrt, F32Add, F32Sub, F32Mul, F32Div, F32Min, F32Max, F32Copysign, F64Abs, F64Neg, F64Ceil, F64Floor, F64Trunc, F64Nearest, F64Sqrt, F64Add, F64Sub, F64Mul, F64Div, F64Min, F64Max, F64Copysign}
 
--- the number of each instruction
+-- the mnemonic of each instruction
+abbrev pub numeric_mnemonic : NumericOp → List ℕ
+numeric_mnemonic I32Clz = codes "i32.clz"
+numeric_mnemonic I32Ctz = codes "i32.ctz"
+numeric_mnemonic I32Popcnt = codes "i32.popcnt"
+numeric_mnemonic I32Add = codes "i32.add"
+numeric_mnemonic I32Sub = codes "i32.sub"
+numeric_mnemonic I32Mul = codes "i32.mul"
+numeric_mnemonic I32DivS = codes "i32.div_s"
+numeric_mnemonic I32DivU = codes "i32.div_u"
+numeric_mnemonic I32RemS = codes "i32.rem_s"
+numeric_mnemonic I32RemU = codes "i32.rem_u"
+numeric_mnemonic I32And = codes "i32.and"
+numeric_mnemonic I32Or = codes "i32.or"
+numeric_mnemonic I32Xor = codes "i32.xor"
+numeric_mnemonic I32Shl = codes "i32.shl"
+numeric_mnemonic I32ShrS = codes "i32.shr_s"
+numeric_mnemonic I32ShrU = codes "i32.shr_u"
+numeric_mnemonic I32Rotl = codes "i32.rotl"
+numeric_mnemonic I32Rotr = codes "i32.rotr"
+numeric_mnemonic I64Clz = codes "i64.clz"
+numeric_mnemonic I64Ctz = codes "i64.ctz"
+numeric_mnemonic I64Popcnt = codes "i64.popcnt"
+numeric_mnemonic I64Add = codes "i64.add"
+numeric_mnemonic I64Sub = codes "i64.sub"
+numeric_mnemonic I64Mul = codes "i64.mul"
+numeric_mnemonic I64DivS = codes "i64.div_s"
+numeric_mnemonic I64DivU = codes "i64.div_u"
+numeric_mnemonic I64RemS = codes "i64.rem_s"
+numeric_mnemonic I64RemU = codes "i64.rem_u"
+numeric_mnemonic I64And = codes "i64.and"
+numeric_mnemonic I64Or = codes "i64.or"
+numeric_mnemonic I64Xor = codes "i64.xor"
+numeric_mnemonic I64Shl = codes "i64.shl"
+numeric_mnemonic I64ShrS = codes "i64.shr_s"
+numeric_mnemonic I64ShrU = codes "i64.shr_u"
+numeric_mnemonic I64Rotl = codes "i64.rotl"
+numeric_mnemonic I64Rotr = codes "i64.rotr"
+numeric_mnemonic F32Abs = codes "f32.abs"
+numeric_mnemonic F32Neg = codes "f32.neg"
+numeric_mnemonic F32Ceil = codes "f32.ceil"
+numeric_mnemonic F32Floor = codes "f32.floor"
+numeric_mnemonic F32Trunc = codes "f32.trunc"
+numeric_mnemonic F32Nearest = codes "f32.nearest"
+numeric_mnemonic F32Sqrt = codes "f32.sqrt"
+numeric_mnemonic F32Add = codes "f32.add"
+numeric_mnemonic F32Sub = codes "f32.sub"
+numeric_mnemonic F32Mul = codes "f32.mul"
+numeric_mnemonic F32Div = codes "f32.div"
+numeric_mnemonic F32Min = codes "f32.min"
+numeric_mnemonic F32Max = codes "f32.max"
+numeric_mnemonic F32Copysign = codes "f32.copysign"
+numeric_mnemonic F64Abs = codes "f64.abs"
+numeric_mnemonic F64Neg = codes "f64.neg"
+numeric_mnemonic F64Ceil = codes "f64.ceil"
+numeric_mnemonic F64Floor = codes "f64.floor"
+numeric_mnemonic F64Trunc = codes "f64.trunc"
+numeric_mnemonic F64Nearest = codes "f64.nearest"
+numeric_mnemonic F64Sqrt = codes "f64.sqrt"
+numeric_mnemonic F64Add = codes "f64.add"
+numeric_mnemonic F64Sub = codes "f64.sub"
+numeric_mnemonic F64Mul = codes "f64.mul"
+numeric_mnemonic F64Div = codes "f64.div"
+numeric_mnemonic F64Min = codes "f64.min"
+numeric_mnemonic F64Max = codes "f64.max"
+numeric_mnemonic F64Copysign = codes "f64.copysign"
+
+-- its number
 abbrev pub numeric_number : NumericOp → ℕ
 numeric_number I32Clz = 0x67
 numeric_number I32Ctz = 0x68

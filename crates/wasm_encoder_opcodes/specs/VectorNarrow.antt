@@ -1,10 +1,76 @@
 -- Vector instructions without operands: opcodes FD 96 to 159. (WebAssembly 3.0, 5.4)
-use Rattle.std.specs.Prelude.{ℕ, List, ◌∷◌}
+use Rattle.std.specs.Prelude.{ℕ, List, ◌∷◌, codes}
 use Rattle.wasm_encoder_base.specs.Leb.{uleb}
 use Rattle.wasm_encoder_opcodes.specs.declared.vector_narrow.VectorNarrowOp.{VectorNarrowOp}
 use Rattle.wasm_encoder_opcodes.specs.declared.vector_narrow.VectorNarrowOp.TheVariants.{I8x16Abs, I8x16Neg, I8x16Popcnt, I8x16AllTrue, I8x16Bitmask, I8x16NarrowI16x8S, I8x16NarrowI16x8U, F32x4Ceil, F32x4Floor, F32x4Trunc, F32x4Nearest, I8x16Shl, I8x16ShrS, I8x16ShrU, I8x16Add, I8x16AddSatS, I8x16AddSatU, I8x16Sub, I8x16SubSatS, I8x16SubSatU, F64x2Ceil, F64x2Floor, I8x16MinS, I8x16MinU, I8x16MaxS, I8x16MaxU, F64x2Trunc, I8x16AvgrU, I16x8ExtAddPairwiseI8x16S, I16x8ExtAddPairwiseI8x16U, I32x4ExtAddPairwiseI16x8S, I32x4ExtAddPairwiseI16x8U, I16x8Abs, I16x8Neg, I16x8Q15MulrSatS, I16x8AllTrue, I16x8Bitmask, I16x8NarrowI32x4S, I16x8NarrowI32x4U, I16x8ExtendLowI8x16S, I16x8ExtendHighI8x16S, I16x8ExtendLowI8x16U, I16x8ExtendHighI8x16U, I16x8Shl, I16x8ShrS, I16x8ShrU, I16x8Add, I16x8AddSatS, I16x8AddSatU, I16x8Sub, I16x8SubSatS, I16x8SubSatU, F64x2Nearest, I16x8Mul, I16x8MinS, I16x8MinU, I16x8MaxS, I16x8MaxU, I16x8AvgrU, I16x8ExtMulLowI8x16S, I16x8ExtMulHighI8x16S, I16x8ExtMulLowI8x16U, I16x8ExtMulHighI8x16U}
 
--- the number of each instruction
+-- the mnemonic of each instruction
+abbrev pub vector_narrow_mnemonic : VectorNarrowOp → List ℕ
+vector_narrow_mnemonic I8x16Abs = codes "i8x16.abs"
+vector_narrow_mnemonic I8x16Neg = codes "i8x16.neg"
+vector_narrow_mnemonic I8x16Popcnt = codes "i8x16.popcnt"
+vector_narrow_mnemonic I8x16AllTrue = codes "i8x16.all_true"
+vector_narrow_mnemonic I8x16Bitmask = codes "i8x16.bitmask"
+vector_narrow_mnemonic I8x16NarrowI16x8S = codes "i8x16.narrow_i16x8_s"
+vector_narrow_mnemonic I8x16NarrowI16x8U = codes "i8x16.narrow_i16x8_u"
+vector_narrow_mnemonic F32x4Ceil = codes "f32x4.ceil"
+vector_narrow_mnemonic F32x4Floor = codes "f32x4.floor"
+vector_narrow_mnemonic F32x4Trunc = codes "f32x4.trunc"
+vector_narrow_mnemonic F32x4Nearest = codes "f32x4.nearest"
+vector_narrow_mnemonic I8x16Shl = codes "i8x16.shl"
+vector_narrow_mnemonic I8x16ShrS = codes "i8x16.shr_s"
+vector_narrow_mnemonic I8x16ShrU = codes "i8x16.shr_u"
+vector_narrow_mnemonic I8x16Add = codes "i8x16.add"
+vector_narrow_mnemonic I8x16AddSatS = codes "i8x16.add_sat_s"
+vector_narrow_mnemonic I8x16AddSatU = codes "i8x16.add_sat_u"
+vector_narrow_mnemonic I8x16Sub = codes "i8x16.sub"
+vector_narrow_mnemonic I8x16SubSatS = codes "i8x16.sub_sat_s"
+vector_narrow_mnemonic I8x16SubSatU = codes "i8x16.sub_sat_u"
+vector_narrow_mnemonic F64x2Ceil = codes "f64x2.ceil"
+vector_narrow_mnemonic F64x2Floor = codes "f64x2.floor"
+vector_narrow_mnemonic I8x16MinS = codes "i8x16.min_s"
+vector_narrow_mnemonic I8x16MinU = codes "i8x16.min_u"
+vector_narrow_mnemonic I8x16MaxS = codes "i8x16.max_s"
+vector_narrow_mnemonic I8x16MaxU = codes "i8x16.max_u"
+vector_narrow_mnemonic F64x2Trunc = codes "f64x2.trunc"
+vector_narrow_mnemonic I8x16AvgrU = codes "i8x16.avgr_u"
+vector_narrow_mnemonic I16x8ExtAddPairwiseI8x16S = codes "i16x8.extadd_pairwise_i8x16_s"
+vector_narrow_mnemonic I16x8ExtAddPairwiseI8x16U = codes "i16x8.extadd_pairwise_i8x16_u"
+vector_narrow_mnemonic I32x4ExtAddPairwiseI16x8S = codes "i32x4.extadd_pairwise_i16x8_s"
+vector_narrow_mnemonic I32x4ExtAddPairwiseI16x8U = codes "i32x4.extadd_pairwise_i16x8_u"
+vector_narrow_mnemonic I16x8Abs = codes "i16x8.abs"
+vector_narrow_mnemonic I16x8Neg = codes "i16x8.neg"
+vector_narrow_mnemonic I16x8Q15MulrSatS = codes "i16x8.q15mulr_sat_s"
+vector_narrow_mnemonic I16x8AllTrue = codes "i16x8.all_true"
+vector_narrow_mnemonic I16x8Bitmask = codes "i16x8.bitmask"
+vector_narrow_mnemonic I16x8NarrowI32x4S = codes "i16x8.narrow_i32x4_s"
+vector_narrow_mnemonic I16x8NarrowI32x4U = codes "i16x8.narrow_i32x4_u"
+vector_narrow_mnemonic I16x8ExtendLowI8x16S = codes "i16x8.extend_low_i8x16_s"
+vector_narrow_mnemonic I16x8ExtendHighI8x16S = codes "i16x8.extend_high_i8x16_s"
+vector_narrow_mnemonic I16x8ExtendLowI8x16U = codes "i16x8.extend_low_i8x16_u"
+vector_narrow_mnemonic I16x8ExtendHighI8x16U = codes "i16x8.extend_high_i8x16_u"
+vector_narrow_mnemonic I16x8Shl = codes "i16x8.shl"
+vector_narrow_mnemonic I16x8ShrS = codes "i16x8.shr_s"
+vector_narrow_mnemonic I16x8ShrU = codes "i16x8.shr_u"
+vector_narrow_mnemonic I16x8Add = codes "i16x8.add"
+vector_narrow_mnemonic I16x8AddSatS = codes "i16x8.add_sat_s"
+vector_narrow_mnemonic I16x8AddSatU = codes "i16x8.add_sat_u"
+vector_narrow_mnemonic I16x8Sub = codes "i16x8.sub"
+vector_narrow_mnemonic I16x8SubSatS = codes "i16x8.sub_sat_s"
+vector_narrow_mnemonic I16x8SubSatU = codes "i16x8.sub_sat_u"
+vector_narrow_mnemonic F64x2Nearest = codes "f64x2.nearest"
+vector_narrow_mnemonic I16x8Mul = codes "i16x8.mul"
+vector_narrow_mnemonic I16x8MinS = codes "i16x8.min_s"
+vector_narrow_mnemonic I16x8MinU = codes "i16x8.min_u"
+vector_narrow_mnemonic I16x8MaxS = codes "i16x8.max_s"
+vector_narrow_mnemonic I16x8MaxU = codes "i16x8.max_u"
+vector_narrow_mnemonic I16x8AvgrU = codes "i16x8.avgr_u"
+vector_narrow_mnemonic I16x8ExtMulLowI8x16S = codes "i16x8.extmul_low_i8x16_s"
+vector_narrow_mnemonic I16x8ExtMulHighI8x16S = codes "i16x8.extmul_high_i8x16_s"
+vector_narrow_mnemonic I16x8ExtMulLowI8x16U = codes "i16x8.extmul_low_i8x16_u"
+vector_narrow_mnemonic I16x8ExtMulHighI8x16U = codes "i16x8.extmul_high_i8x16_u"
+
+-- its number
 abbrev pub vector_narrow_number : VectorNarrowOp → ℕ
 vector_narrow_number I8x16Abs = 96
 vector_narrow_number I8x16Neg = 97
