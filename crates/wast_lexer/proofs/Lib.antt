@@ -1,6 +1,7 @@
 pub mod Basics
 pub mod Ascii
 pub mod Refused
+pub mod CleanText
 pub mod CommentLaws
 pub mod RunLaws
 pub mod KindLaws

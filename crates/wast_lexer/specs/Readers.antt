@@ -1,5 +1,5 @@
 -- What the readers of a token ask and answer.
-use Rattle.std.specs.Prelude.{◌≡◌, ◌⊎◌, ◌+◌, ℕ, Bool, not, List, [], slice_range, Option, Some, None, Result, Ok, Err}
+use Rattle.std.specs.Prelude.{◌≡◌, ◌⊎◌, ◌+◌, ℕ, Bool, false, not, List, [], slice_range, Option, Some, None, Result, Ok, Err}
 use Rattle.std.specs.List.{list_all}
 use Rattle.std.specs.Str.{IsCharBoundary, IsUtf8}
 use Rattle.wast_lexer_strings.specs.Strings.{is_backslash}
@@ -30,11 +30,12 @@ GivesTokenOf text (Err e) = Unit {0}
 abbrev pub is_plain : List ℕ → Bool
 is_plain = list_all (λ c. not (is_backslash c))
 
--- why an identifier that stands at this place isn't read: it is empty, or no text, or there was no memory
+-- why an identifier that stands at this place isn't read: it is empty, or no text, or there was no memory, which is asked
+-- for only where something is escaped
 abbrev pub IsIdFault : List ℕ → ℕ → LexFault → Type 0
 IsIdFault word place (Lex span error) =
     (span.offset ≡ place) × (((error ≡ EmptyId) × IsIdOf word []) ⊎ ((error ≡ InvalidUtf8Id) × (bytes : List ℕ) × IsIdOf word bytes × ¬ IsUtf8 bytes))
-IsIdFault word place Memory = Unit {0}
+IsIdFault word place Memory = is_plain word ≡ false
 
 -- the fault names this place and error
 abbrev pub IsRefusal : LexFault → ℕ → LexError → Type 0

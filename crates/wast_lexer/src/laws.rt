@@ -12,7 +12,7 @@ pub fn one_token()
     ensures { OneToken }
 {}
 
-/// The nine characters are refused where they are not allowed.
+/// A text may stand in a comment or a string exactly where none of its characters is one of the nine that are refused.
 pub fn nine_are_refused()
     ensures { NineAreRefused }
 {}

@@ -1,6 +1,6 @@
 //! Readers of tokens.
 
-ghost use Rattle.std.specs.Prelude.{IsOk, ◌≡◌, ◌≢◌, ◌≤◌, ℕ, List, [], IfOk, IfErr, MatchOption, length, drop, true, false};
+ghost use Rattle.std.specs.Prelude.{IsOk, IsOkAnd, ◌≡◌, ◌≢◌, ◌≤◌, ℕ, List, [], IfOk, IfErr, MatchOption, length, drop, true, false};
 ghost use Rattle.std.specs.Str.{IsUtf8};
 ghost use Rattle.std.specs.Cow.{cow_str_bytes, IsBorrowedStr};
 ghost use Rattle.wast_lexer_strings.specs.Strings.{IsString};
@@ -61,7 +61,11 @@ impl Token {
         }
     }
 
-    /// The name that an identifier stands for, borrowed where nothing is escaped. It is a text that is not empty.
+    /// The name that an identifier stands for, borrowed where nothing is escaped: no memory is then wanted. It is a text
+    /// that is not empty.
+    ///
+    /// Refused as [`LexError::EmptyId`] or [`LexError::InvalidUtf8Id`], at the token's place, where what stands there is
+    /// no such text.
     pub fn id<'a>(&self, alloc: Global, text: &'a str) -> Result<CowStr<'a, Global>, LexFault>
         requires own { IsOf text.now self.now }
         requires kind { self.now.kind ≡ Id }
@@ -82,7 +86,7 @@ impl Token {
         }
     }
 
-    /// The name that an annotation stands for, borrowed where nothing is escaped.
+    /// The name that an annotation stands for, borrowed where nothing is escaped: no memory is then wanted.
     pub fn annotation<'a>(
         &self,
         alloc: Global,
@@ -91,7 +95,7 @@ impl Token {
         requires own { IsOf text.now self.now }
         requires kind { self.now.kind ≡ Annotation }
         ensures ok { IfOk result (λ v. IsAnnotationOf (text_of text.now self.now) (cow_str_bytes v)) }
-        ensures borrowed { is_plain (text_of text.now self.now) ≡ true → IfOk result IsBorrowedStr }
+        ensures borrowed { is_plain (text_of text.now self.now) ≡ true → IsOkAnd result IsBorrowedStr }
     {
         let word = self.src(text);
         match name_value(alloc, &word[1..])? {
@@ -132,7 +136,7 @@ impl Token {
 fn name_value<'a>(alloc: Global, name: &'a str) -> Result<Option<CowStr<'a, Global>>, AllocError>
     requires { (bytes : List ℕ) × IsNameOf name.now bytes }
     ensures ok { IfOk result (λ o. MatchOption o ((bytes : List ℕ) × IsNameOf name.now bytes × ¬ (IsUtf8 bytes)) (λ v. IsNameOf name.now (cow_str_bytes v) × IsUtf8 (cow_str_bytes v))) }
-    ensures borrowed { is_plain name.now ≡ true → IfOk result (λ o. MatchOption o ⊥ IsBorrowedStr) }
+    ensures borrowed { is_plain name.now ≡ true → IsOkAnd result (λ o. MatchOption o ⊥ IsBorrowedStr) }
 {
     let bytes = name.as_bytes();
     if !is_quote_at(bytes, 0) {
