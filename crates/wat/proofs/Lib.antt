@@ -1,7 +1,5 @@
 pub mod Deserved
 pub mod EqualBinaries
-pub mod Faults
-pub mod Known
 pub mod Lines
 pub mod Places
 pub mod Runs

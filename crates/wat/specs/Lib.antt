@@ -1,10 +1,10 @@
 pub mod Answering
-pub mod Counted
 pub mod Headline
 pub mod Laws
 pub mod Program
 pub mod Render
 pub mod Run
+pub use Rattle.wat_io.specs.Counted
 pub use Rattle.wat_profile.specs.AbstractModule
 pub use Rattle.wat_profile.specs.Complaint
 pub use Rattle.wat_profile.specs.Grammar

@@ -1,7 +1,7 @@
 -- What a run reads, writes and answers.
 use Rattle.std.specs.Prelude.{◌≡◌, ℕ, ◌≤◌, List, [], length, take, Option, Result, Ok, Err, IfSome}
 use Rattle.std.specs.Io.KnownBytes.{Appends, Consumes}
-use Rattle.wat.specs.Counted.{one_more}
+use Rattle.wat_io.specs.Counted.{one_more}
 use Rattle.wat.specs.Headline.{Assembles, Deserves}
 use Rattle.wat.specs.declared.fault.Fault.{Fault}
 use Rattle.wat.specs.declared.fault.Fault.TheVariants as faults

@@ -2,7 +2,6 @@
 #![tactic(auto)]
 
 mod assembler;
-mod counted;
 mod fault;
 pub mod laws;
 mod program;
@@ -10,13 +9,10 @@ mod renderer;
 mod runner;
 
 pub use assembler::assemble;
-pub use counted::Counted;
 pub use fault::Fault;
 pub use program::run_program;
 pub use renderer::render;
 pub use runner::run;
 pub use wast_lexer::Span;
+pub use wat_io::Counted;
 pub use wat_profile::Error;
-
-#[cfg(test)]
-mod bound_tests;

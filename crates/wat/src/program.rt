@@ -6,12 +6,12 @@ ghost use Rattle.wat.specs.Program.{Exits, IsReport};
 ghost use Rattle.wat.specs.Run.{Runs, reader_failures, writer_failures};
 ghost use Rattle.wat.specs.declared.fault.Fault.{Fault};
 
-use crate::counted::Counted;
 use crate::fault::Fault;
 use crate::renderer::render;
-use crate::runner::{BOUND, run_into};
+use crate::runner::run_into;
 use std::alloc::Global;
 use std::io::{Read, Write};
+use wat_io::{Counted, write_front};
 
 /// As `run`, for a program: answers 0 where the whole binary was written and flushed, else 1, with the fault's text
 /// and a line feed written to the error writer. That one's failures are ignored.
@@ -29,7 +29,7 @@ pub fn run_program<R: Read, W: Write, E: Write>(
         × (writer.new.failures ≡ writer_failures writer.old.failures answer) }
 {
     let mut input = Vec::new(alloc);
-    match run_into(alloc, &mut input, reader, writer, BOUND) {
+    match run_into(alloc, &mut input, reader, writer) {
         Ok(_) => 0,
         Err(fault) => {
             report(alloc, errors, &fault, input.as_slice());
@@ -57,19 +57,4 @@ fn write_line<E: Write>(errors: &mut E, line: &[u8])
         write_front(errors, b"\n");
         let _ = errors.flush();
     }
-}
-
-/// Writes as many of the bytes as the writer takes, and tells how many.
-fn write_front<E: Write>(errors: &mut E, bytes: &[u8]) -> usize
-    ensures within { result ≤ length bytes.now }
-    ensures front { Appends (E.contents errors.old) (E.contents errors.new) (take result bytes.now) }
-{
-    let mut written = 0;
-    while written < bytes.len() {
-        match errors.write(&bytes[written..]) {
-            Ok(0) | Err(_) => return written,
-            Ok(count) => written += count,
-        }
-    }
-    written
 }

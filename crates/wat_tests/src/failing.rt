@@ -1,4 +1,4 @@
-//! A reader and a writer that fail.
+//! Readers and writers that fail or never end.
 
 use std::io;
 use std::io::{ErrorKind, Read, Write};
@@ -35,6 +35,19 @@ impl Read for Feeder {
             }
             _ => Ok(0),
         }
+    }
+}
+
+/// Never ends.
+#[derive(Drop)]
+pub struct Endless {
+    pub given: usize,
+}
+
+impl Read for Endless {
+    fn read(&mut self, buffer: &mut [u8]) -> io::Result<usize> {
+        self.given = self.given.saturating_add(buffer.len());
+        Ok(buffer.len())
     }
 }
 

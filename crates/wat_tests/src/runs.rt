@@ -1,10 +1,11 @@
 //! Runs over readers and writers, some of which fail.
 
-use crate::failing::{Feeder, Taker, Then};
+use crate::failing::{Endless, Feeder, Taker, Then};
 use std::alloc::Global;
 use std::process::Abort;
 use std::test::Fail;
 use wat::{Counted, Fault, run, run_program};
+use wat_io::read_within;
 
 const MODULE: &[u8] = b"(module)";
 
@@ -56,6 +57,14 @@ fn reads_that_fail(rt: HostRuntime) {
         assert!(rt; matches!(answer, Err(Fault::Read)), "after {calls}");
         assert!(rt; writer.taken().is_empty());
     }
+}
+
+#[test]
+fn no_more_than_the_bound(rt: HostRuntime) {
+    let mut endless = Endless { given: 0 };
+    let mut input = Vec::new(rt.alloc());
+    let _ = read_within(rt.alloc(), &mut input, &mut Counted::new(&mut endless), 16);
+    assert_eq!(rt; (endless.given, input.len()), (16, 16));
 }
 
 fn assert_written(rt: &impl Abort, alloc: Global, room: usize, then: Then) {

@@ -53,15 +53,3 @@ pub whole_after_last : (left between left_after : Option (List ℕ)) (front back
 whole_after_last left between left_after front back whole bound first second both ended within =
     whole_at_end left left_after whole bound (consumed_more left between left_after front back whole first second both) ended
     (subst (λ l. length l ≤ bound) (sym both) within)
-
--- a line and what of the line feed went out
-pub appended_line : (held between before_flush held_after : Option (List ℕ)) (line : List ℕ) (first second : ℕ)
-    → Appends held between (take first line) → first ≡ length line → Appends between before_flush (take second (10 ∷ []))
-    → Keeps before_flush held_after
-    → Appends held held_after (take (length line + second) (line ++ 10 ∷ []))
-appended_line held between before_flush held_after line first second before all after kept =
-    let whole : take first line ≡ line = take_all first line (omega arith) in
-    let both : take first line ++ take second (10 ∷ []) ≡ take (length line + second) (line ++ 10 ∷ []) =
-    ap (λ l. l ++ take second (10 ∷ [])) whole ∙ sym (take-append-add line (10 ∷ []) second) in
-    subst (Appends held held_after) both
-    (Appends-kept held before_flush held_after _ (Appends-trans held between before_flush _ _ before after) kept)

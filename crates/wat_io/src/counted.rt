@@ -3,16 +3,23 @@
 ghost use Rattle.std.specs.Prelude.{◌≡◌};
 ghost use Rattle.std.specs.Io.{ReadsAtMost, WritesAtMost};
 ghost use Rattle.std.specs.Io.KnownBytes.{Keeps, ReadConsumes, WriteAppends};
-ghost use Rattle.wat.specs.Counted.{after_call, after_write, one_more};
+ghost use Rattle.wat_io.specs.Counted.{Tally, after_call, after_write, one_more};
 
 use std::io;
 use std::io::{Read, Write};
+use std::marker::Model;
 
 /// A reader or a writer that counts its failed calls, those that write 0 of some bytes too, up to `u64::MAX`.
 #[derive(Drop)]
 pub struct Counted<T> {
     pub(crate) inner: T,
     failures: u64,
+}
+
+impl<T> Model for Counted<T> {
+    ghost Value = { Tally T };
+
+    ghost view = { λ c. record { inner = c.inner; failures = c.failures } };
 }
 
 impl<T> Counted<T> {
@@ -31,7 +38,7 @@ impl<T> Counted<T> {
         self.failures
     }
 
-    fn count_failure(&mut self)
+    pub(crate) fn count_failure(&mut self)
         ensures inner { self.new.inner ≡ self.old.inner }
         ensures failures { self.new.failures ≡ one_more self.old.failures }
     {

@@ -1,11 +1,11 @@
 use Rattle.std.proofs.Common.{◌≤◌, ◌-◌, length, take}
 use Rattle.std.specs.Io.KnownBytes.{Appends}
-use Rattle.wat.proofs.program.write_front.Given as goal
+use Rattle.wat_io.proofs.writing.write_front.Given as goal
 
 abbrev pub invariant-loop-written : goal.invariant-loop-written
 invariant-loop-written g l = record {
   within : l.written ≤ length l.bytes;
-  appended : Appends (g.E.Write.contents l.initial.errors) (g.E.Write.contents l.errors) (take l.written l.bytes);
+  appended : Appends (g.W.Write.contents l.initial.writer) (g.W.Write.contents l.writer) (take l.written l.bytes);
 }
 
 abbrev pub decreases-loop-written : goal.decreases-loop-written

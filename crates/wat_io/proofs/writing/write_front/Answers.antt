@@ -1,6 +1,6 @@
 use Rattle.std.proofs.Common.{rules}
-use Rattle.wat.proofs.Known.{appended_more}
-use Rattle.wat.proofs.runner.write_whole.Goals as goal
+use Rattle.wat_io.proofs.KnownBytes.{appended_more}
+use Rattle.wat_io.proofs.writing.write_front.Goals as goal
 
 pub loop-written-preserved : goal.loop-written-preserved
 loop-written-preserved g c =
@@ -8,5 +8,4 @@ loop-written-preserved g c =
     record {
       within = search rules;
       appended = appended_more _ _ _ _ _ _ before.appended c.in-Ok.ensures.bytes;
-      failures = search rules;
     }

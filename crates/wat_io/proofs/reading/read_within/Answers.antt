@@ -1,9 +1,17 @@
-use Rattle.std.proofs.Common.{◌≤◌, ◌++◌, length, sym, subst, ap, ◌∙◌, arith, refl, Bool}
+use Rattle.std.proofs.Common.{◌≤◌, ◌++◌, length, sym, subst, ap, ◌∙◌, arith, refl, Bool, ◌≡◌, ℕ, Err}
 use Rattle.std.specs.Io.KnownBytes.{Consumes}
 use Rattle.std.proofs.KnownBytes.{Consumes-nil, Consumes-trans}
-use Rattle.wat.proofs.Known.{whole_at_bound, whole_after_last, consumed_more, within_more}
-use Rattle.wat.proofs.Faults.{same_failures}
-use Rattle.wat.proofs.runner.read_into.Goals as goal
+use Rattle.wat_io.proofs.KnownBytes.{whole_at_bound, whole_after_last, consumed_more, within_more}
+use Rattle.wat_io.specs.Counted.{after_reading}
+use Rattle.wat_io.specs.declared.reading.ReadFault.{ReadFault}
+use Rattle.wat_io.specs.declared.reading.ReadFault.TheVariants as faults
+use Rattle.wat_io.proofs.reading.read_within.Goals as goal
+
+-- a count after a fault, whatever the answer would have carried had it been none
+same_failures : (before between after : ℕ) (fault : ReadFault)
+    → after ≡ after_reading {A = Bool} between (Err fault) → between ≡ before → after ≡ after_reading {A = Unit {0}} before (Err fault)
+same_failures before between after faults.Read counted same = cc
+same_failures before between after faults.Memory counted same = cc
 
 pub loop-input-init : goal.loop-input-init
 loop-input-init g c = record {
@@ -57,7 +65,7 @@ returns-in-Err-clause-given g c =
 pub returns-in-Err-clause-failures : goal.returns-in-Err-clause-failures
 returns-in-Err-clause-failures g c =
     let before = c.loop-input.invariant in
-    same_failures Bool (Unit {0}) c.args.reader.now.failures c.loop-input.reader.failures _ c.in-Err.fault
+    same_failures c.args.reader.now.failures c.loop-input.reader.failures _ c.in-Err.fault
     c.in-Err.ensures.failures before.failures
 
 pub returns-clause-whole : goal.returns-clause-whole

@@ -1,6 +1,6 @@
 use Rattle.std.proofs.Common.{◌≡◌, ◌≤◌, ◌-◌, vec_len, vec_items}
 use Rattle.std.specs.Io.KnownBytes.{Consumes}
-use Rattle.wat.proofs.runner.read_into.Given as goal
+use Rattle.wat_io.proofs.reading.read_within.Given as goal
 
 abbrev pub invariant-loop-input : goal.invariant-loop-input
 invariant-loop-input g l = record {
