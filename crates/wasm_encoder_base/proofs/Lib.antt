@@ -5,6 +5,7 @@ pub mod UniqueInstr
 pub mod UniqueOperands
 pub mod UniqueTypes
 pub use Rattle.wasm_encoder_bytes.proofs.LebSteps
+pub use Rattle.wasm_encoder_bytes.proofs.ListLaws
 pub use Rattle.wasm_encoder_bytes.proofs.ReadSteps
 pub use Rattle.wasm_encoder_bytes.proofs.Shortest
 pub use Rattle.wasm_encoder_bytes.proofs.UniqueBytes

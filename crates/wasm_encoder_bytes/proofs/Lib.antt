@@ -1,4 +1,5 @@
 pub mod LebSteps
+pub mod ListLaws
 pub mod ReadSteps
 pub mod Shortest
 pub mod UniqueBytes

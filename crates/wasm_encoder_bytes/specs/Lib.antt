@@ -1,7 +1,9 @@
+pub mod Adds
 pub mod Bytes
 pub mod Decodes
 pub mod Encodes
 pub mod Leb
+pub mod Lists
 pub mod Reading
 pub mod SpellingLaws
 pub mod Unique

@@ -1,9 +1,10 @@
 -- The laws of numbers, names and lists that the crate's law functions prove.
-use Rattle.std.specs.Prelude.{ℕ, ◌≡◌, List}
+use Rattle.std.specs.Prelude.{ℕ, ◌≡◌, List, [], ◌∷◌, ◌++◌}
 use Rattle.std.specs.List.{AllByRecursion}
 use Rattle.wasm_encoder_bytes.specs.Leb.{uleb, sleb}
 use Rattle.wasm_encoder_bytes.specs.Decodes.{IsShortest, unsigned_of, signed_of}
 use Rattle.wasm_encoder_bytes.specs.Bytes.{counted, sized}
+use Rattle.wasm_encoder_bytes.specs.Lists.{listed, no_items, with_item}
 use Rattle.wasm_encoder_bytes.specs.Unique.{Unique, Any}
 
 -- `spell` gives the byte list that decodes to the number and than which no shorter one does, and no other list is that.
@@ -29,3 +30,8 @@ OneName = Unique Any sized
 
 abbrev pub OneList : Type 0
 OneList = Unique (AllByRecursion Any) (counted uleb)
+
+-- A list that is built item by item is the list of these items. Its items are given by their bytes.
+pub record IsBuiltByItems : Type 0 where
+  pub none : no_items ≡ listed (λ (bytes : List ℕ). bytes) []
+  pub one_more : (items : List (List ℕ)) (item : List ℕ) → with_item (listed (λ bytes. bytes) items) item ≡ listed (λ bytes. bytes) (items ++ item ∷ [])

@@ -1,9 +1,9 @@
 //! Lists that are borrowed or owned.
 
-ghost use Rattle.std.specs.Prelude.{◌≡◌, ℕ, length, nat_eq};
+ghost use Rattle.std.specs.Prelude.{◌≡◌, ℕ, length, nat_eq, IfOk};
 ghost use Rattle.std.specs.Cow.{cow_slice_items};
 
-use std::alloc::Global;
+use std::alloc::{AllocError, Global};
 use std::borrow::CowSlice;
 use std::marker::Model;
 
@@ -77,5 +77,33 @@ impl<'a, T> Items<'a, T> {
         ensures { result ≡ nat_eq (length self.now) 0 }
     {
         self.as_slice().is_empty()
+    }
+}
+
+impl<'a, T: Copy> Items<'a, T> {
+    /// The same items: borrowed from the same place, or in a vector of their own.
+    pub fn clone(&self) -> Result<Self, AllocError>
+        ensures { IfOk result (λ items. items ≡ self.now) }
+    {
+        match &self.items {
+            CowSlice::Borrowed(items) => Ok(Items::borrowed(*items)),
+            CowSlice::Owned(items) => {
+                let items = Vec::from_slice(*items.allocator(), items.as_slice())?;
+                Ok(Items::owned(items))
+            }
+        }
+    }
+}
+
+/// The same items.
+impl<'a, T: PartialEq> PartialEq for Items<'a, T> {
+    ghost use Rattle.std.specs.Cmp.Lexicographic.{pointwise, lists_per};
+
+    ghost eq = { pointwise T.eq };
+
+    ghost laws = { lists_per T.laws };
+
+    fn eq(&self, other: &Self) -> bool {
+        self.as_slice() == other.as_slice()
     }
 }

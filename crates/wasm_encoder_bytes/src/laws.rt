@@ -1,6 +1,6 @@
 //! Laws of the spellings: functions without parameters whose contracts are the laws. They do nothing.
 
-ghost use Rattle.wasm_encoder_bytes.specs.SpellingLaws.{ShortestUnsigned, ShortestSigned, OneUnsigned, OneSigned, OneName, OneList};
+ghost use Rattle.wasm_encoder_bytes.specs.SpellingLaws.{ShortestUnsigned, ShortestSigned, OneUnsigned, OneSigned, OneName, OneList, IsBuiltByItems};
 
 /// What is written for a number is the byte list that decodes to it and than which no shorter one does,
 /// unsigned and signed; no other byte list is that.
@@ -15,4 +15,9 @@ pub fn one_reading()
     ensures signed { OneSigned }
     ensures names { OneName }
     ensures lists { OneList }
+{}
+
+/// A list that is built item by item is the list of these items.
+pub fn lists()
+    ensures { IsBuiltByItems }
 {}

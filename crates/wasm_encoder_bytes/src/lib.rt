@@ -12,6 +12,8 @@ mod ieee;
 mod items;
 pub mod laws;
 mod leb;
+mod list;
+mod part;
 mod reading;
 
 pub use adding::{Added, rolled_back};
@@ -20,6 +22,8 @@ pub use error::EncodeError;
 pub use ieee::{Ieee32, Ieee64};
 pub use items::{Bytes, Items};
 pub use leb::encoding_size;
+pub use list::EncodedList;
+pub use part::{Measure, Part, RawBytes};
 pub use reading::{read_s33, read_u32};
 
 #[cfg(test)]

@@ -1,0 +1,3 @@
+pub mod UniqueDump
+pub mod UniqueNames
+pub mod UniqueParts

@@ -1,0 +1,18 @@
+-- The producers section (tool conventions of WebAssembly): fields, each a name and a list of values.
+use Rattle.std.specs.Prelude.{ℕ, List, ◌++◌}
+use Rattle.wasm_encoder_base.specs.Bytes.{counted, sized}
+
+-- a producer and its version
+pub record Producer : Type 0 where
+  pub name : List ℕ
+  pub version : List ℕ
+
+abbrev pub producer_bytes : Producer → List ℕ
+producer_bytes producer = sized producer.name ++ sized producer.version
+
+pub record Field : Type 0 where
+  pub name : List ℕ
+  pub values : List Producer
+
+abbrev pub field_bytes : Field → List ℕ
+field_bytes field = sized field.name ++ counted producer_bytes field.values
