@@ -1,7 +1,7 @@
 -- What the encoder's instructions are: an opcode of the table and its operands (WebAssembly 3.0, 5.4).
 use Rattle.std.specs.Prelude.{◌<◌, ◌^◌, [], ◌∷◌, length, map}
 use Rattle.wasm_encoder_base.specs.Leb.{uleb}
-use Rattle.wasm_encoder_base.specs.Instr.{Instr, Operands, NoOperands, Index, Pair, LabelTable, Block, TryTable, ValTypes, I32, I64, F32, F64, Memory, Fence, counts_fit}
+use Rattle.wasm_encoder_base.specs.Instr.{Instr, Operands, NoOperands, Index, Indirect, LabelTable, Block, TryTable, ValTypes, I32, I64, F32, F64, Memory, Fence, counts_fit}
 use Rattle.wasm_encoder_base.specs.Views.{val_view}
 use Rattle.wasm_encoder_instr.specs.Block.{block_view}
 use Rattle.wasm_encoder_instr.specs.Catch.{catch_view}
@@ -41,9 +41,9 @@ instr_view (variants.BrIf index) = record { opcode = 0x0D ∷ []; operands = Ind
 instr_view (variants.BrTable labels default) = record { opcode = 0x0E ∷ []; operands = LabelTable labels default }
 instr_view variants.Return = record { opcode = 0x0F ∷ []; operands = NoOperands }
 instr_view (variants.Call index) = record { opcode = 0x10 ∷ []; operands = Index index }
-instr_view (variants.CallIndirect type_index table_index) = record { opcode = 0x11 ∷ []; operands = Pair type_index table_index }
+instr_view (variants.CallIndirect type_index table_index) = record { opcode = 0x11 ∷ []; operands = Indirect table_index type_index }
 instr_view (variants.ReturnCall index) = record { opcode = 0x12 ∷ []; operands = Index index }
-instr_view (variants.ReturnCallIndirect type_index table_index) = record { opcode = 0x13 ∷ []; operands = Pair type_index table_index }
+instr_view (variants.ReturnCallIndirect type_index table_index) = record { opcode = 0x13 ∷ []; operands = Indirect table_index type_index }
 instr_view (variants.CallRef index) = record { opcode = 0x14 ∷ []; operands = Index index }
 instr_view (variants.ReturnCallRef index) = record { opcode = 0x15 ∷ []; operands = Index index }
 instr_view (variants.Delegate index) = record { opcode = 0x18 ∷ []; operands = Index index }

@@ -2,8 +2,8 @@
 use Rattle.std.proofs.Common.{◌≡◌, [], ◌∷◌, refl, sym, subst, pos, negsuc}
 use Rattle.std.specs.Prelude.{◌≤ℤ◌}
 use Rattle.wasm_encoder_base.specs.Leb.{uleb, leb, digits}
-use Rattle.wasm_encoder_base.specs.Table.{table}
-use Rattle.wasm_encoder_base.specs.Instr.{row_at, IsInstr}
+use Rattle.wasm_encoder_base.specs.Table.{table, entry_at}
+use Rattle.wasm_encoder_base.specs.Instr.{IsInstr}
 use Rattle.wat_profile.specs.declared.tree.Instr.{Instr as CodeInstr}
 use Rattle.wat_profile.specs.declared.tree.Instruction.{Instruction}
 use Rattle.wat_profile.specs.declared.tree.Instruction.TheVariants.{Nop, Drop, I32Const}
@@ -19,7 +19,7 @@ IsInRange Drop = Unit {0}
 IsInRange (I32Const z) = (negsuc 2147483647 ≤ℤ z) × (z ≤ℤ pos 2147483647)
 
 kind_sound : (k : Instruction) → IsInRange k → IsInstr (record { opcode = (entry_of (mnemonic_of k)).opcode; operands = operands_of (operands_tree k) })
-unfolding row_at table
+unfolding entry_at table
 kind_sound Nop r = record { listed = refl; ranges = tt }
 kind_sound Drop r = record { listed = refl; ranges = tt }
 kind_sound (I32Const z) r = record { listed = refl; ranges = r }

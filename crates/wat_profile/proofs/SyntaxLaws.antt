@@ -1,6 +1,6 @@
 -- The laws of the syntax of modules: each mirrors its production.
 use Rattle.std.proofs.Common.{◌≡◌, ℕ, true, List, [], length, ◌<◌, Some, refl}
-use Rattle.wasm_encoder_base.specs.Table.{Row}
+use Rattle.wasm_encoder_base.specs.Table.{OperandSyntax}
 use Rattle.wasm_encoder_base.specs.Table as rows
 use Rattle.wat_profile.specs.Tokens.{Tok}
 use Rattle.wat_profile.specs.Tree.{Func, Instruction}
@@ -12,17 +12,17 @@ module _ {N P : Type 0} where
   pub i32_laws : Lawful (i32_literal {N = N} {P = P})
   i32_laws = seen_laws _ _ (only_laws _ _ integer_laws)
 
-  operands_laws : (r : Row) → Lawful (operands {N = N} {P = P} r)
+  operands_laws : (r : OperandSyntax) → Lawful (operands {N = N} {P = P} r)
   operands_laws rows.I32 = seen_laws _ _ i32_laws
   operands_laws _ = seen_laws _ _ nothing_laws
 
   -- in the bounds of all rows
-  bounded_laws : (r : Row) → Lawful (wide row_starts true row_stops (operands {N = N} {P = P} r))
+  bounded_laws : (r : OperandSyntax) → Lawful (wide row_starts true row_stops (operands {N = N} {P = P} r))
   bounded_laws rows.I32 = bound_laws _ _ _ (operands_laws rows.I32) refl refl
   bounded_laws r = bound_laws _ _ _ (operands_laws r) refl refl
 
   pub instruction_laws : Lawful (instruction {N = N} {P = P})
-  instruction_laws = seen_laws _ _ (next_laws (op []) (λ e. operands e.0.row) row_starts true row_stops (op_laws []) (λ e. bounded_laws e.0.row) refl)
+  instruction_laws = seen_laws _ _ (next_laws (op []) (λ e. operands e.0.operands) row_starts true row_stops (op_laws []) (λ e. bounded_laws e.0.operands) refl)
 
   name_laws : Lawful (name {N = N} {P = P})
   name_laws = only_laws _ _ string_laws

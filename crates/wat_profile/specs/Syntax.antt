@@ -1,7 +1,7 @@
 -- The syntax of modules (WebAssembly 3.0, 6).
 use Rattle.std.specs.Prelude.{ℕ, ℤ, pos, ◌-ℤ◌, Bool, true, false, if◌then◌else◌, List, [], ◌∷◌, codes, nat_lt, nat_le}
 use Rattle.std.specs.Str.{is_utf8}
-use Rattle.wasm_encoder_base.specs.Table.{Entry, Row}
+use Rattle.wasm_encoder_base.specs.Table.{Entry, OperandSyntax}
 use Rattle.wasm_encoder_base.specs.Table as rows
 use Rattle.wat_profile.specs.Tokens.{Literal}
 use Rattle.wat_profile.specs.Grammar.{Syntax, Test, On, Mnemonic, Any, an_integer, a_word, this_group, op, word, integer, string, nothing, next, seq, seen, only, many, group, paren}
@@ -23,7 +23,7 @@ module _ {N P : Type 0} where
   i32_literal = seen (λ l. i32_value l.0) (only (λ l. is_i32 l.0) integer)
 
   -- INSTRUCTIONS (6.5): a mnemonic of the table and the operands of its row.
-  abbrev pub operands : Row → Syntax N P (Operands N P)
+  abbrev pub operands : OperandSyntax → Syntax N P (Operands N P)
   operands rows.I32 = seen I32 i32_literal
   operands _ = seen (λ _. NoOperands) nothing
 
@@ -49,7 +49,7 @@ func_starts = this_group (codes "func") ∷ []
 
 module _ {N P : Type 0} where
   abbrev pub instruction : Syntax N P (Instruction N P)
-  instruction = seen instruction_of (next (op []) (λ e. operands e.0.row) row_starts true row_stops)
+  instruction = seen instruction_of (next (op []) (λ e. operands e.0.operands) row_starts true row_stops)
 
   -- NAMES (6.3.4): strings that are UTF-8
   abbrev pub name : Syntax N P (List ℕ)

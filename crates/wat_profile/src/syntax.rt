@@ -155,7 +155,7 @@ fn parse_operands(
     parser: &mut Parser<'_, '_>,
     mnemonic: Mnemonic,
 ) -> Result<Instruction, ParseFault>
-    ensures read { Gives operands_tree result parser.new ((operands (entry_of mnemonic).row).reads (ahead parser.old)) }
+    ensures read { Gives operands_tree result parser.new ((operands (entry_of mnemonic).operands).reads (ahead parser.old)) }
     ensures same { IfOk result (λ i. mnemonic_of i ≡ mnemonic) }
     ensures keeps { Keeps parser.old parser.new }
 {
