@@ -1,9 +1,22 @@
 -- Bulk instructions on memories and tables, with their operands: opcodes FC 8 to 17. (WebAssembly 3.0, 5.4)
-use Rattle.std.specs.Prelude.{◌∷◌}
+use Rattle.std.specs.Prelude.{◌∷◌, ℕ, List, codes}
 use Rattle.wasm_encoder_base.specs.Leb.{uleb}
 use Rattle.wasm_encoder_base.specs.Instr.{Instr, Index, Pair, Init}
 use Rattle.wasm_encoder_instr.specs.declared.bulk.BulkOp.{BulkOp}
 use Rattle.wasm_encoder_instr.specs.declared.bulk.BulkOp.TheVariants as variants
+
+-- the mnemonic of each
+abbrev pub bulk_mnemonic : BulkOp → List ℕ
+bulk_mnemonic (variants.MemoryInit mem data_index) = codes "memory.init"
+bulk_mnemonic (variants.DataDrop index) = codes "data.drop"
+bulk_mnemonic (variants.MemoryCopy src_mem dst_mem) = codes "memory.copy"
+bulk_mnemonic (variants.MemoryFill index) = codes "memory.fill"
+bulk_mnemonic (variants.TableInit elem_index table) = codes "table.init"
+bulk_mnemonic (variants.ElemDrop index) = codes "elem.drop"
+bulk_mnemonic (variants.TableCopy src_table dst_table) = codes "table.copy"
+bulk_mnemonic (variants.TableGrow index) = codes "table.grow"
+bulk_mnemonic (variants.TableSize index) = codes "table.size"
+bulk_mnemonic (variants.TableFill index) = codes "table.fill"
 
 -- the opcode and the operands of each
 abbrev pub bulk_view : BulkOp → Instr

@@ -1,10 +1,51 @@
 -- References, structures and arrays, with their operands: opcodes D0 to D6 and FB. (WebAssembly 3.0, 5.4)
-use Rattle.std.specs.Prelude.{[], ◌∷◌}
+use Rattle.std.specs.Prelude.{[], ◌∷◌, ℕ, List, codes}
 use Rattle.wasm_encoder_base.specs.Leb.{uleb}
 use Rattle.wasm_encoder_base.specs.Instr.{Instr, NoOperands, Index, Pair, Heap, Cast}
 use Rattle.wasm_encoder_base.specs.Views.{heap_view, ref_view}
 use Rattle.wasm_encoder_instr.specs.declared.gc.GcOp.{GcOp}
 use Rattle.wasm_encoder_instr.specs.declared.gc.GcOp.TheVariants as variants
+
+-- the mnemonic of each
+abbrev pub gc_mnemonic : GcOp → List ℕ
+gc_mnemonic (variants.RefNull heap_type) = codes "ref.null"
+gc_mnemonic variants.RefIsNull = codes "ref.is_null"
+gc_mnemonic (variants.RefFunc index) = codes "ref.func"
+gc_mnemonic variants.RefEq = codes "ref.eq"
+gc_mnemonic variants.RefAsNonNull = codes "ref.as_non_null"
+gc_mnemonic (variants.BrOnNull index) = codes "br_on_null"
+gc_mnemonic (variants.BrOnNonNull index) = codes "br_on_non_null"
+gc_mnemonic (variants.StructNew index) = codes "struct.new"
+gc_mnemonic (variants.StructNewDefault index) = codes "struct.new_default"
+gc_mnemonic (variants.StructGet struct_type_index field_index) = codes "struct.get"
+gc_mnemonic (variants.StructGetS struct_type_index field_index) = codes "struct.get_s"
+gc_mnemonic (variants.StructGetU struct_type_index field_index) = codes "struct.get_u"
+gc_mnemonic (variants.StructSet struct_type_index field_index) = codes "struct.set"
+gc_mnemonic (variants.ArrayNew index) = codes "array.new"
+gc_mnemonic (variants.ArrayNewDefault index) = codes "array.new_default"
+gc_mnemonic (variants.ArrayNewFixed array_type_index array_size) = codes "array.new_fixed"
+gc_mnemonic (variants.ArrayNewData array_type_index array_data_index) = codes "array.new_data"
+gc_mnemonic (variants.ArrayNewElem array_type_index array_elem_index) = codes "array.new_elem"
+gc_mnemonic (variants.ArrayGet index) = codes "array.get"
+gc_mnemonic (variants.ArrayGetS index) = codes "array.get_s"
+gc_mnemonic (variants.ArrayGetU index) = codes "array.get_u"
+gc_mnemonic (variants.ArraySet index) = codes "array.set"
+gc_mnemonic variants.ArrayLen = codes "array.len"
+gc_mnemonic (variants.ArrayFill index) = codes "array.fill"
+gc_mnemonic (variants.ArrayCopy array_type_index_dst array_type_index_src) = codes "array.copy"
+gc_mnemonic (variants.ArrayInitData array_type_index array_data_index) = codes "array.init_data"
+gc_mnemonic (variants.ArrayInitElem array_type_index array_elem_index) = codes "array.init_elem"
+gc_mnemonic (variants.RefTestNonNull heap_type) = codes "ref.test"
+gc_mnemonic (variants.RefTestNullable heap_type) = codes "ref.test"
+gc_mnemonic (variants.RefCastNonNull heap_type) = codes "ref.cast"
+gc_mnemonic (variants.RefCastNullable heap_type) = codes "ref.cast"
+gc_mnemonic (variants.BrOnCast relative_depth from_ref_type to_ref_type) = codes "br_on_cast"
+gc_mnemonic (variants.BrOnCastFail relative_depth from_ref_type to_ref_type) = codes "br_on_cast_fail"
+gc_mnemonic variants.AnyConvertExtern = codes "any.convert_extern"
+gc_mnemonic variants.ExternConvertAny = codes "extern.convert_any"
+gc_mnemonic variants.RefI31 = codes "ref.i31"
+gc_mnemonic variants.I31GetS = codes "i31.get_s"
+gc_mnemonic variants.I31GetU = codes "i31.get_u"
 
 -- the opcode and the operands of each, these in the order of the bytes
 abbrev pub gc_view : GcOp → Instr

@@ -1,26 +1,85 @@
 -- What the encoder's instructions are: an opcode of the table and its operands (WebAssembly 3.0, 5.4).
-use Rattle.std.specs.Prelude.{◌<◌, ◌^◌, [], ◌∷◌, length, map}
+use Rattle.std.specs.Prelude.{◌<◌, ◌^◌, [], ◌∷◌, length, map, ℕ, List, codes}
 use Rattle.wasm_encoder_base.specs.Leb.{uleb}
 use Rattle.wasm_encoder_base.specs.Instr.{Instr, Operands, NoOperands, Index, Indirect, LabelTable, Block, TryTable, ValTypes, I32, I64, F32, F64, Memory, Fence, counts_fit}
 use Rattle.wasm_encoder_base.specs.Views.{val_view}
 use Rattle.wasm_encoder_instr.specs.Block.{block_view}
 use Rattle.wasm_encoder_instr.specs.Catch.{catch_view}
-use Rattle.wasm_encoder_instr.specs.MemArg.{mem_arg_view}
-use Rattle.wasm_encoder_opcodes.specs.Compare.{compare_opcode}
-use Rattle.wasm_encoder_opcodes.specs.Numeric.{numeric_opcode}
-use Rattle.wasm_encoder_opcodes.specs.Convert.{convert_opcode}
-use Rattle.wasm_encoder_opcodes.specs.Vector.{vector_opcode}
-use Rattle.wasm_encoder_opcodes.specs.VectorNarrow.{vector_narrow_opcode}
-use Rattle.wasm_encoder_opcodes.specs.VectorWide.{vector_wide_opcode}
-use Rattle.wasm_encoder_opcodes.specs.VectorFloat.{vector_float_opcode}
-use Rattle.wasm_encoder_opcodes.specs.Access.{access_opcode}
-use Rattle.wasm_encoder_opcodes.specs.Atomic.{atomic_opcode}
-use Rattle.wasm_encoder_opcodes.specs.AtomicRmw.{atomic_rmw_opcode}
-use Rattle.wasm_encoder_instr.specs.Bulk.{bulk_view}
-use Rattle.wasm_encoder_instr.specs.Gc.{gc_view}
-use Rattle.wasm_encoder_instr.specs.VectorArg.{vector_arg_view, can_encode_vector_arg}
+use Rattle.wasm_encoder_instr.specs.MemArg.{mem_arg_view, is_aligned}
+use Rattle.wasm_encoder_opcodes.specs.Compare.{compare_mnemonic, compare_opcode}
+use Rattle.wasm_encoder_opcodes.specs.Numeric.{numeric_mnemonic, numeric_opcode}
+use Rattle.wasm_encoder_opcodes.specs.Convert.{convert_mnemonic, convert_opcode}
+use Rattle.wasm_encoder_opcodes.specs.Vector.{vector_mnemonic, vector_opcode}
+use Rattle.wasm_encoder_opcodes.specs.VectorNarrow.{vector_narrow_mnemonic, vector_narrow_opcode}
+use Rattle.wasm_encoder_opcodes.specs.VectorWide.{vector_wide_mnemonic, vector_wide_opcode}
+use Rattle.wasm_encoder_opcodes.specs.VectorFloat.{vector_float_mnemonic, vector_float_opcode}
+use Rattle.wasm_encoder_opcodes.specs.Access.{access_mnemonic, access_opcode}
+use Rattle.wasm_encoder_opcodes.specs.Atomic.{atomic_mnemonic, atomic_opcode}
+use Rattle.wasm_encoder_opcodes.specs.AtomicRmw.{atomic_rmw_mnemonic, atomic_rmw_opcode}
+use Rattle.wasm_encoder_instr.specs.Bulk.{bulk_mnemonic, bulk_view}
+use Rattle.wasm_encoder_instr.specs.Gc.{gc_mnemonic, gc_view}
+use Rattle.wasm_encoder_instr.specs.VectorArg.{vector_arg_mnemonic, vector_arg_view}
 use Rattle.wasm_encoder_instr.specs.declared.instruction.Instruction.{Instruction}
 use Rattle.wasm_encoder_instr.specs.declared.instruction.Instruction.TheVariants as variants
+
+-- the mnemonic of an instruction
+abbrev pub instr_mnemonic : Instruction → List ℕ
+instr_mnemonic variants.Unreachable = codes "unreachable"
+instr_mnemonic variants.Nop = codes "nop"
+instr_mnemonic (variants.Block block_type) = codes "block"
+instr_mnemonic (variants.Loop block_type) = codes "loop"
+instr_mnemonic (variants.If block_type) = codes "if"
+instr_mnemonic variants.Else = codes "else"
+instr_mnemonic (variants.Try block_type) = codes "try"
+instr_mnemonic (variants.Catch index) = codes "catch"
+instr_mnemonic (variants.Throw index) = codes "throw"
+instr_mnemonic (variants.Rethrow index) = codes "rethrow"
+instr_mnemonic variants.ThrowRef = codes "throw_ref"
+instr_mnemonic variants.End = codes "end"
+instr_mnemonic (variants.Br index) = codes "br"
+instr_mnemonic (variants.BrIf index) = codes "br_if"
+instr_mnemonic (variants.BrTable labels default) = codes "br_table"
+instr_mnemonic variants.Return = codes "return"
+instr_mnemonic (variants.Call index) = codes "call"
+instr_mnemonic (variants.CallIndirect type_index table_index) = codes "call_indirect"
+instr_mnemonic (variants.ReturnCall index) = codes "return_call"
+instr_mnemonic (variants.ReturnCallIndirect type_index table_index) = codes "return_call_indirect"
+instr_mnemonic (variants.CallRef index) = codes "call_ref"
+instr_mnemonic (variants.ReturnCallRef index) = codes "return_call_ref"
+instr_mnemonic (variants.Delegate index) = codes "delegate"
+instr_mnemonic variants.CatchAll = codes "catch_all"
+instr_mnemonic variants.Drop = codes "drop"
+instr_mnemonic variants.Select = codes "select"
+instr_mnemonic (variants.TypedSelect val_type) = codes "select"
+instr_mnemonic (variants.TypedSelectMulti types) = codes "select"
+instr_mnemonic (variants.TryTable block_type catches) = codes "try_table"
+instr_mnemonic (variants.LocalGet index) = codes "local.get"
+instr_mnemonic (variants.LocalSet index) = codes "local.set"
+instr_mnemonic (variants.LocalTee index) = codes "local.tee"
+instr_mnemonic (variants.GlobalGet index) = codes "global.get"
+instr_mnemonic (variants.GlobalSet index) = codes "global.set"
+instr_mnemonic (variants.TableGet index) = codes "table.get"
+instr_mnemonic (variants.TableSet index) = codes "table.set"
+instr_mnemonic (variants.MemorySize index) = codes "memory.size"
+instr_mnemonic (variants.MemoryGrow index) = codes "memory.grow"
+instr_mnemonic (variants.I32Const value) = codes "i32.const"
+instr_mnemonic (variants.I64Const value) = codes "i64.const"
+instr_mnemonic (variants.F32Const value) = codes "f32.const"
+instr_mnemonic (variants.F64Const value) = codes "f64.const"
+instr_mnemonic (variants.Compare op) = compare_mnemonic op
+instr_mnemonic (variants.Numeric op) = numeric_mnemonic op
+instr_mnemonic (variants.Convert op) = convert_mnemonic op
+instr_mnemonic (variants.Vector op) = vector_mnemonic op
+instr_mnemonic (variants.VectorNarrow op) = vector_narrow_mnemonic op
+instr_mnemonic (variants.VectorWide op) = vector_wide_mnemonic op
+instr_mnemonic (variants.VectorFloat op) = vector_float_mnemonic op
+instr_mnemonic (variants.Access op memarg) = access_mnemonic op
+instr_mnemonic variants.AtomicFence = codes "atomic.fence"
+instr_mnemonic (variants.Atomic op memarg) = atomic_mnemonic op
+instr_mnemonic (variants.AtomicRmw op memarg) = atomic_rmw_mnemonic op
+instr_mnemonic (variants.Bulk op) = bulk_mnemonic op
+instr_mnemonic (variants.Gc op) = gc_mnemonic op
+instr_mnemonic (variants.VectorArg op) = vector_arg_mnemonic op
 
 -- the opcode and the operands of each
 abbrev pub instr_view : Instruction → Instr
@@ -83,11 +142,7 @@ instr_view (variants.VectorArg op) = vector_arg_view op
 
 -- what `encode` asks: the logarithm of a memory argument's alignment is below 16
 abbrev pub can_encode_instr : Instruction → Type 0
-can_encode_instr (variants.Access op memarg) = memarg.align < 16
-can_encode_instr (variants.Atomic op memarg) = memarg.align < 16
-can_encode_instr (variants.AtomicRmw op memarg) = memarg.align < 16
-can_encode_instr (variants.VectorArg op) = can_encode_vector_arg op
-can_encode_instr _ = Unit {0}
+can_encode_instr i = is_aligned (instr_view i).operands
 
 -- the counts of the instruction's operands are at most 4294967295
 abbrev pub fits_instr : Instruction → Type 0

@@ -1,11 +1,52 @@
 -- Vector instructions with operands: opcodes FD. (WebAssembly 3.0, 5.4)
-use Rattle.std.specs.Prelude.{◌<◌, ◌∷◌}
+use Rattle.std.specs.Prelude.{◌<◌, ◌∷◌, ℕ, List, codes}
 use Rattle.std.specs.Int.{w128, cast_unsigned}
 use Rattle.wasm_encoder_base.specs.Leb.{uleb}
 use Rattle.wasm_encoder_base.specs.Instr.{Instr, V128, Lane, Shuffle, Memory, MemoryLane}
-use Rattle.wasm_encoder_instr.specs.MemArg.{mem_arg_view}
+use Rattle.wasm_encoder_instr.specs.MemArg.{mem_arg_view, is_aligned}
 use Rattle.wasm_encoder_instr.specs.declared.vector_arg.VectorArgOp.{VectorArgOp}
 use Rattle.wasm_encoder_instr.specs.declared.vector_arg.VectorArgOp.TheVariants as variants
+
+-- the mnemonic of each
+abbrev pub vector_arg_mnemonic : VectorArgOp → List ℕ
+vector_arg_mnemonic (variants.V128Load memarg) = codes "v128.load"
+vector_arg_mnemonic (variants.V128Load8x8S memarg) = codes "v128.load8x8_s"
+vector_arg_mnemonic (variants.V128Load8x8U memarg) = codes "v128.load8x8_u"
+vector_arg_mnemonic (variants.V128Load16x4S memarg) = codes "v128.load16x4_s"
+vector_arg_mnemonic (variants.V128Load16x4U memarg) = codes "v128.load16x4_u"
+vector_arg_mnemonic (variants.V128Load32x2S memarg) = codes "v128.load32x2_s"
+vector_arg_mnemonic (variants.V128Load32x2U memarg) = codes "v128.load32x2_u"
+vector_arg_mnemonic (variants.V128Load8Splat memarg) = codes "v128.load8_splat"
+vector_arg_mnemonic (variants.V128Load16Splat memarg) = codes "v128.load16_splat"
+vector_arg_mnemonic (variants.V128Load32Splat memarg) = codes "v128.load32_splat"
+vector_arg_mnemonic (variants.V128Load64Splat memarg) = codes "v128.load64_splat"
+vector_arg_mnemonic (variants.V128Store memarg) = codes "v128.store"
+vector_arg_mnemonic (variants.V128Const value) = codes "v128.const"
+vector_arg_mnemonic (variants.I8x16Shuffle lanes) = codes "i8x16.shuffle"
+vector_arg_mnemonic (variants.I8x16ExtractLaneS lane) = codes "i8x16.extract_lane_s"
+vector_arg_mnemonic (variants.I8x16ExtractLaneU lane) = codes "i8x16.extract_lane_u"
+vector_arg_mnemonic (variants.I8x16ReplaceLane lane) = codes "i8x16.replace_lane"
+vector_arg_mnemonic (variants.I16x8ExtractLaneS lane) = codes "i16x8.extract_lane_s"
+vector_arg_mnemonic (variants.I16x8ExtractLaneU lane) = codes "i16x8.extract_lane_u"
+vector_arg_mnemonic (variants.I16x8ReplaceLane lane) = codes "i16x8.replace_lane"
+vector_arg_mnemonic (variants.I32x4ExtractLane lane) = codes "i32x4.extract_lane"
+vector_arg_mnemonic (variants.I32x4ReplaceLane lane) = codes "i32x4.replace_lane"
+vector_arg_mnemonic (variants.I64x2ExtractLane lane) = codes "i64x2.extract_lane"
+vector_arg_mnemonic (variants.I64x2ReplaceLane lane) = codes "i64x2.replace_lane"
+vector_arg_mnemonic (variants.F32x4ExtractLane lane) = codes "f32x4.extract_lane"
+vector_arg_mnemonic (variants.F32x4ReplaceLane lane) = codes "f32x4.replace_lane"
+vector_arg_mnemonic (variants.F64x2ExtractLane lane) = codes "f64x2.extract_lane"
+vector_arg_mnemonic (variants.F64x2ReplaceLane lane) = codes "f64x2.replace_lane"
+vector_arg_mnemonic (variants.V128Load8Lane memarg lane) = codes "v128.load8_lane"
+vector_arg_mnemonic (variants.V128Load16Lane memarg lane) = codes "v128.load16_lane"
+vector_arg_mnemonic (variants.V128Load32Lane memarg lane) = codes "v128.load32_lane"
+vector_arg_mnemonic (variants.V128Load64Lane memarg lane) = codes "v128.load64_lane"
+vector_arg_mnemonic (variants.V128Store8Lane memarg lane) = codes "v128.store8_lane"
+vector_arg_mnemonic (variants.V128Store16Lane memarg lane) = codes "v128.store16_lane"
+vector_arg_mnemonic (variants.V128Store32Lane memarg lane) = codes "v128.store32_lane"
+vector_arg_mnemonic (variants.V128Store64Lane memarg lane) = codes "v128.store64_lane"
+vector_arg_mnemonic (variants.V128Load32Zero memarg) = codes "v128.load32_zero"
+vector_arg_mnemonic (variants.V128Load64Zero memarg) = codes "v128.load64_zero"
 
 -- the opcode and the operands of each, these in the order of the bytes
 abbrev pub vector_arg_view : VectorArgOp → Instr
@@ -50,26 +91,4 @@ vector_arg_view (variants.V128Load64Zero memarg) = record { opcode = 0xFD ∷ ul
 
 -- the logarithm of a memory argument's alignment is below 16
 abbrev pub can_encode_vector_arg : VectorArgOp → Type 0
-can_encode_vector_arg (variants.V128Load memarg) = memarg.align < 16
-can_encode_vector_arg (variants.V128Load8x8S memarg) = memarg.align < 16
-can_encode_vector_arg (variants.V128Load8x8U memarg) = memarg.align < 16
-can_encode_vector_arg (variants.V128Load16x4S memarg) = memarg.align < 16
-can_encode_vector_arg (variants.V128Load16x4U memarg) = memarg.align < 16
-can_encode_vector_arg (variants.V128Load32x2S memarg) = memarg.align < 16
-can_encode_vector_arg (variants.V128Load32x2U memarg) = memarg.align < 16
-can_encode_vector_arg (variants.V128Load8Splat memarg) = memarg.align < 16
-can_encode_vector_arg (variants.V128Load16Splat memarg) = memarg.align < 16
-can_encode_vector_arg (variants.V128Load32Splat memarg) = memarg.align < 16
-can_encode_vector_arg (variants.V128Load64Splat memarg) = memarg.align < 16
-can_encode_vector_arg (variants.V128Store memarg) = memarg.align < 16
-can_encode_vector_arg (variants.V128Load8Lane memarg lane) = memarg.align < 16
-can_encode_vector_arg (variants.V128Load16Lane memarg lane) = memarg.align < 16
-can_encode_vector_arg (variants.V128Load32Lane memarg lane) = memarg.align < 16
-can_encode_vector_arg (variants.V128Load64Lane memarg lane) = memarg.align < 16
-can_encode_vector_arg (variants.V128Store8Lane memarg lane) = memarg.align < 16
-can_encode_vector_arg (variants.V128Store16Lane memarg lane) = memarg.align < 16
-can_encode_vector_arg (variants.V128Store32Lane memarg lane) = memarg.align < 16
-can_encode_vector_arg (variants.V128Store64Lane memarg lane) = memarg.align < 16
-can_encode_vector_arg (variants.V128Load32Zero memarg) = memarg.align < 16
-can_encode_vector_arg (variants.V128Load64Zero memarg) = memarg.align < 16
-can_encode_vector_arg _ = Unit {0}
+can_encode_vector_arg op = is_aligned (vector_arg_view op).operands
