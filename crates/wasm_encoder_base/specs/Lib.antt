@@ -13,6 +13,7 @@ pub use Rattle.wasm_encoder_bytes.specs.Adds
 pub use Rattle.wasm_encoder_bytes.specs.Bytes
 pub use Rattle.wasm_encoder_bytes.specs.Decodes
 pub use Rattle.wasm_encoder_bytes.specs.Encodes
+pub use Rattle.wasm_encoder_bytes.specs.Ieee
 pub use Rattle.wasm_encoder_bytes.specs.Leb
 pub use Rattle.wasm_encoder_bytes.specs.Lists
 pub use Rattle.wasm_encoder_bytes.specs.Reading

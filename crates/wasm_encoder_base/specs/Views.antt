@@ -57,8 +57,14 @@ storage_view (Val t) = types.Value (val_view t)
 abbrev pub field_view : FieldType → types.FieldType
 field_view f = record { element_type = storage_view f.element_type; mutable = f.mutable }
 
+abbrev pub func_params : FuncType → List ValType
+func_params f = f.params
+
+abbrev pub func_results : FuncType → List ValType
+func_results f = f.results
+
 abbrev pub func_view : FuncType → types.FuncType
-func_view f = record { params = map val_view f.params; results = map val_view f.results }
+func_view f = record { params = map val_view (func_params f); results = map val_view (func_results f) }
 
 abbrev pub struct_view : StructType → List types.FieldType
 struct_view s = map field_view s.fields
@@ -76,7 +82,7 @@ sub_view t = record { is_final = t.is_final; supertype = t.supertype_idx; compos
 
 -- their counts are numbers of 32 bits
 abbrev pub func_fits : FuncType → Type 0
-func_fits f = (length f.params < 2 ^ 32) × (length f.results < 2 ^ 32)
+func_fits f = (length (func_params f) < 2 ^ 32) × (length (func_results f) < 2 ^ 32)
 
 abbrev pub struct_fits : StructType → Type 0
 struct_fits s = length s.fields < 2 ^ 32

@@ -4,10 +4,10 @@ ghost use Rattle.std.specs.Prelude.{◌≡◌, ◌<◌, ◌^◌, ◌∷◌, [], 
 ghost use Rattle.wasm_encoder_bytes.specs.Bytes.{counted};
 ghost use Rattle.wasm_encoder_bytes.specs.Encodes.{Encodes, Puts};
 ghost use Rattle.wasm_encoder_base.specs.Types.{abstract_heap_byte, heap_bytes, ref_bytes, val_bytes, storage_bytes, field_bytes, func_bytes, struct_bytes, array_bytes, composite_bytes, supertype_bytes, sub_bytes};
-ghost use Rattle.wasm_encoder_base.specs.Views.{abstract_view, heap_view, ref_view, val_view, storage_view, field_view, func_view, struct_view, array_view, composite_view, sub_view, func_fits, struct_fits, composite_fits};
+ghost use Rattle.wasm_encoder_base.specs.Views.{abstract_view, heap_view, ref_view, val_view, storage_view, field_view, func_params, func_results, func_view, struct_view, array_view, composite_view, sub_view, func_fits, struct_fits, composite_fits};
 
 use std::alloc::{AllocError, Global};
-use wasm_encoder_bytes::{Encode, EncodeError, Items, encode_both, rolled_back};
+use wasm_encoder_bytes::{Encode, EncodeError, OwnedItems, encode_both, rolled_back};
 
 /// A heap type with a name of its own; each number is its byte.
 #[derive(Clone, Copy, Debug, PartialEq, Eq, Hash)]
@@ -177,45 +177,38 @@ impl Encode for FieldType {
 }
 
 /// A function's parameters and results.
-#[derive(Debug, Drop)]
+#[derive(Clone, Debug, Drop)]
 pub struct FuncType {
-    params: Items<'static, ValType>,
-    results: Items<'static, ValType>,
+    params: OwnedItems<ValType>,
+    results: OwnedItems<ValType>,
 }
 
 impl FuncType {
     /// The type with these parameters and results.
     pub fn new(alloc: Global, params: &[ValType], results: &[ValType]) -> Result<Self, AllocError>
-        ensures params { IfOk result (λ f. f.params ≡ params.now) }
-        ensures results { IfOk result (λ f. f.results ≡ results.now) }
+        ensures params { IfOk result (λ f. func_params f ≡ params.now) }
+        ensures results { IfOk result (λ f. func_results f ≡ results.now) }
     {
         let params = Vec::from_slice(alloc, params)?;
         let results = Vec::from_slice(alloc, results)?;
         Ok(FuncType {
-            params: Items::owned(params),
-            results: Items::owned(results),
+            params: OwnedItems::new(params),
+            results: OwnedItems::new(results),
         })
     }
 
     /// The parameters.
     pub fn params(&self) -> &[ValType]
-        ensures { result.now ≡ self.now.params }
+        ensures { result.now ≡ func_params self.now }
     {
         self.params.as_slice()
     }
 
     /// The results.
     pub fn results(&self) -> &[ValType]
-        ensures { result.now ≡ self.now.results }
+        ensures { result.now ≡ func_results self.now }
     {
         self.results.as_slice()
-    }
-
-    /// The same type once more.
-    pub fn clone(&self, alloc: Global) -> Result<Self, AllocError>
-        ensures { IfOk result (λ f. f ≡ self.now) }
-    {
-        FuncType::new(alloc, self.params(), self.results())
     }
 }
 
@@ -251,21 +244,9 @@ fn encode_val_types(types: &[ValType], sink: &mut Vec<u8>) -> Result<(), EncodeE
 }
 
 /// A structure's fields.
-#[derive(Debug, Drop)]
+#[derive(Clone, Debug, Drop)]
 pub struct StructType {
-    pub fields: Items<'static, FieldType>,
-}
-
-impl StructType {
-    /// The same type once more.
-    pub fn clone(&self, alloc: Global) -> Result<Self, AllocError>
-        ensures { IfOk result (λ s. s ≡ self.now) }
-    {
-        let fields = Vec::from_slice(alloc, self.fields.as_slice())?;
-        Ok(StructType {
-            fields: Items::owned(fields),
-        })
-    }
+    pub fields: OwnedItems<FieldType>,
 }
 
 impl Encode for StructType {
@@ -298,24 +279,11 @@ impl Encode for ArrayType {
 }
 
 /// A function, array or structure type.
-#[derive(Debug, Drop)]
+#[derive(Clone, Debug, Drop)]
 pub enum CompositeType {
     Func(FuncType),
     Array(ArrayType),
     Struct(StructType),
-}
-
-impl CompositeType {
-    /// The same type once more.
-    pub fn clone(&self, alloc: Global) -> Result<Self, AllocError>
-        ensures { IfOk result (λ t. t ≡ self.now) }
-    {
-        match self {
-            CompositeType::Func(func) => Ok(CompositeType::Func(func.clone(alloc)?)),
-            CompositeType::Array(array) => Ok(CompositeType::Array(*array)),
-            CompositeType::Struct(fields) => Ok(CompositeType::Struct(fields.clone(alloc)?)),
-        }
-    }
 }
 
 impl Encode for CompositeType {
@@ -335,7 +303,7 @@ impl Encode for CompositeType {
 }
 
 /// A composite type with its place below another.
-#[derive(Debug, Drop)]
+#[derive(Clone, Debug, Drop)]
 pub struct SubType {
     pub is_final: bool,
     pub supertype_idx: Option<u32>,
@@ -343,17 +311,6 @@ pub struct SubType {
 }
 
 impl SubType {
-    /// The same type once more.
-    pub fn clone(&self, alloc: Global) -> Result<Self, AllocError>
-        ensures { IfOk result (λ t. t ≡ self.now) }
-    {
-        Ok(SubType {
-            is_final: self.is_final,
-            supertype_idx: self.supertype_idx,
-            composite_type: self.composite_type.clone(alloc)?,
-        })
-    }
-
     /// What stands before the composite type.
     fn supertypes(&self) -> Supertypes
         ensures is_final { result.is_final ≡ self.now.is_final }

@@ -2,6 +2,7 @@ pub mod Adds
 pub mod Bytes
 pub mod Decodes
 pub mod Encodes
+pub mod Ieee
 pub mod Leb
 pub mod Lists
 pub mod Reading

@@ -1,6 +1,6 @@
-//! Lists that are borrowed or owned.
+//! Lists that contracts see by their items: borrowed or owned, or owned.
 
-ghost use Rattle.std.specs.Prelude.{◌≡◌, ℕ, length, nat_eq, IfOk};
+ghost use Rattle.std.specs.Prelude.{◌≡◌, ℕ, length, nat_eq};
 ghost use Rattle.std.specs.Cow.{cow_slice_items};
 
 use std::alloc::{AllocError, Global};
@@ -80,11 +80,11 @@ impl<'a, T> Items<'a, T> {
     }
 }
 
-impl<'a, T: Copy> Items<'a, T> {
-    /// The same items: borrowed from the same place, or in a vector of their own.
-    pub fn clone(&self) -> Result<Self, AllocError>
-        ensures { IfOk result (λ items. items ≡ self.now) }
-    {
+/// The same items: borrowed from the same place, or in a vector of their own with the allocator of these.
+impl<'a, T: Copy> Clone for Items<'a, T> {
+    ghost is_clone = { λ items copy. copy ≡ items };
+
+    fn clone(&self) -> Result<Self, AllocError> {
         match &self.items {
             CowSlice::Borrowed(items) => Ok(Items::borrowed(*items)),
             CowSlice::Owned(items) => {
@@ -105,5 +105,45 @@ impl<'a, T: PartialEq> PartialEq for Items<'a, T> {
 
     fn eq(&self, other: &Self) -> bool {
         self.as_slice() == other.as_slice()
+    }
+}
+
+/// A list that owns its items. Contracts see the items.
+#[derive(Debug, Drop)]
+pub struct OwnedItems<T> {
+    items: Vec<T>,
+}
+
+impl<T> Model for OwnedItems<T> {
+    ghost use Rattle.std.specs.Prelude.{List};
+
+    ghost Value = { List T };
+
+    ghost view = { λ s. s.items.items };
+}
+
+impl<T> OwnedItems<T> {
+    /// The items of a vector, whose memory they keep.
+    pub fn new(items: Vec<T>) -> Self
+        ensures { result ≡ items.items }
+    {
+        OwnedItems { items }
+    }
+
+    /// The items.
+    pub fn as_slice(&self) -> &[T]
+        ensures { result.now ≡ self.now }
+    {
+        self.items.as_slice()
+    }
+}
+
+/// The same items once more, in memory of the same allocator.
+impl<T: Copy> Clone for OwnedItems<T> {
+    ghost is_clone = { λ items copy. copy ≡ items };
+
+    fn clone(&self) -> Result<Self, AllocError> {
+        let items = Vec::from_slice(*self.items.allocator(), self.as_slice())?;
+        Ok(OwnedItems::new(items))
     }
 }

@@ -20,7 +20,7 @@ pub use adding::{Added, rolled_back};
 pub use encode::{Encode, encode_both, encode_sized};
 pub use error::EncodeError;
 pub use ieee::{Ieee32, Ieee64};
-pub use items::{Bytes, Items};
+pub use items::{Bytes, Items, OwnedItems};
 pub use leb::encoding_size;
 pub use list::EncodedList;
 pub use part::{Measure, Part, RawBytes};

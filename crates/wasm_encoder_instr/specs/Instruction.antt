@@ -1,5 +1,6 @@
 -- What the encoder's instructions are: an opcode of the table and its operands (WebAssembly 3.0, 5.4).
 use Rattle.std.specs.Prelude.{◌<◌, ◌^◌, [], ◌∷◌, length, map, ℕ, List, codes}
+use Rattle.wasm_encoder_base.specs.Ieee.{ieee32_bits, ieee64_bits}
 use Rattle.wasm_encoder_base.specs.Leb.{uleb}
 use Rattle.wasm_encoder_base.specs.Instr.{Instr, Operands, NoOperands, Index, Indirect, LabelTable, Block, TryTable, ValTypes, I32, I64, F32, F64, Memory, Fence, counts_fit}
 use Rattle.wasm_encoder_base.specs.Views.{val_view}
@@ -123,8 +124,8 @@ instr_view (variants.MemorySize index) = record { opcode = 0x3F ∷ []; operands
 instr_view (variants.MemoryGrow index) = record { opcode = 0x40 ∷ []; operands = Index index }
 instr_view (variants.I32Const value) = record { opcode = 0x41 ∷ []; operands = I32 value }
 instr_view (variants.I64Const value) = record { opcode = 0x42 ∷ []; operands = I64 value }
-instr_view (variants.F32Const value) = record { opcode = 0x43 ∷ []; operands = F32 value.bits }
-instr_view (variants.F64Const value) = record { opcode = 0x44 ∷ []; operands = F64 value.bits }
+instr_view (variants.F32Const value) = record { opcode = 0x43 ∷ []; operands = F32 (ieee32_bits value) }
+instr_view (variants.F64Const value) = record { opcode = 0x44 ∷ []; operands = F64 (ieee64_bits value) }
 instr_view (variants.Compare op) = record { opcode = compare_opcode op; operands = NoOperands }
 instr_view (variants.Numeric op) = record { opcode = numeric_opcode op; operands = NoOperands }
 instr_view (variants.Convert op) = record { opcode = convert_opcode op; operands = NoOperands }
