@@ -1,9 +1,4 @@
-ghost use Rattle.std.specs.Prelude.{◌≡◌, ◌++◌, OnOk, OnErr, IsErrOf, List, ℕ};
-ghost use Rattle.wasm_encoder_base.specs.Instr.{instr_bytes};
-ghost use Rattle.wasm_encoder_instr.specs.Bulk.{bulk_view};
-
-use crate::put::{put_three, put_two};
-use wasm_encoder_base::{Encode, EncodeError};
+use wasm_encoder_base::{Encode, EncodeError, encode_both};
 use wasm_encoder_opcodes::Prefixed;
 
 /// Bulk instructions on memories and tables, with their operands: opcodes FC 8 to 17.
@@ -33,49 +28,32 @@ impl Encode for BulkOp {
     ghost spelling = { λ op. instr_bytes (bulk_view op) };
 
     fn encode(&self, sink: &mut Vec<u8>) -> Result<(), EncodeError> {
-        let start = sink.len();
-        let result = put(self, sink);
-        if result.is_err() {
-            sink.truncate(start);
+        match self {
+            BulkOp::MemoryInit { mem, data_index } => encode_both(
+                &Prefixed(0xFC, 8),
+                &(data_index, mem),
+                sink,
+            ),
+            BulkOp::DataDrop(index) => encode_both(&Prefixed(0xFC, 9), index, sink),
+            BulkOp::MemoryCopy { src_mem, dst_mem } => encode_both(
+                &Prefixed(0xFC, 10),
+                &(dst_mem, src_mem),
+                sink,
+            ),
+            BulkOp::MemoryFill(index) => encode_both(&Prefixed(0xFC, 11), index, sink),
+            BulkOp::TableInit { elem_index, table } => encode_both(
+                &Prefixed(0xFC, 12),
+                &(elem_index, table),
+                sink,
+            ),
+            BulkOp::ElemDrop(index) => encode_both(&Prefixed(0xFC, 13), index, sink),
+            BulkOp::TableCopy {
+                src_table,
+                dst_table,
+            } => encode_both(&Prefixed(0xFC, 14), &(dst_table, src_table), sink),
+            BulkOp::TableGrow(index) => encode_both(&Prefixed(0xFC, 15), index, sink),
+            BulkOp::TableSize(index) => encode_both(&Prefixed(0xFC, 16), index, sink),
+            BulkOp::TableFill(index) => encode_both(&Prefixed(0xFC, 17), index, sink),
         }
-        result
-    }
-}
-
-/// Appends the bytes; refused, the sink is as it was and what was appended.
-fn put(op: &BulkOp, sink: &mut Vec<u8>) -> Result<(), EncodeError>
-    ensures spelled { OnOk result (sink.new.items ≡ sink.old.items ++ instr_bytes (bulk_view op.now)) }
-    ensures grows { (more : List ℕ) × (sink.new.items ≡ sink.old.items ++ more) }
-    ensures memory { IsErrOf result EncodeError.TooLarge → ⊥ }
-{
-    match op {
-        BulkOp::MemoryInit { mem, data_index } => put_three(
-            &Prefixed(0xFC, 8),
-            data_index,
-            mem,
-            sink,
-        ),
-        BulkOp::DataDrop(index) => put_two(&Prefixed(0xFC, 9), index, sink),
-        BulkOp::MemoryCopy { src_mem, dst_mem } => put_three(
-            &Prefixed(0xFC, 10),
-            dst_mem,
-            src_mem,
-            sink,
-        ),
-        BulkOp::MemoryFill(index) => put_two(&Prefixed(0xFC, 11), index, sink),
-        BulkOp::TableInit { elem_index, table } => put_three(
-            &Prefixed(0xFC, 12),
-            elem_index,
-            table,
-            sink,
-        ),
-        BulkOp::ElemDrop(index) => put_two(&Prefixed(0xFC, 13), index, sink),
-        BulkOp::TableCopy {
-            src_table,
-            dst_table,
-        } => put_three(&Prefixed(0xFC, 14), dst_table, src_table, sink),
-        BulkOp::TableGrow(index) => put_two(&Prefixed(0xFC, 15), index, sink),
-        BulkOp::TableSize(index) => put_two(&Prefixed(0xFC, 16), index, sink),
-        BulkOp::TableFill(index) => put_two(&Prefixed(0xFC, 17), index, sink),
     }
 }

@@ -1,12 +1,7 @@
-ghost use Rattle.std.specs.Prelude.{◌≡◌, ◌+◌, ◌++◌, ◌<◌, OnOk, OnErr, IsErrOf, List, ℕ};
-ghost use Rattle.wasm_encoder_base.specs.Instr.{catch_bytes};
-ghost use Rattle.wasm_encoder_instr.specs.Catch.{catch_view};
-
-use crate::put::{put_three, put_two};
-use wasm_encoder_base::{Encode, EncodeError};
+use wasm_encoder_base::{Encode, EncodeError, encode_both};
 
 /// A clause of a `try_table`: what is caught, and the label that is branched to.
-#[derive(Clone, Debug, Drop)]
+#[derive(Clone, Copy, Debug)]
 pub enum Catch {
     /// Exceptions of the tag.
     One { tag: u32, label: u32 },
@@ -30,25 +25,11 @@ impl Encode for Catch {
     ghost spelling = { λ catch. catch_bytes (catch_view catch) };
 
     fn encode(&self, sink: &mut Vec<u8>) -> Result<(), EncodeError> {
-        let start = sink.len();
-        let result = put(self, sink);
-        if result.is_err() {
-            sink.truncate(start);
+        match self {
+            Catch::One { tag, label } => encode_both(&0x00u8, &(tag, label), sink),
+            Catch::OneRef { tag, label } => encode_both(&0x01u8, &(tag, label), sink),
+            Catch::All { label } => encode_both(&0x02u8, label, sink),
+            Catch::AllRef { label } => encode_both(&0x03u8, label, sink),
         }
-        result
-    }
-}
-
-/// Appends the bytes; refused, the sink is as it was and what was appended.
-fn put(catch: &Catch, sink: &mut Vec<u8>) -> Result<(), EncodeError>
-    ensures spelled { OnOk result (sink.new.items ≡ sink.old.items ++ catch_bytes (catch_view catch.now)) }
-    ensures grows { (more : List ℕ) × (sink.new.items ≡ sink.old.items ++ more) }
-    ensures memory { IsErrOf result EncodeError.TooLarge → ⊥ }
-{
-    match catch {
-        Catch::One { tag, label } => put_three(&0x00u8, tag, label, sink),
-        Catch::OneRef { tag, label } => put_three(&0x01u8, tag, label, sink),
-        Catch::All { label } => put_two(&0x02u8, label, sink),
-        Catch::AllRef { label } => put_two(&0x03u8, label, sink),
     }
 }

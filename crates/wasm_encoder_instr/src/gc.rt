@@ -1,9 +1,5 @@
-ghost use Rattle.std.specs.Prelude.{◌≡◌, ◌++◌, OnOk, OnErr, IsErrOf, List, ℕ};
-ghost use Rattle.wasm_encoder_base.specs.Instr.{instr_bytes};
-ghost use Rattle.wasm_encoder_instr.specs.Gc.{gc_view};
-
-use crate::put::{put_cast, put_three, put_two};
-use wasm_encoder_base::{Encode, EncodeError, HeapType, RefType};
+use crate::operand::Cast;
+use wasm_encoder_base::{Encode, EncodeError, HeapType, RefType, encode_both};
 use wasm_encoder_opcodes::Prefixed;
 
 /// References, structures and arrays, with their operands: opcodes D0 to D6 and FB.
@@ -99,129 +95,119 @@ impl Encode for GcOp {
     ghost spelling = { λ op. instr_bytes (gc_view op) };
 
     fn encode(&self, sink: &mut Vec<u8>) -> Result<(), EncodeError> {
-        let start = sink.len();
-        let result = put(self, sink);
-        if result.is_err() {
-            sink.truncate(start);
+        match self {
+            GcOp::RefNull(heap_type) => encode_both(&0xD0u8, heap_type, sink),
+            GcOp::RefIsNull => 0xD1u8.encode(sink),
+            GcOp::RefFunc(index) => encode_both(&0xD2u8, index, sink),
+            GcOp::RefEq => 0xD3u8.encode(sink),
+            GcOp::RefAsNonNull => 0xD4u8.encode(sink),
+            GcOp::BrOnNull(index) => encode_both(&0xD5u8, index, sink),
+            GcOp::BrOnNonNull(index) => encode_both(&0xD6u8, index, sink),
+            GcOp::StructNew(index) => encode_both(&Prefixed(0xFB, 0), index, sink),
+            GcOp::StructNewDefault(index) => encode_both(&Prefixed(0xFB, 1), index, sink),
+            GcOp::StructGet {
+                struct_type_index,
+                field_index,
+            } => encode_both(&Prefixed(0xFB, 2), &(struct_type_index, field_index), sink),
+            GcOp::StructGetS {
+                struct_type_index,
+                field_index,
+            } => encode_both(&Prefixed(0xFB, 3), &(struct_type_index, field_index), sink),
+            GcOp::StructGetU {
+                struct_type_index,
+                field_index,
+            } => encode_both(&Prefixed(0xFB, 4), &(struct_type_index, field_index), sink),
+            GcOp::StructSet {
+                struct_type_index,
+                field_index,
+            } => encode_both(&Prefixed(0xFB, 5), &(struct_type_index, field_index), sink),
+            GcOp::ArrayNew(index) => encode_both(&Prefixed(0xFB, 6), index, sink),
+            GcOp::ArrayNewDefault(index) => encode_both(&Prefixed(0xFB, 7), index, sink),
+            GcOp::ArrayNewFixed {
+                array_type_index,
+                array_size,
+            } => encode_both(&Prefixed(0xFB, 8), &(array_type_index, array_size), sink),
+            GcOp::ArrayNewData {
+                array_type_index,
+                array_data_index,
+            } => encode_both(
+                &Prefixed(0xFB, 9),
+                &(array_type_index, array_data_index),
+                sink,
+            ),
+            GcOp::ArrayNewElem {
+                array_type_index,
+                array_elem_index,
+            } => encode_both(
+                &Prefixed(0xFB, 10),
+                &(array_type_index, array_elem_index),
+                sink,
+            ),
+            GcOp::ArrayGet(index) => encode_both(&Prefixed(0xFB, 11), index, sink),
+            GcOp::ArrayGetS(index) => encode_both(&Prefixed(0xFB, 12), index, sink),
+            GcOp::ArrayGetU(index) => encode_both(&Prefixed(0xFB, 13), index, sink),
+            GcOp::ArraySet(index) => encode_both(&Prefixed(0xFB, 14), index, sink),
+            GcOp::ArrayLen => Prefixed(0xFB, 15).encode(sink),
+            GcOp::ArrayFill(index) => encode_both(&Prefixed(0xFB, 16), index, sink),
+            GcOp::ArrayCopy {
+                array_type_index_dst,
+                array_type_index_src,
+            } => encode_both(
+                &Prefixed(0xFB, 17),
+                &(array_type_index_dst, array_type_index_src),
+                sink,
+            ),
+            GcOp::ArrayInitData {
+                array_type_index,
+                array_data_index,
+            } => encode_both(
+                &Prefixed(0xFB, 18),
+                &(array_type_index, array_data_index),
+                sink,
+            ),
+            GcOp::ArrayInitElem {
+                array_type_index,
+                array_elem_index,
+            } => encode_both(
+                &Prefixed(0xFB, 19),
+                &(array_type_index, array_elem_index),
+                sink,
+            ),
+            GcOp::RefTestNonNull(heap_type) => encode_both(&Prefixed(0xFB, 20), heap_type, sink),
+            GcOp::RefTestNullable(heap_type) => encode_both(&Prefixed(0xFB, 21), heap_type, sink),
+            GcOp::RefCastNonNull(heap_type) => encode_both(&Prefixed(0xFB, 22), heap_type, sink),
+            GcOp::RefCastNullable(heap_type) => encode_both(&Prefixed(0xFB, 23), heap_type, sink),
+            GcOp::BrOnCast {
+                relative_depth,
+                from_ref_type,
+                to_ref_type,
+            } => encode_both(
+                &Prefixed(0xFB, 24),
+                &Cast {
+                    label: *relative_depth,
+                    source: *from_ref_type,
+                    target: *to_ref_type,
+                },
+                sink,
+            ),
+            GcOp::BrOnCastFail {
+                relative_depth,
+                from_ref_type,
+                to_ref_type,
+            } => encode_both(
+                &Prefixed(0xFB, 25),
+                &Cast {
+                    label: *relative_depth,
+                    source: *from_ref_type,
+                    target: *to_ref_type,
+                },
+                sink,
+            ),
+            GcOp::AnyConvertExtern => Prefixed(0xFB, 26).encode(sink),
+            GcOp::ExternConvertAny => Prefixed(0xFB, 27).encode(sink),
+            GcOp::RefI31 => Prefixed(0xFB, 28).encode(sink),
+            GcOp::I31GetS => Prefixed(0xFB, 29).encode(sink),
+            GcOp::I31GetU => Prefixed(0xFB, 30).encode(sink),
         }
-        result
-    }
-}
-
-/// Appends the bytes; refused, the sink is as it was and what was appended.
-fn put(op: &GcOp, sink: &mut Vec<u8>) -> Result<(), EncodeError>
-    ensures spelled { OnOk result (sink.new.items ≡ sink.old.items ++ instr_bytes (gc_view op.now)) }
-    ensures grows { (more : List ℕ) × (sink.new.items ≡ sink.old.items ++ more) }
-    ensures memory { IsErrOf result EncodeError.TooLarge → ⊥ }
-{
-    match op {
-        GcOp::RefNull(heap_type) => put_two(&0xD0u8, heap_type, sink),
-        GcOp::RefIsNull => 0xD1u8.encode(sink),
-        GcOp::RefFunc(index) => put_two(&0xD2u8, index, sink),
-        GcOp::RefEq => 0xD3u8.encode(sink),
-        GcOp::RefAsNonNull => 0xD4u8.encode(sink),
-        GcOp::BrOnNull(index) => put_two(&0xD5u8, index, sink),
-        GcOp::BrOnNonNull(index) => put_two(&0xD6u8, index, sink),
-        GcOp::StructNew(index) => put_two(&Prefixed(0xFB, 0), index, sink),
-        GcOp::StructNewDefault(index) => put_two(&Prefixed(0xFB, 1), index, sink),
-        GcOp::StructGet {
-            struct_type_index,
-            field_index,
-        } => put_three(&Prefixed(0xFB, 2), struct_type_index, field_index, sink),
-        GcOp::StructGetS {
-            struct_type_index,
-            field_index,
-        } => put_three(&Prefixed(0xFB, 3), struct_type_index, field_index, sink),
-        GcOp::StructGetU {
-            struct_type_index,
-            field_index,
-        } => put_three(&Prefixed(0xFB, 4), struct_type_index, field_index, sink),
-        GcOp::StructSet {
-            struct_type_index,
-            field_index,
-        } => put_three(&Prefixed(0xFB, 5), struct_type_index, field_index, sink),
-        GcOp::ArrayNew(index) => put_two(&Prefixed(0xFB, 6), index, sink),
-        GcOp::ArrayNewDefault(index) => put_two(&Prefixed(0xFB, 7), index, sink),
-        GcOp::ArrayNewFixed {
-            array_type_index,
-            array_size,
-        } => put_three(&Prefixed(0xFB, 8), array_type_index, array_size, sink),
-        GcOp::ArrayNewData {
-            array_type_index,
-            array_data_index,
-        } => put_three(&Prefixed(0xFB, 9), array_type_index, array_data_index, sink),
-        GcOp::ArrayNewElem {
-            array_type_index,
-            array_elem_index,
-        } => put_three(
-            &Prefixed(0xFB, 10),
-            array_type_index,
-            array_elem_index,
-            sink,
-        ),
-        GcOp::ArrayGet(index) => put_two(&Prefixed(0xFB, 11), index, sink),
-        GcOp::ArrayGetS(index) => put_two(&Prefixed(0xFB, 12), index, sink),
-        GcOp::ArrayGetU(index) => put_two(&Prefixed(0xFB, 13), index, sink),
-        GcOp::ArraySet(index) => put_two(&Prefixed(0xFB, 14), index, sink),
-        GcOp::ArrayLen => Prefixed(0xFB, 15).encode(sink),
-        GcOp::ArrayFill(index) => put_two(&Prefixed(0xFB, 16), index, sink),
-        GcOp::ArrayCopy {
-            array_type_index_dst,
-            array_type_index_src,
-        } => put_three(
-            &Prefixed(0xFB, 17),
-            array_type_index_dst,
-            array_type_index_src,
-            sink,
-        ),
-        GcOp::ArrayInitData {
-            array_type_index,
-            array_data_index,
-        } => put_three(
-            &Prefixed(0xFB, 18),
-            array_type_index,
-            array_data_index,
-            sink,
-        ),
-        GcOp::ArrayInitElem {
-            array_type_index,
-            array_elem_index,
-        } => put_three(
-            &Prefixed(0xFB, 19),
-            array_type_index,
-            array_elem_index,
-            sink,
-        ),
-        GcOp::RefTestNonNull(heap_type) => put_two(&Prefixed(0xFB, 20), heap_type, sink),
-        GcOp::RefTestNullable(heap_type) => put_two(&Prefixed(0xFB, 21), heap_type, sink),
-        GcOp::RefCastNonNull(heap_type) => put_two(&Prefixed(0xFB, 22), heap_type, sink),
-        GcOp::RefCastNullable(heap_type) => put_two(&Prefixed(0xFB, 23), heap_type, sink),
-        GcOp::BrOnCast {
-            relative_depth,
-            from_ref_type,
-            to_ref_type,
-        } => put_cast(
-            &Prefixed(0xFB, 24),
-            *relative_depth,
-            from_ref_type,
-            to_ref_type,
-            sink,
-        ),
-        GcOp::BrOnCastFail {
-            relative_depth,
-            from_ref_type,
-            to_ref_type,
-        } => put_cast(
-            &Prefixed(0xFB, 25),
-            *relative_depth,
-            from_ref_type,
-            to_ref_type,
-            sink,
-        ),
-        GcOp::AnyConvertExtern => Prefixed(0xFB, 26).encode(sink),
-        GcOp::ExternConvertAny => Prefixed(0xFB, 27).encode(sink),
-        GcOp::RefI31 => Prefixed(0xFB, 28).encode(sink),
-        GcOp::I31GetS => Prefixed(0xFB, 29).encode(sink),
-        GcOp::I31GetU => Prefixed(0xFB, 30).encode(sink),
     }
 }

@@ -10,14 +10,13 @@
 mod block;
 mod bulk;
 mod catch;
-mod copies;
 mod gc;
 mod handle;
 mod instruction;
 pub mod laws;
 mod mem_arg;
+mod operand;
 mod ordering;
-mod put;
 mod vector_arg;
 
 pub use block::BlockType;

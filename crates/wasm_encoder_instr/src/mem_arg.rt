@@ -1,8 +1,6 @@
-ghost use Rattle.std.specs.Prelude.{◌≡◌, ◌+◌, ◌++◌, ◌<◌, OnOk, OnErr, IsErrOf, List, ℕ};
-ghost use Rattle.wasm_encoder_instr.specs.MemArg.{mem_arg_view};
-ghost use Rattle.wasm_encoder_base.specs.Instr.{mem_arg_bytes};
+ghost use Rattle.std.specs.Prelude.{◌≡◌, ◌↔◌, ◌<◌, IsTrue};
 
-use wasm_encoder_base::{Encode, EncodeError};
+use wasm_encoder_base::{Encode, EncodeError, encode_both};
 
 /// The number of a lane of a vector.
 pub type Lane = u8;
@@ -35,8 +33,18 @@ pub struct MemArg {
     pub target: MemArgTarget,
 }
 
+impl MemArg {
+    /// Whether the argument can be encoded: whether the logarithm of its alignment is below 16.
+    pub fn can_encode(&self) -> bool
+        ensures { IsTrue result ↔ self.now.align < 16 }
+    {
+        self.align < 16
+    }
+}
+
 /// The alignment's logarithm, plus 64 where the memory isn't 0, then that memory; then the offset.
 impl Encode for MemArg {
+    ghost use Rattle.std.specs.Prelude.{◌<◌};
     ghost use Rattle.wasm_encoder_instr.specs.MemArg.{mem_arg_view};
     ghost use Rattle.wasm_encoder_base.specs.Instr.{mem_arg_bytes};
 
@@ -47,28 +55,9 @@ impl Encode for MemArg {
     ghost spelling = { λ m. mem_arg_bytes (mem_arg_view m) };
 
     fn encode(&self, sink: &mut Vec<u8>) -> Result<(), EncodeError> {
-        let start = sink.len();
-        let result = put(self, sink);
-        if result.is_err() {
-            sink.truncate(start);
+        match self.target {
+            MemArgTarget::Memory(0) => encode_both(&self.align, &self.offset, sink),
+            MemArgTarget::Memory(memory) => (self.align + 64, memory, self.offset).encode(sink),
         }
-        result
     }
-}
-
-/// Appends the bytes; refused, the sink is as it was and what was appended.
-fn put(arg: &MemArg, sink: &mut Vec<u8>) -> Result<(), EncodeError>
-    requires { arg.now.align < 16 }
-    ensures spelled { OnOk result (sink.new.items ≡ sink.old.items ++ mem_arg_bytes (mem_arg_view arg.now)) }
-    ensures grows { (more : List ℕ) × (sink.new.items ≡ sink.old.items ++ more) }
-    ensures memory { IsErrOf result EncodeError.TooLarge → ⊥ }
-{
-    let MemArgTarget::Memory(memory) = arg.target;
-    if memory == 0 {
-        arg.align.encode(sink)?;
-    } else {
-        (arg.align + 64).encode(sink)?;
-        memory.encode(sink)?;
-    }
-    arg.offset.encode(sink)
 }

@@ -1,10 +1,9 @@
-ghost use Rattle.std.specs.Prelude.{◌≡◌, ◌++◌, OnOk, OnErr, IsErrOf, List, ℕ};
-ghost use Rattle.wasm_encoder_base.specs.Instr.{instr_bytes};
-ghost use Rattle.wasm_encoder_instr.specs.VectorArg.{vector_arg_view, can_encode_vector_arg};
+ghost use Rattle.std.specs.Prelude.{◌↔◌, IsTrue};
+ghost use Rattle.wasm_encoder_instr.specs.VectorArg.{can_encode_vector_arg};
 
 use crate::mem_arg::{Lane, MemArg};
-use crate::put::{put_raw, put_three, put_two, put_v128};
-use wasm_encoder_base::{Encode, EncodeError};
+use crate::operand::encode_v128;
+use wasm_encoder_base::{Encode, EncodeError, RawBytes, encode_both};
 use wasm_encoder_opcodes::Prefixed;
 
 /// Vector instructions with operands: opcodes FD.
@@ -50,6 +49,39 @@ pub enum VectorArgOp {
     V128Load64Zero(MemArg),
 }
 
+impl VectorArgOp {
+    /// Whether the instruction can be encoded: whether the logarithm of the alignment of its memory argument, if it has one, is below 16.
+    pub fn can_encode(&self) -> bool
+        ensures { IsTrue result ↔ can_encode_vector_arg self.now }
+    {
+        match self {
+            VectorArgOp::V128Load(memarg)
+            | VectorArgOp::V128Load8x8S(memarg)
+            | VectorArgOp::V128Load8x8U(memarg)
+            | VectorArgOp::V128Load16x4S(memarg)
+            | VectorArgOp::V128Load16x4U(memarg)
+            | VectorArgOp::V128Load32x2S(memarg)
+            | VectorArgOp::V128Load32x2U(memarg)
+            | VectorArgOp::V128Load8Splat(memarg)
+            | VectorArgOp::V128Load16Splat(memarg)
+            | VectorArgOp::V128Load32Splat(memarg)
+            | VectorArgOp::V128Load64Splat(memarg)
+            | VectorArgOp::V128Store(memarg)
+            | VectorArgOp::V128Load32Zero(memarg)
+            | VectorArgOp::V128Load64Zero(memarg)
+            | VectorArgOp::V128Load8Lane { memarg, .. }
+            | VectorArgOp::V128Load16Lane { memarg, .. }
+            | VectorArgOp::V128Load32Lane { memarg, .. }
+            | VectorArgOp::V128Load64Lane { memarg, .. }
+            | VectorArgOp::V128Store8Lane { memarg, .. }
+            | VectorArgOp::V128Store16Lane { memarg, .. }
+            | VectorArgOp::V128Store32Lane { memarg, .. }
+            | VectorArgOp::V128Store64Lane { memarg, .. } => memarg.can_encode(),
+            _ => true,
+        }
+    }
+}
+
 /// The opcode and the operands.
 impl Encode for VectorArgOp {
     ghost use Rattle.wasm_encoder_base.specs.Instr.{instr_bytes};
@@ -62,100 +94,81 @@ impl Encode for VectorArgOp {
     ghost spelling = { λ op. instr_bytes (vector_arg_view op) };
 
     fn encode(&self, sink: &mut Vec<u8>) -> Result<(), EncodeError> {
-        let start = sink.len();
-        let result = put(self, sink);
-        if result.is_err() {
-            sink.truncate(start);
+        match self {
+            VectorArgOp::V128Load(memarg) => encode_both(&Prefixed(0xFD, 0), memarg, sink),
+            VectorArgOp::V128Load8x8S(memarg) => encode_both(&Prefixed(0xFD, 1), memarg, sink),
+            VectorArgOp::V128Load8x8U(memarg) => encode_both(&Prefixed(0xFD, 2), memarg, sink),
+            VectorArgOp::V128Load16x4S(memarg) => encode_both(&Prefixed(0xFD, 3), memarg, sink),
+            VectorArgOp::V128Load16x4U(memarg) => encode_both(&Prefixed(0xFD, 4), memarg, sink),
+            VectorArgOp::V128Load32x2S(memarg) => encode_both(&Prefixed(0xFD, 5), memarg, sink),
+            VectorArgOp::V128Load32x2U(memarg) => encode_both(&Prefixed(0xFD, 6), memarg, sink),
+            VectorArgOp::V128Load8Splat(memarg) => encode_both(&Prefixed(0xFD, 7), memarg, sink),
+            VectorArgOp::V128Load16Splat(memarg) => encode_both(&Prefixed(0xFD, 8), memarg, sink),
+            VectorArgOp::V128Load32Splat(memarg) => encode_both(&Prefixed(0xFD, 9), memarg, sink),
+            VectorArgOp::V128Load64Splat(memarg) => encode_both(&Prefixed(0xFD, 10), memarg, sink),
+            VectorArgOp::V128Store(memarg) => encode_both(&Prefixed(0xFD, 11), memarg, sink),
+            VectorArgOp::V128Const(value) => encode_v128(&Prefixed(0xFD, 12), *value, sink),
+            VectorArgOp::I8x16Shuffle(lanes) => encode_both(
+                &Prefixed(0xFD, 13),
+                &RawBytes(lanes),
+                sink,
+            ),
+            VectorArgOp::I8x16ExtractLaneS(lane) => encode_both(&Prefixed(0xFD, 21), lane, sink),
+            VectorArgOp::I8x16ExtractLaneU(lane) => encode_both(&Prefixed(0xFD, 22), lane, sink),
+            VectorArgOp::I8x16ReplaceLane(lane) => encode_both(&Prefixed(0xFD, 23), lane, sink),
+            VectorArgOp::I16x8ExtractLaneS(lane) => encode_both(&Prefixed(0xFD, 24), lane, sink),
+            VectorArgOp::I16x8ExtractLaneU(lane) => encode_both(&Prefixed(0xFD, 25), lane, sink),
+            VectorArgOp::I16x8ReplaceLane(lane) => encode_both(&Prefixed(0xFD, 26), lane, sink),
+            VectorArgOp::I32x4ExtractLane(lane) => encode_both(&Prefixed(0xFD, 27), lane, sink),
+            VectorArgOp::I32x4ReplaceLane(lane) => encode_both(&Prefixed(0xFD, 28), lane, sink),
+            VectorArgOp::I64x2ExtractLane(lane) => encode_both(&Prefixed(0xFD, 29), lane, sink),
+            VectorArgOp::I64x2ReplaceLane(lane) => encode_both(&Prefixed(0xFD, 30), lane, sink),
+            VectorArgOp::F32x4ExtractLane(lane) => encode_both(&Prefixed(0xFD, 31), lane, sink),
+            VectorArgOp::F32x4ReplaceLane(lane) => encode_both(&Prefixed(0xFD, 32), lane, sink),
+            VectorArgOp::F64x2ExtractLane(lane) => encode_both(&Prefixed(0xFD, 33), lane, sink),
+            VectorArgOp::F64x2ReplaceLane(lane) => encode_both(&Prefixed(0xFD, 34), lane, sink),
+            VectorArgOp::V128Load8Lane { memarg, lane } => encode_both(
+                &Prefixed(0xFD, 84),
+                &(memarg, lane),
+                sink,
+            ),
+            VectorArgOp::V128Load16Lane { memarg, lane } => encode_both(
+                &Prefixed(0xFD, 85),
+                &(memarg, lane),
+                sink,
+            ),
+            VectorArgOp::V128Load32Lane { memarg, lane } => encode_both(
+                &Prefixed(0xFD, 86),
+                &(memarg, lane),
+                sink,
+            ),
+            VectorArgOp::V128Load64Lane { memarg, lane } => encode_both(
+                &Prefixed(0xFD, 87),
+                &(memarg, lane),
+                sink,
+            ),
+            VectorArgOp::V128Store8Lane { memarg, lane } => encode_both(
+                &Prefixed(0xFD, 88),
+                &(memarg, lane),
+                sink,
+            ),
+            VectorArgOp::V128Store16Lane { memarg, lane } => encode_both(
+                &Prefixed(0xFD, 89),
+                &(memarg, lane),
+                sink,
+            ),
+            VectorArgOp::V128Store32Lane { memarg, lane } => encode_both(
+                &Prefixed(0xFD, 90),
+                &(memarg, lane),
+                sink,
+            ),
+            VectorArgOp::V128Store64Lane { memarg, lane } => encode_both(
+                &Prefixed(0xFD, 91),
+                &(memarg, lane),
+                sink,
+            ),
+            VectorArgOp::V128Load32Zero(memarg) => encode_both(&Prefixed(0xFD, 92), memarg, sink),
+            VectorArgOp::V128Load64Zero(memarg) => encode_both(&Prefixed(0xFD, 93), memarg, sink),
         }
-        result
-    }
-}
-
-/// Appends the bytes; refused, the sink is as it was and what was appended.
-fn put(op: &VectorArgOp, sink: &mut Vec<u8>) -> Result<(), EncodeError>
-    requires { can_encode_vector_arg op.now }
-    ensures spelled { OnOk result (sink.new.items ≡ sink.old.items ++ instr_bytes (vector_arg_view op.now)) }
-    ensures grows { (more : List ℕ) × (sink.new.items ≡ sink.old.items ++ more) }
-    ensures memory { IsErrOf result EncodeError.TooLarge → ⊥ }
-{
-    match op {
-        VectorArgOp::V128Load(memarg) => put_two(&Prefixed(0xFD, 0), memarg, sink),
-        VectorArgOp::V128Load8x8S(memarg) => put_two(&Prefixed(0xFD, 1), memarg, sink),
-        VectorArgOp::V128Load8x8U(memarg) => put_two(&Prefixed(0xFD, 2), memarg, sink),
-        VectorArgOp::V128Load16x4S(memarg) => put_two(&Prefixed(0xFD, 3), memarg, sink),
-        VectorArgOp::V128Load16x4U(memarg) => put_two(&Prefixed(0xFD, 4), memarg, sink),
-        VectorArgOp::V128Load32x2S(memarg) => put_two(&Prefixed(0xFD, 5), memarg, sink),
-        VectorArgOp::V128Load32x2U(memarg) => put_two(&Prefixed(0xFD, 6), memarg, sink),
-        VectorArgOp::V128Load8Splat(memarg) => put_two(&Prefixed(0xFD, 7), memarg, sink),
-        VectorArgOp::V128Load16Splat(memarg) => put_two(&Prefixed(0xFD, 8), memarg, sink),
-        VectorArgOp::V128Load32Splat(memarg) => put_two(&Prefixed(0xFD, 9), memarg, sink),
-        VectorArgOp::V128Load64Splat(memarg) => put_two(&Prefixed(0xFD, 10), memarg, sink),
-        VectorArgOp::V128Store(memarg) => put_two(&Prefixed(0xFD, 11), memarg, sink),
-        VectorArgOp::V128Const(value) => put_v128(&Prefixed(0xFD, 12), *value, sink),
-        VectorArgOp::I8x16Shuffle(lanes) => put_raw(&Prefixed(0xFD, 13), lanes, sink),
-        VectorArgOp::I8x16ExtractLaneS(lane) => put_two(&Prefixed(0xFD, 21), lane, sink),
-        VectorArgOp::I8x16ExtractLaneU(lane) => put_two(&Prefixed(0xFD, 22), lane, sink),
-        VectorArgOp::I8x16ReplaceLane(lane) => put_two(&Prefixed(0xFD, 23), lane, sink),
-        VectorArgOp::I16x8ExtractLaneS(lane) => put_two(&Prefixed(0xFD, 24), lane, sink),
-        VectorArgOp::I16x8ExtractLaneU(lane) => put_two(&Prefixed(0xFD, 25), lane, sink),
-        VectorArgOp::I16x8ReplaceLane(lane) => put_two(&Prefixed(0xFD, 26), lane, sink),
-        VectorArgOp::I32x4ExtractLane(lane) => put_two(&Prefixed(0xFD, 27), lane, sink),
-        VectorArgOp::I32x4ReplaceLane(lane) => put_two(&Prefixed(0xFD, 28), lane, sink),
-        VectorArgOp::I64x2ExtractLane(lane) => put_two(&Prefixed(0xFD, 29), lane, sink),
-        VectorArgOp::I64x2ReplaceLane(lane) => put_two(&Prefixed(0xFD, 30), lane, sink),
-        VectorArgOp::F32x4ExtractLane(lane) => put_two(&Prefixed(0xFD, 31), lane, sink),
-        VectorArgOp::F32x4ReplaceLane(lane) => put_two(&Prefixed(0xFD, 32), lane, sink),
-        VectorArgOp::F64x2ExtractLane(lane) => put_two(&Prefixed(0xFD, 33), lane, sink),
-        VectorArgOp::F64x2ReplaceLane(lane) => put_two(&Prefixed(0xFD, 34), lane, sink),
-        VectorArgOp::V128Load8Lane { memarg, lane } => put_three(
-            &Prefixed(0xFD, 84),
-            memarg,
-            lane,
-            sink,
-        ),
-        VectorArgOp::V128Load16Lane { memarg, lane } => put_three(
-            &Prefixed(0xFD, 85),
-            memarg,
-            lane,
-            sink,
-        ),
-        VectorArgOp::V128Load32Lane { memarg, lane } => put_three(
-            &Prefixed(0xFD, 86),
-            memarg,
-            lane,
-            sink,
-        ),
-        VectorArgOp::V128Load64Lane { memarg, lane } => put_three(
-            &Prefixed(0xFD, 87),
-            memarg,
-            lane,
-            sink,
-        ),
-        VectorArgOp::V128Store8Lane { memarg, lane } => put_three(
-            &Prefixed(0xFD, 88),
-            memarg,
-            lane,
-            sink,
-        ),
-        VectorArgOp::V128Store16Lane { memarg, lane } => put_three(
-            &Prefixed(0xFD, 89),
-            memarg,
-            lane,
-            sink,
-        ),
-        VectorArgOp::V128Store32Lane { memarg, lane } => put_three(
-            &Prefixed(0xFD, 90),
-            memarg,
-            lane,
-            sink,
-        ),
-        VectorArgOp::V128Store64Lane { memarg, lane } => put_three(
-            &Prefixed(0xFD, 91),
-            memarg,
-            lane,
-            sink,
-        ),
-        VectorArgOp::V128Load32Zero(memarg) => put_two(&Prefixed(0xFD, 92), memarg, sink),
-        VectorArgOp::V128Load64Zero(memarg) => put_two(&Prefixed(0xFD, 93), memarg, sink),
     }
 }
