@@ -1,9 +1,12 @@
 -- The laws that the crate's law functions prove.
-use Rattle.std.specs.Prelude.{ℕ, ◌≡◌, List, drop}
+use Rattle.std.specs.Prelude.{ℕ, ◌≡◌, List, ◌++◌, drop, map}
 use Rattle.std.specs.List.{AllByRecursion}
+use Rattle.wasm_encoder_base.specs.Bytes.{counted}
 use Rattle.wasm_encoder_base.specs.Balanced.{IsBalanced}
 use Rattle.wasm_encoder_base.specs.Instr.{Instr, IsInstr, expr_bytes}
 use Rattle.wasm_encoder_base.specs.Types.{ValType}
+use Rattle.wasm_encoder_base.specs.declared.types.ValType as declared
+use Rattle.wasm_encoder_code.specs.Locals.{run_view, pair_bytes}
 use Rattle.wasm_encoder_code.specs.Body.{Run, AreRuns, joined, apart, Body, IsBody, body_bytes, place_of}
 
 -- b is the spelling of x, which meets P
@@ -30,6 +33,12 @@ OneExpression = IsOneToOne IsExpression expr_bytes
 -- At the place of instruction k the bytes of it and of those after it begin, up to the end.
 abbrev pub PlaceBegins : Type 0
 PlaceBegins = (b : Body) (k : ℕ) → drop (place_of b k) (body_bytes b) ≡ expr_bytes (drop k b.instructions)
+
+-- Pairs of a count and a type, as a body is made of them, and an expression are the body of the locals that the pairs stand for, where
+-- the pairs are runs.
+abbrev pub PairsAreBody : Type 0
+PairsAreBody = (pairs : List (ℕ × declared.ValType)) (is : List Instr) → AreRuns (map run_view pairs) →
+    counted pair_bytes pairs ++ expr_bytes is ≡ body_bytes (record { locals = apart (map run_view pairs); instructions = is })
 
 -- Joined locals are runs with positive counts, neighbours of different types, which stand for these locals.
 pub record IsJoined (ts : List ValType) : Type 0 where

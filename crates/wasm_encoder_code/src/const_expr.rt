@@ -3,11 +3,14 @@ ghost use Rattle.std.specs.List.{flat_map};
 ghost use Rattle.wasm_encoder_base.specs.Instr.{instr_bytes};
 ghost use Rattle.wasm_encoder_instr.specs.Instruction.{instr_view, can_encode_instr, fits_instr};
 ghost use Rattle.wasm_encoder_base.specs.Leb.{uleb};
+ghost use Rattle.wasm_encoder_code.specs.Sink.{IsMade};
 ghost use Rattle.wasm_encoder_base.specs.Reading.{StandsInFront};
 
 use std::alloc::{AllocError, Global};
 use std::marker::Model;
-use wasm_encoder_base::{Encode, EncodeError, HeapType, Ieee32, Ieee64, read_u32};
+use wasm_encoder_base::{
+    Encode, EncodeError, HeapType, Ieee32, Ieee64, RawBytes, encode_both, read_u32,
+};
 use wasm_encoder_instr::{GcOp, Instruction, NumericOp, VectorArgOp};
 
 /// A constant expression: the bytes of its instructions, without the `end`. Contracts see the bytes.
@@ -33,13 +36,7 @@ impl Encode for ConstExpr {
     ghost spelling = { λ expression. expression ++ 0x0B ∷ [] };
 
     fn encode(&self, sink: &mut Vec<u8>) -> Result<(), EncodeError> {
-        let start = sink.len();
-        sink.extend_from_slice(self.bytes.as_slice())?;
-        if sink.push(0x0B).is_err() {
-            sink.truncate(start);
-            return Err(EncodeError::Memory);
-        }
-        Ok(())
+        encode_both(&RawBytes(self.bytes.as_slice()), &0x0Bu8, sink)
     }
 }
 
@@ -55,8 +52,7 @@ impl ConstExpr {
 
     /// The bytes as they are.
     pub fn raw(alloc: Global, bytes: &[u8]) -> Result<Self, EncodeError>
-        ensures ok { IfOk result (λ expression. expression ≡ bytes.now) }
-        ensures too_large { IsErrOf result EncodeError.TooLarge → ⊥ }
+        ensures { IsMade (bytes.now) (Unit {0}) result }
     {
         let bytes = Vec::from_slice(alloc, bytes)?;
         Ok(ConstExpr { bytes })
@@ -65,9 +61,7 @@ impl ConstExpr {
     /// The instructions.
     pub fn extended(alloc: Global, instructions: &[Instruction]) -> Result<Self, EncodeError>
         requires { All can_encode_instr instructions.now }
-        ensures ok { IfOk result (λ expression. expression ≡ flat_map (λ i. instr_bytes (instr_view i)) instructions.now) }
-        ensures fits { OnOk result (All fits_instr instructions.now) }
-        ensures too_large { IsErrOf result EncodeError.TooLarge → All fits_instr instructions.now → ⊥ }
+        ensures { IsMade (flat_map (λ i. instr_bytes (instr_view i)) instructions.now) (All fits_instr instructions.now) result }
     {
         let bytes = spelled(alloc, instructions)?;
         Ok(ConstExpr { bytes })
@@ -95,8 +89,7 @@ impl ConstExpr {
     /// With a further instruction; refused, the expression is dropped.
     fn with_instruction(self, instruction: &Instruction) -> Result<Self, EncodeError>
         requires { can_encode_instr instruction.now }
-        ensures ok { IfOk result (λ expression. expression ≡ self ++ instr_bytes (instr_view instruction.now)) }
-        ensures too_large { IsErrOf result EncodeError.TooLarge → fits_instr instruction.now → ⊥ }
+        ensures { IsMade (self ++ instr_bytes (instr_view instruction.now)) (fits_instr instruction.now) result }
     {
         let ConstExpr { mut bytes } = self;
         instruction.encode(&mut bytes)?;
@@ -105,64 +98,56 @@ impl ConstExpr {
 
     /// `global.get`
     pub fn global_get(alloc: Global, global: u32) -> Result<Self, EncodeError>
-        ensures ok { IfOk result (λ expression. expression ≡ instr_bytes (instr_view (Instruction.GlobalGet global))) }
-        ensures too_large { IsErrOf result EncodeError.TooLarge → ⊥ }
+        ensures { IsMade (instr_bytes (instr_view (Instruction.GlobalGet global))) (Unit {0}) result }
     {
         ConstExpr::empty(alloc).with_instruction(&Instruction::GlobalGet(global))
     }
 
     /// `ref.null`
     pub fn ref_null(alloc: Global, heap_type: HeapType) -> Result<Self, EncodeError>
-        ensures ok { IfOk result (λ expression. expression ≡ instr_bytes (instr_view (Instruction.Gc (GcOp.RefNull heap_type)))) }
-        ensures too_large { IsErrOf result EncodeError.TooLarge → ⊥ }
+        ensures { IsMade (instr_bytes (instr_view (Instruction.Gc (GcOp.RefNull heap_type)))) (Unit {0}) result }
     {
         ConstExpr::empty(alloc).with_instruction(&Instruction::Gc(GcOp::RefNull(heap_type)))
     }
 
     /// `ref.func`
     pub fn ref_func(alloc: Global, function: u32) -> Result<Self, EncodeError>
-        ensures ok { IfOk result (λ expression. expression ≡ instr_bytes (instr_view (Instruction.Gc (GcOp.RefFunc function)))) }
-        ensures too_large { IsErrOf result EncodeError.TooLarge → ⊥ }
+        ensures { IsMade (instr_bytes (instr_view (Instruction.Gc (GcOp.RefFunc function)))) (Unit {0}) result }
     {
         ConstExpr::empty(alloc).with_instruction(&Instruction::Gc(GcOp::RefFunc(function)))
     }
 
     /// `i32.const`
     pub fn i32_const(alloc: Global, value: i32) -> Result<Self, EncodeError>
-        ensures ok { IfOk result (λ expression. expression ≡ instr_bytes (instr_view (Instruction.I32Const value))) }
-        ensures too_large { IsErrOf result EncodeError.TooLarge → ⊥ }
+        ensures { IsMade (instr_bytes (instr_view (Instruction.I32Const value))) (Unit {0}) result }
     {
         ConstExpr::empty(alloc).with_instruction(&Instruction::I32Const(value))
     }
 
     /// `i64.const`
     pub fn i64_const(alloc: Global, value: i64) -> Result<Self, EncodeError>
-        ensures ok { IfOk result (λ expression. expression ≡ instr_bytes (instr_view (Instruction.I64Const value))) }
-        ensures too_large { IsErrOf result EncodeError.TooLarge → ⊥ }
+        ensures { IsMade (instr_bytes (instr_view (Instruction.I64Const value))) (Unit {0}) result }
     {
         ConstExpr::empty(alloc).with_instruction(&Instruction::I64Const(value))
     }
 
     /// `f32.const`
     pub fn f32_const(alloc: Global, value: Ieee32) -> Result<Self, EncodeError>
-        ensures ok { IfOk result (λ expression. expression ≡ instr_bytes (instr_view (Instruction.F32Const value))) }
-        ensures too_large { IsErrOf result EncodeError.TooLarge → ⊥ }
+        ensures { IsMade (instr_bytes (instr_view (Instruction.F32Const value))) (Unit {0}) result }
     {
         ConstExpr::empty(alloc).with_instruction(&Instruction::F32Const(value))
     }
 
     /// `f64.const`
     pub fn f64_const(alloc: Global, value: Ieee64) -> Result<Self, EncodeError>
-        ensures ok { IfOk result (λ expression. expression ≡ instr_bytes (instr_view (Instruction.F64Const value))) }
-        ensures too_large { IsErrOf result EncodeError.TooLarge → ⊥ }
+        ensures { IsMade (instr_bytes (instr_view (Instruction.F64Const value))) (Unit {0}) result }
     {
         ConstExpr::empty(alloc).with_instruction(&Instruction::F64Const(value))
     }
 
     /// `v128.const`
     pub fn v128_const(alloc: Global, value: i128) -> Result<Self, EncodeError>
-        ensures ok { IfOk result (λ expression. expression ≡ instr_bytes (instr_view (Instruction.VectorArg (VectorArgOp.V128Const value)))) }
-        ensures too_large { IsErrOf result EncodeError.TooLarge → ⊥ }
+        ensures { IsMade (instr_bytes (instr_view (Instruction.VectorArg (VectorArgOp.V128Const value)))) (Unit {0}) result }
     {
         ConstExpr::empty(alloc).with_instruction(&Instruction::VectorArg(VectorArgOp::V128Const(
             value,
@@ -171,112 +156,98 @@ impl ConstExpr {
 
     /// `global.get` at the end; refused, the expression is dropped.
     pub fn with_global_get(self, global: u32) -> Result<Self, EncodeError>
-        ensures ok { IfOk result (λ expression. expression ≡ self ++ instr_bytes (instr_view (Instruction.GlobalGet global))) }
-        ensures too_large { IsErrOf result EncodeError.TooLarge → ⊥ }
+        ensures { IsMade (self ++ instr_bytes (instr_view (Instruction.GlobalGet global))) (Unit {0}) result }
     {
         self.with_instruction(&Instruction::GlobalGet(global))
     }
 
     /// `ref.null` at the end; refused, the expression is dropped.
     pub fn with_ref_null(self, heap_type: HeapType) -> Result<Self, EncodeError>
-        ensures ok { IfOk result (λ expression. expression ≡ self ++ instr_bytes (instr_view (Instruction.Gc (GcOp.RefNull heap_type)))) }
-        ensures too_large { IsErrOf result EncodeError.TooLarge → ⊥ }
+        ensures { IsMade (self ++ instr_bytes (instr_view (Instruction.Gc (GcOp.RefNull heap_type)))) (Unit {0}) result }
     {
         self.with_instruction(&Instruction::Gc(GcOp::RefNull(heap_type)))
     }
 
     /// `ref.func` at the end; refused, the expression is dropped.
     pub fn with_ref_func(self, function: u32) -> Result<Self, EncodeError>
-        ensures ok { IfOk result (λ expression. expression ≡ self ++ instr_bytes (instr_view (Instruction.Gc (GcOp.RefFunc function)))) }
-        ensures too_large { IsErrOf result EncodeError.TooLarge → ⊥ }
+        ensures { IsMade (self ++ instr_bytes (instr_view (Instruction.Gc (GcOp.RefFunc function)))) (Unit {0}) result }
     {
         self.with_instruction(&Instruction::Gc(GcOp::RefFunc(function)))
     }
 
     /// `i32.const` at the end; refused, the expression is dropped.
     pub fn with_i32_const(self, value: i32) -> Result<Self, EncodeError>
-        ensures ok { IfOk result (λ expression. expression ≡ self ++ instr_bytes (instr_view (Instruction.I32Const value))) }
-        ensures too_large { IsErrOf result EncodeError.TooLarge → ⊥ }
+        ensures { IsMade (self ++ instr_bytes (instr_view (Instruction.I32Const value))) (Unit {0}) result }
     {
         self.with_instruction(&Instruction::I32Const(value))
     }
 
     /// `i64.const` at the end; refused, the expression is dropped.
     pub fn with_i64_const(self, value: i64) -> Result<Self, EncodeError>
-        ensures ok { IfOk result (λ expression. expression ≡ self ++ instr_bytes (instr_view (Instruction.I64Const value))) }
-        ensures too_large { IsErrOf result EncodeError.TooLarge → ⊥ }
+        ensures { IsMade (self ++ instr_bytes (instr_view (Instruction.I64Const value))) (Unit {0}) result }
     {
         self.with_instruction(&Instruction::I64Const(value))
     }
 
     /// `f32.const` at the end; refused, the expression is dropped.
     pub fn with_f32_const(self, value: Ieee32) -> Result<Self, EncodeError>
-        ensures ok { IfOk result (λ expression. expression ≡ self ++ instr_bytes (instr_view (Instruction.F32Const value))) }
-        ensures too_large { IsErrOf result EncodeError.TooLarge → ⊥ }
+        ensures { IsMade (self ++ instr_bytes (instr_view (Instruction.F32Const value))) (Unit {0}) result }
     {
         self.with_instruction(&Instruction::F32Const(value))
     }
 
     /// `f64.const` at the end; refused, the expression is dropped.
     pub fn with_f64_const(self, value: Ieee64) -> Result<Self, EncodeError>
-        ensures ok { IfOk result (λ expression. expression ≡ self ++ instr_bytes (instr_view (Instruction.F64Const value))) }
-        ensures too_large { IsErrOf result EncodeError.TooLarge → ⊥ }
+        ensures { IsMade (self ++ instr_bytes (instr_view (Instruction.F64Const value))) (Unit {0}) result }
     {
         self.with_instruction(&Instruction::F64Const(value))
     }
 
     /// `v128.const` at the end; refused, the expression is dropped.
     pub fn with_v128_const(self, value: i128) -> Result<Self, EncodeError>
-        ensures ok { IfOk result (λ expression. expression ≡ self ++ instr_bytes (instr_view (Instruction.VectorArg (VectorArgOp.V128Const value)))) }
-        ensures too_large { IsErrOf result EncodeError.TooLarge → ⊥ }
+        ensures { IsMade (self ++ instr_bytes (instr_view (Instruction.VectorArg (VectorArgOp.V128Const value)))) (Unit {0}) result }
     {
         self.with_instruction(&Instruction::VectorArg(VectorArgOp::V128Const(value)))
     }
 
     /// `i32.add` at the end; refused, the expression is dropped.
     pub fn with_i32_add(self) -> Result<Self, EncodeError>
-        ensures ok { IfOk result (λ expression. expression ≡ self ++ instr_bytes (instr_view (Instruction.Numeric NumericOp.I32Add))) }
-        ensures too_large { IsErrOf result EncodeError.TooLarge → ⊥ }
+        ensures { IsMade (self ++ instr_bytes (instr_view (Instruction.Numeric NumericOp.I32Add))) (Unit {0}) result }
     {
         self.with_instruction(&Instruction::Numeric(NumericOp::I32Add))
     }
 
     /// `i32.sub` at the end; refused, the expression is dropped.
     pub fn with_i32_sub(self) -> Result<Self, EncodeError>
-        ensures ok { IfOk result (λ expression. expression ≡ self ++ instr_bytes (instr_view (Instruction.Numeric NumericOp.I32Sub))) }
-        ensures too_large { IsErrOf result EncodeError.TooLarge → ⊥ }
+        ensures { IsMade (self ++ instr_bytes (instr_view (Instruction.Numeric NumericOp.I32Sub))) (Unit {0}) result }
     {
         self.with_instruction(&Instruction::Numeric(NumericOp::I32Sub))
     }
 
     /// `i32.mul` at the end; refused, the expression is dropped.
     pub fn with_i32_mul(self) -> Result<Self, EncodeError>
-        ensures ok { IfOk result (λ expression. expression ≡ self ++ instr_bytes (instr_view (Instruction.Numeric NumericOp.I32Mul))) }
-        ensures too_large { IsErrOf result EncodeError.TooLarge → ⊥ }
+        ensures { IsMade (self ++ instr_bytes (instr_view (Instruction.Numeric NumericOp.I32Mul))) (Unit {0}) result }
     {
         self.with_instruction(&Instruction::Numeric(NumericOp::I32Mul))
     }
 
     /// `i64.add` at the end; refused, the expression is dropped.
     pub fn with_i64_add(self) -> Result<Self, EncodeError>
-        ensures ok { IfOk result (λ expression. expression ≡ self ++ instr_bytes (instr_view (Instruction.Numeric NumericOp.I64Add))) }
-        ensures too_large { IsErrOf result EncodeError.TooLarge → ⊥ }
+        ensures { IsMade (self ++ instr_bytes (instr_view (Instruction.Numeric NumericOp.I64Add))) (Unit {0}) result }
     {
         self.with_instruction(&Instruction::Numeric(NumericOp::I64Add))
     }
 
     /// `i64.sub` at the end; refused, the expression is dropped.
     pub fn with_i64_sub(self) -> Result<Self, EncodeError>
-        ensures ok { IfOk result (λ expression. expression ≡ self ++ instr_bytes (instr_view (Instruction.Numeric NumericOp.I64Sub))) }
-        ensures too_large { IsErrOf result EncodeError.TooLarge → ⊥ }
+        ensures { IsMade (self ++ instr_bytes (instr_view (Instruction.Numeric NumericOp.I64Sub))) (Unit {0}) result }
     {
         self.with_instruction(&Instruction::Numeric(NumericOp::I64Sub))
     }
 
     /// `i64.mul` at the end; refused, the expression is dropped.
     pub fn with_i64_mul(self) -> Result<Self, EncodeError>
-        ensures ok { IfOk result (λ expression. expression ≡ self ++ instr_bytes (instr_view (Instruction.Numeric NumericOp.I64Mul))) }
-        ensures too_large { IsErrOf result EncodeError.TooLarge → ⊥ }
+        ensures { IsMade (self ++ instr_bytes (instr_view (Instruction.Numeric NumericOp.I64Mul))) (Unit {0}) result }
     {
         self.with_instruction(&Instruction::Numeric(NumericOp::I64Mul))
     }

@@ -6,14 +6,14 @@ ghost use Rattle.wasm_encoder_base.specs.Views.{val_view};
 ghost use Rattle.wasm_encoder_instr.specs.Instruction.{instr_view, can_encode_instr, fits_instr};
 ghost use Rattle.wasm_encoder_code.specs.Body.{locals_bytes};
 ghost use Rattle.wasm_encoder_code.specs.Locals.{pair_bytes, LocalsFit};
-ghost use Rattle.wasm_encoder_code.specs.Sink.{bytes_row};
+ghost use Rattle.wasm_encoder_code.specs.Sink.{bytes_in, bytes_row};
 ghost use Rattle.wasm_encoder_code.specs.contracts.function.Function.{the_row};
 
 use crate::locals::joined;
 use crate::sink::InstructionSink;
 use std::alloc::{AllocError, Global};
 use std::marker::Model;
-use wasm_encoder_base::{Added, Encode, EncodeError, ValType};
+use wasm_encoder_base::{Added, Encode, EncodeError, ValType, encode_sized};
 use wasm_encoder_instr::Instruction;
 
 /// The body of a function: its locals and its instructions. Contracts see the bytes.
@@ -64,13 +64,7 @@ impl Encode for Function {
     ghost spelling = { sized };
 
     fn encode(&self, sink: &mut Vec<u8>) -> Result<(), EncodeError> {
-        let start = sink.len();
-        self.bytes.len().encode(sink)?;
-        if sink.extend_from_slice(self.bytes.as_slice()).is_err() {
-            sink.truncate(start);
-            return Err(EncodeError::Memory);
-        }
-        Ok(())
+        encode_sized(self.bytes.as_slice(), sink)
     }
 }
 
@@ -104,7 +98,7 @@ impl Function {
     /// What takes instructions.
     pub fn instructions(&mut self) -> InstructionSink<'_>
         ensures* lends { sem 𝓛 (Lends the_row bytes_row self.entry result.sink (λ w. w.items)) }
-        ensures value { result.sink.now.items ≡ self.old }
+        ensures value { bytes_in result ≡ self.old }
     {
         InstructionSink::new(&mut self.bytes)
     }

@@ -1,7 +1,7 @@
 //! Laws of the bytes of bodies and expressions: functions without parameters whose contracts are the laws.
 //! They do nothing.
 
-ghost use Rattle.wasm_encoder_code.specs.Laws.{OneBody, OneExpression, LocalsJoined, RunsJoined, PlaceBegins};
+ghost use Rattle.wasm_encoder_code.specs.Laws.{OneBody, OneExpression, LocalsJoined, PairsAreBody, RunsJoined, PlaceBegins};
 
 /// A body has one byte string, and one byte string is that of at most one body.
 pub fn one_body()
@@ -23,4 +23,10 @@ pub fn places()
 pub fn runs()
     ensures locals_joined { LocalsJoined }
     ensures runs_joined { RunsJoined }
+{}
+
+/// What `Function::new` writes for pairs, and the bytes of an expression behind it, are the body of the locals that these
+/// pairs stand for, where the pairs are such runs.
+pub fn bodies()
+    ensures { PairsAreBody }
 {}

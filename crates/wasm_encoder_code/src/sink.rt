@@ -1,8 +1,8 @@
-ghost use Rattle.std.specs.Prelude.{◌≡◌, ◌++◌, IfOk, OnOk, OnErr, IsErrOf, List, ℕ};
+ghost use Rattle.std.specs.Prelude.{◌≡◌};
 ghost use Rattle.std.specs.Borrow.{sem};
 ghost use Rattle.wasm_encoder_base.specs.Instr.{instr_bytes};
 ghost use Rattle.wasm_encoder_instr.specs.Instruction.{instr_view, can_encode_instr, fits_instr};
-ghost use Rattle.wasm_encoder_code.specs.Sink.{RestsUnchanged};
+ghost use Rattle.wasm_encoder_code.specs.Sink.{Appends, RestsUnchanged, bytes_in};
 
 use wasm_encoder_base::{Encode, EncodeError, HeapType, Ieee32, Ieee64};
 use wasm_encoder_instr::{BlockType, GcOp, Instruction, NumericOp, VectorArgOp};
@@ -15,7 +15,7 @@ pub struct InstructionSink<'a> {
 
 impl<'a> InstructionSink<'a> {
     pub fn new(sink: &'a mut Vec<u8>) -> InstructionSink<'a>
-        ensures value { result.sink.now ≡ sink.old }
+        ensures value { bytes_in result ≡ sink.old.items }
         ensures same_reference { result.sink.ghost_name ≡ sink.entry.ghost_name }
     {
         InstructionSink { sink }
@@ -25,10 +25,7 @@ impl<'a> InstructionSink<'a> {
     pub fn instruction(self, instruction: &Instruction) -> Result<Self, EncodeError>
         requires { can_encode_instr instruction.now }
         ensures* refused { sem 𝓛 (RestsUnchanged self.entry result) }
-        ensures ok { IfOk result (λ s. s.sink.now.items ≡ self.entry.sink.now.items ++ instr_bytes (instr_view instruction.now)) }
-        ensures same_reference { IfOk result (λ s. s.sink.ghost_name ≡ self.entry.sink.ghost_name) }
-        ensures fits { OnOk result (fits_instr instruction.now) }
-        ensures too_large { IsErrOf result EncodeError.TooLarge → fits_instr instruction.now → ⊥ }
+        ensures appended { Appends (instr_bytes (instr_view instruction.now)) (fits_instr instruction.now) self.entry result }
     {
         let InstructionSink { sink } = self;
         instruction.encode(sink)?;
@@ -38,9 +35,7 @@ impl<'a> InstructionSink<'a> {
     /// `unreachable`
     pub fn unreachable(self) -> Result<Self, EncodeError>
         ensures* refused { sem 𝓛 (RestsUnchanged self.entry result) }
-        ensures ok { IfOk result (λ s. s.sink.now.items ≡ self.entry.sink.now.items ++ instr_bytes (instr_view (Instruction.Unreachable))) }
-        ensures same_reference { IfOk result (λ s. s.sink.ghost_name ≡ self.entry.sink.ghost_name) }
-        ensures too_large { IsErrOf result EncodeError.TooLarge → ⊥ }
+        ensures appended { Appends (instr_bytes (instr_view (Instruction.Unreachable))) (Unit {0}) self.entry result }
     {
         self.instruction(&Instruction::Unreachable)
     }
@@ -48,9 +43,7 @@ impl<'a> InstructionSink<'a> {
     /// `nop`
     pub fn nop(self) -> Result<Self, EncodeError>
         ensures* refused { sem 𝓛 (RestsUnchanged self.entry result) }
-        ensures ok { IfOk result (λ s. s.sink.now.items ≡ self.entry.sink.now.items ++ instr_bytes (instr_view (Instruction.Nop))) }
-        ensures same_reference { IfOk result (λ s. s.sink.ghost_name ≡ self.entry.sink.ghost_name) }
-        ensures too_large { IsErrOf result EncodeError.TooLarge → ⊥ }
+        ensures appended { Appends (instr_bytes (instr_view (Instruction.Nop))) (Unit {0}) self.entry result }
     {
         self.instruction(&Instruction::Nop)
     }
@@ -58,9 +51,7 @@ impl<'a> InstructionSink<'a> {
     /// `block`
     pub fn block(self, block_type: BlockType) -> Result<Self, EncodeError>
         ensures* refused { sem 𝓛 (RestsUnchanged self.entry result) }
-        ensures ok { IfOk result (λ s. s.sink.now.items ≡ self.entry.sink.now.items ++ instr_bytes (instr_view (Instruction.Block block_type))) }
-        ensures same_reference { IfOk result (λ s. s.sink.ghost_name ≡ self.entry.sink.ghost_name) }
-        ensures too_large { IsErrOf result EncodeError.TooLarge → ⊥ }
+        ensures appended { Appends (instr_bytes (instr_view (Instruction.Block block_type))) (Unit {0}) self.entry result }
     {
         self.instruction(&Instruction::Block(block_type))
     }
@@ -68,9 +59,7 @@ impl<'a> InstructionSink<'a> {
     /// `loop`
     pub fn loop_(self, block_type: BlockType) -> Result<Self, EncodeError>
         ensures* refused { sem 𝓛 (RestsUnchanged self.entry result) }
-        ensures ok { IfOk result (λ s. s.sink.now.items ≡ self.entry.sink.now.items ++ instr_bytes (instr_view (Instruction.Loop block_type))) }
-        ensures same_reference { IfOk result (λ s. s.sink.ghost_name ≡ self.entry.sink.ghost_name) }
-        ensures too_large { IsErrOf result EncodeError.TooLarge → ⊥ }
+        ensures appended { Appends (instr_bytes (instr_view (Instruction.Loop block_type))) (Unit {0}) self.entry result }
     {
         self.instruction(&Instruction::Loop(block_type))
     }
@@ -78,9 +67,7 @@ impl<'a> InstructionSink<'a> {
     /// `if`
     pub fn if_(self, block_type: BlockType) -> Result<Self, EncodeError>
         ensures* refused { sem 𝓛 (RestsUnchanged self.entry result) }
-        ensures ok { IfOk result (λ s. s.sink.now.items ≡ self.entry.sink.now.items ++ instr_bytes (instr_view (Instruction.If block_type))) }
-        ensures same_reference { IfOk result (λ s. s.sink.ghost_name ≡ self.entry.sink.ghost_name) }
-        ensures too_large { IsErrOf result EncodeError.TooLarge → ⊥ }
+        ensures appended { Appends (instr_bytes (instr_view (Instruction.If block_type))) (Unit {0}) self.entry result }
     {
         self.instruction(&Instruction::If(block_type))
     }
@@ -88,9 +75,7 @@ impl<'a> InstructionSink<'a> {
     /// `else`
     pub fn else_(self) -> Result<Self, EncodeError>
         ensures* refused { sem 𝓛 (RestsUnchanged self.entry result) }
-        ensures ok { IfOk result (λ s. s.sink.now.items ≡ self.entry.sink.now.items ++ instr_bytes (instr_view (Instruction.Else))) }
-        ensures same_reference { IfOk result (λ s. s.sink.ghost_name ≡ self.entry.sink.ghost_name) }
-        ensures too_large { IsErrOf result EncodeError.TooLarge → ⊥ }
+        ensures appended { Appends (instr_bytes (instr_view (Instruction.Else))) (Unit {0}) self.entry result }
     {
         self.instruction(&Instruction::Else)
     }
@@ -98,9 +83,7 @@ impl<'a> InstructionSink<'a> {
     /// `end`
     pub fn end(self) -> Result<Self, EncodeError>
         ensures* refused { sem 𝓛 (RestsUnchanged self.entry result) }
-        ensures ok { IfOk result (λ s. s.sink.now.items ≡ self.entry.sink.now.items ++ instr_bytes (instr_view (Instruction.End))) }
-        ensures same_reference { IfOk result (λ s. s.sink.ghost_name ≡ self.entry.sink.ghost_name) }
-        ensures too_large { IsErrOf result EncodeError.TooLarge → ⊥ }
+        ensures appended { Appends (instr_bytes (instr_view (Instruction.End))) (Unit {0}) self.entry result }
     {
         self.instruction(&Instruction::End)
     }
@@ -108,9 +91,7 @@ impl<'a> InstructionSink<'a> {
     /// `br`
     pub fn br(self, label: u32) -> Result<Self, EncodeError>
         ensures* refused { sem 𝓛 (RestsUnchanged self.entry result) }
-        ensures ok { IfOk result (λ s. s.sink.now.items ≡ self.entry.sink.now.items ++ instr_bytes (instr_view (Instruction.Br label))) }
-        ensures same_reference { IfOk result (λ s. s.sink.ghost_name ≡ self.entry.sink.ghost_name) }
-        ensures too_large { IsErrOf result EncodeError.TooLarge → ⊥ }
+        ensures appended { Appends (instr_bytes (instr_view (Instruction.Br label))) (Unit {0}) self.entry result }
     {
         self.instruction(&Instruction::Br(label))
     }
@@ -118,9 +99,7 @@ impl<'a> InstructionSink<'a> {
     /// `br_if`
     pub fn br_if(self, label: u32) -> Result<Self, EncodeError>
         ensures* refused { sem 𝓛 (RestsUnchanged self.entry result) }
-        ensures ok { IfOk result (λ s. s.sink.now.items ≡ self.entry.sink.now.items ++ instr_bytes (instr_view (Instruction.BrIf label))) }
-        ensures same_reference { IfOk result (λ s. s.sink.ghost_name ≡ self.entry.sink.ghost_name) }
-        ensures too_large { IsErrOf result EncodeError.TooLarge → ⊥ }
+        ensures appended { Appends (instr_bytes (instr_view (Instruction.BrIf label))) (Unit {0}) self.entry result }
     {
         self.instruction(&Instruction::BrIf(label))
     }
@@ -128,9 +107,7 @@ impl<'a> InstructionSink<'a> {
     /// `return`
     pub fn return_(self) -> Result<Self, EncodeError>
         ensures* refused { sem 𝓛 (RestsUnchanged self.entry result) }
-        ensures ok { IfOk result (λ s. s.sink.now.items ≡ self.entry.sink.now.items ++ instr_bytes (instr_view (Instruction.Return))) }
-        ensures same_reference { IfOk result (λ s. s.sink.ghost_name ≡ self.entry.sink.ghost_name) }
-        ensures too_large { IsErrOf result EncodeError.TooLarge → ⊥ }
+        ensures appended { Appends (instr_bytes (instr_view (Instruction.Return))) (Unit {0}) self.entry result }
     {
         self.instruction(&Instruction::Return)
     }
@@ -138,9 +115,7 @@ impl<'a> InstructionSink<'a> {
     /// `call`
     pub fn call(self, function: u32) -> Result<Self, EncodeError>
         ensures* refused { sem 𝓛 (RestsUnchanged self.entry result) }
-        ensures ok { IfOk result (λ s. s.sink.now.items ≡ self.entry.sink.now.items ++ instr_bytes (instr_view (Instruction.Call function))) }
-        ensures same_reference { IfOk result (λ s. s.sink.ghost_name ≡ self.entry.sink.ghost_name) }
-        ensures too_large { IsErrOf result EncodeError.TooLarge → ⊥ }
+        ensures appended { Appends (instr_bytes (instr_view (Instruction.Call function))) (Unit {0}) self.entry result }
     {
         self.instruction(&Instruction::Call(function))
     }
@@ -148,9 +123,7 @@ impl<'a> InstructionSink<'a> {
     /// `drop`
     pub fn drop(self) -> Result<Self, EncodeError>
         ensures* refused { sem 𝓛 (RestsUnchanged self.entry result) }
-        ensures ok { IfOk result (λ s. s.sink.now.items ≡ self.entry.sink.now.items ++ instr_bytes (instr_view (Instruction.Drop))) }
-        ensures same_reference { IfOk result (λ s. s.sink.ghost_name ≡ self.entry.sink.ghost_name) }
-        ensures too_large { IsErrOf result EncodeError.TooLarge → ⊥ }
+        ensures appended { Appends (instr_bytes (instr_view (Instruction.Drop))) (Unit {0}) self.entry result }
     {
         self.instruction(&Instruction::Drop)
     }
@@ -158,9 +131,7 @@ impl<'a> InstructionSink<'a> {
     /// `select`
     pub fn select(self) -> Result<Self, EncodeError>
         ensures* refused { sem 𝓛 (RestsUnchanged self.entry result) }
-        ensures ok { IfOk result (λ s. s.sink.now.items ≡ self.entry.sink.now.items ++ instr_bytes (instr_view (Instruction.Select))) }
-        ensures same_reference { IfOk result (λ s. s.sink.ghost_name ≡ self.entry.sink.ghost_name) }
-        ensures too_large { IsErrOf result EncodeError.TooLarge → ⊥ }
+        ensures appended { Appends (instr_bytes (instr_view (Instruction.Select))) (Unit {0}) self.entry result }
     {
         self.instruction(&Instruction::Select)
     }
@@ -168,9 +139,7 @@ impl<'a> InstructionSink<'a> {
     /// `local.get`
     pub fn local_get(self, local: u32) -> Result<Self, EncodeError>
         ensures* refused { sem 𝓛 (RestsUnchanged self.entry result) }
-        ensures ok { IfOk result (λ s. s.sink.now.items ≡ self.entry.sink.now.items ++ instr_bytes (instr_view (Instruction.LocalGet local))) }
-        ensures same_reference { IfOk result (λ s. s.sink.ghost_name ≡ self.entry.sink.ghost_name) }
-        ensures too_large { IsErrOf result EncodeError.TooLarge → ⊥ }
+        ensures appended { Appends (instr_bytes (instr_view (Instruction.LocalGet local))) (Unit {0}) self.entry result }
     {
         self.instruction(&Instruction::LocalGet(local))
     }
@@ -178,9 +147,7 @@ impl<'a> InstructionSink<'a> {
     /// `local.set`
     pub fn local_set(self, local: u32) -> Result<Self, EncodeError>
         ensures* refused { sem 𝓛 (RestsUnchanged self.entry result) }
-        ensures ok { IfOk result (λ s. s.sink.now.items ≡ self.entry.sink.now.items ++ instr_bytes (instr_view (Instruction.LocalSet local))) }
-        ensures same_reference { IfOk result (λ s. s.sink.ghost_name ≡ self.entry.sink.ghost_name) }
-        ensures too_large { IsErrOf result EncodeError.TooLarge → ⊥ }
+        ensures appended { Appends (instr_bytes (instr_view (Instruction.LocalSet local))) (Unit {0}) self.entry result }
     {
         self.instruction(&Instruction::LocalSet(local))
     }
@@ -188,9 +155,7 @@ impl<'a> InstructionSink<'a> {
     /// `local.tee`
     pub fn local_tee(self, local: u32) -> Result<Self, EncodeError>
         ensures* refused { sem 𝓛 (RestsUnchanged self.entry result) }
-        ensures ok { IfOk result (λ s. s.sink.now.items ≡ self.entry.sink.now.items ++ instr_bytes (instr_view (Instruction.LocalTee local))) }
-        ensures same_reference { IfOk result (λ s. s.sink.ghost_name ≡ self.entry.sink.ghost_name) }
-        ensures too_large { IsErrOf result EncodeError.TooLarge → ⊥ }
+        ensures appended { Appends (instr_bytes (instr_view (Instruction.LocalTee local))) (Unit {0}) self.entry result }
     {
         self.instruction(&Instruction::LocalTee(local))
     }
@@ -198,9 +163,7 @@ impl<'a> InstructionSink<'a> {
     /// `global.get`
     pub fn global_get(self, global: u32) -> Result<Self, EncodeError>
         ensures* refused { sem 𝓛 (RestsUnchanged self.entry result) }
-        ensures ok { IfOk result (λ s. s.sink.now.items ≡ self.entry.sink.now.items ++ instr_bytes (instr_view (Instruction.GlobalGet global))) }
-        ensures same_reference { IfOk result (λ s. s.sink.ghost_name ≡ self.entry.sink.ghost_name) }
-        ensures too_large { IsErrOf result EncodeError.TooLarge → ⊥ }
+        ensures appended { Appends (instr_bytes (instr_view (Instruction.GlobalGet global))) (Unit {0}) self.entry result }
     {
         self.instruction(&Instruction::GlobalGet(global))
     }
@@ -208,9 +171,7 @@ impl<'a> InstructionSink<'a> {
     /// `global.set`
     pub fn global_set(self, global: u32) -> Result<Self, EncodeError>
         ensures* refused { sem 𝓛 (RestsUnchanged self.entry result) }
-        ensures ok { IfOk result (λ s. s.sink.now.items ≡ self.entry.sink.now.items ++ instr_bytes (instr_view (Instruction.GlobalSet global))) }
-        ensures same_reference { IfOk result (λ s. s.sink.ghost_name ≡ self.entry.sink.ghost_name) }
-        ensures too_large { IsErrOf result EncodeError.TooLarge → ⊥ }
+        ensures appended { Appends (instr_bytes (instr_view (Instruction.GlobalSet global))) (Unit {0}) self.entry result }
     {
         self.instruction(&Instruction::GlobalSet(global))
     }
@@ -218,9 +179,7 @@ impl<'a> InstructionSink<'a> {
     /// `ref.null`
     pub fn ref_null(self, heap_type: HeapType) -> Result<Self, EncodeError>
         ensures* refused { sem 𝓛 (RestsUnchanged self.entry result) }
-        ensures ok { IfOk result (λ s. s.sink.now.items ≡ self.entry.sink.now.items ++ instr_bytes (instr_view (Instruction.Gc (GcOp.RefNull heap_type)))) }
-        ensures same_reference { IfOk result (λ s. s.sink.ghost_name ≡ self.entry.sink.ghost_name) }
-        ensures too_large { IsErrOf result EncodeError.TooLarge → ⊥ }
+        ensures appended { Appends (instr_bytes (instr_view (Instruction.Gc (GcOp.RefNull heap_type)))) (Unit {0}) self.entry result }
     {
         self.instruction(&Instruction::Gc(GcOp::RefNull(heap_type)))
     }
@@ -228,9 +187,7 @@ impl<'a> InstructionSink<'a> {
     /// `ref.func`
     pub fn ref_func(self, function: u32) -> Result<Self, EncodeError>
         ensures* refused { sem 𝓛 (RestsUnchanged self.entry result) }
-        ensures ok { IfOk result (λ s. s.sink.now.items ≡ self.entry.sink.now.items ++ instr_bytes (instr_view (Instruction.Gc (GcOp.RefFunc function)))) }
-        ensures same_reference { IfOk result (λ s. s.sink.ghost_name ≡ self.entry.sink.ghost_name) }
-        ensures too_large { IsErrOf result EncodeError.TooLarge → ⊥ }
+        ensures appended { Appends (instr_bytes (instr_view (Instruction.Gc (GcOp.RefFunc function)))) (Unit {0}) self.entry result }
     {
         self.instruction(&Instruction::Gc(GcOp::RefFunc(function)))
     }
@@ -238,9 +195,7 @@ impl<'a> InstructionSink<'a> {
     /// `i32.const`
     pub fn i32_const(self, value: i32) -> Result<Self, EncodeError>
         ensures* refused { sem 𝓛 (RestsUnchanged self.entry result) }
-        ensures ok { IfOk result (λ s. s.sink.now.items ≡ self.entry.sink.now.items ++ instr_bytes (instr_view (Instruction.I32Const value))) }
-        ensures same_reference { IfOk result (λ s. s.sink.ghost_name ≡ self.entry.sink.ghost_name) }
-        ensures too_large { IsErrOf result EncodeError.TooLarge → ⊥ }
+        ensures appended { Appends (instr_bytes (instr_view (Instruction.I32Const value))) (Unit {0}) self.entry result }
     {
         self.instruction(&Instruction::I32Const(value))
     }
@@ -248,9 +203,7 @@ impl<'a> InstructionSink<'a> {
     /// `i64.const`
     pub fn i64_const(self, value: i64) -> Result<Self, EncodeError>
         ensures* refused { sem 𝓛 (RestsUnchanged self.entry result) }
-        ensures ok { IfOk result (λ s. s.sink.now.items ≡ self.entry.sink.now.items ++ instr_bytes (instr_view (Instruction.I64Const value))) }
-        ensures same_reference { IfOk result (λ s. s.sink.ghost_name ≡ self.entry.sink.ghost_name) }
-        ensures too_large { IsErrOf result EncodeError.TooLarge → ⊥ }
+        ensures appended { Appends (instr_bytes (instr_view (Instruction.I64Const value))) (Unit {0}) self.entry result }
     {
         self.instruction(&Instruction::I64Const(value))
     }
@@ -258,9 +211,7 @@ impl<'a> InstructionSink<'a> {
     /// `f32.const`
     pub fn f32_const(self, value: Ieee32) -> Result<Self, EncodeError>
         ensures* refused { sem 𝓛 (RestsUnchanged self.entry result) }
-        ensures ok { IfOk result (λ s. s.sink.now.items ≡ self.entry.sink.now.items ++ instr_bytes (instr_view (Instruction.F32Const value))) }
-        ensures same_reference { IfOk result (λ s. s.sink.ghost_name ≡ self.entry.sink.ghost_name) }
-        ensures too_large { IsErrOf result EncodeError.TooLarge → ⊥ }
+        ensures appended { Appends (instr_bytes (instr_view (Instruction.F32Const value))) (Unit {0}) self.entry result }
     {
         self.instruction(&Instruction::F32Const(value))
     }
@@ -268,9 +219,7 @@ impl<'a> InstructionSink<'a> {
     /// `f64.const`
     pub fn f64_const(self, value: Ieee64) -> Result<Self, EncodeError>
         ensures* refused { sem 𝓛 (RestsUnchanged self.entry result) }
-        ensures ok { IfOk result (λ s. s.sink.now.items ≡ self.entry.sink.now.items ++ instr_bytes (instr_view (Instruction.F64Const value))) }
-        ensures same_reference { IfOk result (λ s. s.sink.ghost_name ≡ self.entry.sink.ghost_name) }
-        ensures too_large { IsErrOf result EncodeError.TooLarge → ⊥ }
+        ensures appended { Appends (instr_bytes (instr_view (Instruction.F64Const value))) (Unit {0}) self.entry result }
     {
         self.instruction(&Instruction::F64Const(value))
     }
@@ -278,9 +227,7 @@ impl<'a> InstructionSink<'a> {
     /// `v128.const`
     pub fn v128_const(self, value: i128) -> Result<Self, EncodeError>
         ensures* refused { sem 𝓛 (RestsUnchanged self.entry result) }
-        ensures ok { IfOk result (λ s. s.sink.now.items ≡ self.entry.sink.now.items ++ instr_bytes (instr_view (Instruction.VectorArg (VectorArgOp.V128Const value)))) }
-        ensures same_reference { IfOk result (λ s. s.sink.ghost_name ≡ self.entry.sink.ghost_name) }
-        ensures too_large { IsErrOf result EncodeError.TooLarge → ⊥ }
+        ensures appended { Appends (instr_bytes (instr_view (Instruction.VectorArg (VectorArgOp.V128Const value)))) (Unit {0}) self.entry result }
     {
         self.instruction(&Instruction::VectorArg(VectorArgOp::V128Const(value)))
     }
@@ -288,9 +235,7 @@ impl<'a> InstructionSink<'a> {
     /// `i32.add`
     pub fn i32_add(self) -> Result<Self, EncodeError>
         ensures* refused { sem 𝓛 (RestsUnchanged self.entry result) }
-        ensures ok { IfOk result (λ s. s.sink.now.items ≡ self.entry.sink.now.items ++ instr_bytes (instr_view (Instruction.Numeric NumericOp.I32Add))) }
-        ensures same_reference { IfOk result (λ s. s.sink.ghost_name ≡ self.entry.sink.ghost_name) }
-        ensures too_large { IsErrOf result EncodeError.TooLarge → ⊥ }
+        ensures appended { Appends (instr_bytes (instr_view (Instruction.Numeric NumericOp.I32Add))) (Unit {0}) self.entry result }
     {
         self.instruction(&Instruction::Numeric(NumericOp::I32Add))
     }
@@ -298,9 +243,7 @@ impl<'a> InstructionSink<'a> {
     /// `i32.sub`
     pub fn i32_sub(self) -> Result<Self, EncodeError>
         ensures* refused { sem 𝓛 (RestsUnchanged self.entry result) }
-        ensures ok { IfOk result (λ s. s.sink.now.items ≡ self.entry.sink.now.items ++ instr_bytes (instr_view (Instruction.Numeric NumericOp.I32Sub))) }
-        ensures same_reference { IfOk result (λ s. s.sink.ghost_name ≡ self.entry.sink.ghost_name) }
-        ensures too_large { IsErrOf result EncodeError.TooLarge → ⊥ }
+        ensures appended { Appends (instr_bytes (instr_view (Instruction.Numeric NumericOp.I32Sub))) (Unit {0}) self.entry result }
     {
         self.instruction(&Instruction::Numeric(NumericOp::I32Sub))
     }
@@ -308,9 +251,7 @@ impl<'a> InstructionSink<'a> {
     /// `i32.mul`
     pub fn i32_mul(self) -> Result<Self, EncodeError>
         ensures* refused { sem 𝓛 (RestsUnchanged self.entry result) }
-        ensures ok { IfOk result (λ s. s.sink.now.items ≡ self.entry.sink.now.items ++ instr_bytes (instr_view (Instruction.Numeric NumericOp.I32Mul))) }
-        ensures same_reference { IfOk result (λ s. s.sink.ghost_name ≡ self.entry.sink.ghost_name) }
-        ensures too_large { IsErrOf result EncodeError.TooLarge → ⊥ }
+        ensures appended { Appends (instr_bytes (instr_view (Instruction.Numeric NumericOp.I32Mul))) (Unit {0}) self.entry result }
     {
         self.instruction(&Instruction::Numeric(NumericOp::I32Mul))
     }
@@ -318,9 +259,7 @@ impl<'a> InstructionSink<'a> {
     /// `i64.add`
     pub fn i64_add(self) -> Result<Self, EncodeError>
         ensures* refused { sem 𝓛 (RestsUnchanged self.entry result) }
-        ensures ok { IfOk result (λ s. s.sink.now.items ≡ self.entry.sink.now.items ++ instr_bytes (instr_view (Instruction.Numeric NumericOp.I64Add))) }
-        ensures same_reference { IfOk result (λ s. s.sink.ghost_name ≡ self.entry.sink.ghost_name) }
-        ensures too_large { IsErrOf result EncodeError.TooLarge → ⊥ }
+        ensures appended { Appends (instr_bytes (instr_view (Instruction.Numeric NumericOp.I64Add))) (Unit {0}) self.entry result }
     {
         self.instruction(&Instruction::Numeric(NumericOp::I64Add))
     }
@@ -328,9 +267,7 @@ impl<'a> InstructionSink<'a> {
     /// `i64.sub`
     pub fn i64_sub(self) -> Result<Self, EncodeError>
         ensures* refused { sem 𝓛 (RestsUnchanged self.entry result) }
-        ensures ok { IfOk result (λ s. s.sink.now.items ≡ self.entry.sink.now.items ++ instr_bytes (instr_view (Instruction.Numeric NumericOp.I64Sub))) }
-        ensures same_reference { IfOk result (λ s. s.sink.ghost_name ≡ self.entry.sink.ghost_name) }
-        ensures too_large { IsErrOf result EncodeError.TooLarge → ⊥ }
+        ensures appended { Appends (instr_bytes (instr_view (Instruction.Numeric NumericOp.I64Sub))) (Unit {0}) self.entry result }
     {
         self.instruction(&Instruction::Numeric(NumericOp::I64Sub))
     }
@@ -338,9 +275,7 @@ impl<'a> InstructionSink<'a> {
     /// `i64.mul`
     pub fn i64_mul(self) -> Result<Self, EncodeError>
         ensures* refused { sem 𝓛 (RestsUnchanged self.entry result) }
-        ensures ok { IfOk result (λ s. s.sink.now.items ≡ self.entry.sink.now.items ++ instr_bytes (instr_view (Instruction.Numeric NumericOp.I64Mul))) }
-        ensures same_reference { IfOk result (λ s. s.sink.ghost_name ≡ self.entry.sink.ghost_name) }
-        ensures too_large { IsErrOf result EncodeError.TooLarge → ⊥ }
+        ensures appended { Appends (instr_bytes (instr_view (Instruction.Numeric NumericOp.I64Mul))) (Unit {0}) self.entry result }
     {
         self.instruction(&Instruction::Numeric(NumericOp::I64Mul))
     }
