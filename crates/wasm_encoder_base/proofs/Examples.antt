@@ -2,7 +2,11 @@
 use Rattle.std.proofs.Common.{refl, arith}
 use Rattle.wasm_encoder_bytes.specs.Leb.{uleb, leb, digits}
 use Rattle.wasm_encoder_base.specs.Table.{table, entry_at}
-use Rattle.wasm_encoder_base.specs.Examples.{CallIndirect, MemoryInit, BrTable, Load, BrOnCast, Try, Float}
+use Rattle.wasm_encoder_base.specs.Examples.{FunctionType, CallIndirect, MemoryInit, BrTable, Load, BrOnCast, Try, Float}
+
+pub function_type : FunctionType
+unfolding uleb leb digits
+function_type = refl
 
 pub call_indirect : CallIndirect
 unfolding entry_at table uleb leb digits

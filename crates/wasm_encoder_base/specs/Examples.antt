@@ -1,7 +1,11 @@
--- Instructions and their bytes, by hand.
+-- A type and instructions, and their bytes, by hand.
 use Rattle.std.specs.Prelude.{ℕ, ◌≡◌, List, [], ◌∷◌, true, false}
-use Rattle.wasm_encoder_base.specs.Types.{Abstract, AnyHeap, EqHeap}
+use Rattle.wasm_encoder_base.specs.Types.{Abstract, AnyHeap, EqHeap, I32Type, I64Type, F32Type, func_bytes}
 use Rattle.wasm_encoder_base.specs.Instr.{Instr, NoResult, CatchTag, CatchAllRef, Indirect, Init, LabelTable, TryTable, Cast, F32, Memory, IsInstr, instr_bytes}
+
+-- (func (param i32 i64) (result f32))
+abbrev pub FunctionType : Type 0
+FunctionType = func_bytes (record { params = I32Type ∷ I64Type ∷ []; results = F32Type ∷ [] }) ≡ 0x60 ∷ 0x02 ∷ 0x7F ∷ 0x7E ∷ 0x01 ∷ 0x7D ∷ []
 
 -- the instruction has these bytes
 pub record IsSpelled (i : Instr) (bytes : List ℕ) : Type 0 where

@@ -1,7 +1,7 @@
 -- The laws that the crate's law functions prove.
 use Rattle.std.specs.Prelude.{◌≡◌, length, true, filter, map, AllPairs}
 use Rattle.std.specs.List.{AllByRecursion}
-use Rattle.wasm_encoder_base.specs.Types.{heap_bytes, ref_bytes, val_bytes, field_bytes, func_bytes, sub_bytes}
+use Rattle.wasm_encoder_base.specs.Types.{heap_bytes, ref_bytes, val_bytes, field_bytes, func_bytes, composite_bytes, sub_bytes}
 use Rattle.wasm_encoder_base.specs.Instr.{IsInstr, instr_bytes, expr_bytes}
 use Rattle.wasm_encoder_base.specs.Balanced.{IsBalanced}
 use Rattle.wasm_encoder_base.specs.Table.{table}
@@ -24,6 +24,9 @@ OneFieldType = Unique Any field_bytes
 
 abbrev pub OneFuncType : Type 0
 OneFuncType = Unique Any func_bytes
+
+abbrev pub OneCompositeType : Type 0
+OneCompositeType = Unique Any composite_bytes
 
 abbrev pub OneSubType : Type 0
 OneSubType = Unique Any sub_bytes

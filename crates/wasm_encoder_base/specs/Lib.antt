@@ -13,10 +13,10 @@ pub use Rattle.wasm_encoder_bytes.specs.Adds
 pub use Rattle.wasm_encoder_bytes.specs.Bytes
 pub use Rattle.wasm_encoder_bytes.specs.Decodes
 pub use Rattle.wasm_encoder_bytes.specs.Encodes
+pub use Rattle.wasm_encoder_bytes.specs.Front
 pub use Rattle.wasm_encoder_bytes.specs.Ieee
 pub use Rattle.wasm_encoder_bytes.specs.Leb
 pub use Rattle.wasm_encoder_bytes.specs.Lists
-pub use Rattle.wasm_encoder_bytes.specs.Reading
 pub use Rattle.wasm_encoder_bytes.specs.SpellingLaws
 pub use Rattle.wasm_encoder_bytes.specs.Unique
 pub use Rattle.wasm_encoder_bytes.specs.declared.error.EncodeError

@@ -1,14 +1,14 @@
 //! Laws of the spellings: functions without parameters whose contracts are the laws. They do nothing.
 
 ghost use Rattle.wasm_encoder_base.specs.Samples.{SamplesListed, DoublesListed};
-ghost use Rattle.wasm_encoder_base.specs.Examples.{CallIndirect, MemoryInit, BrTable, Load, BrOnCast, Try, Float};
+ghost use Rattle.wasm_encoder_base.specs.Examples.{FunctionType, CallIndirect, MemoryInit, BrTable, Load, BrOnCast, Try, Float};
 ghost use Rattle.std.specs.Prelude.{◌≡◌, ◌∷◌, []};
 ghost use Rattle.wasm_encoder_base.specs.Types.{ref_bytes};
 ghost use Rattle.wasm_encoder_base.specs.Views.{ref_view};
-ghost use Rattle.wasm_encoder_base.specs.Laws.{OneHeapType, OneRefType, OneValType, OneFieldType, OneFuncType, OneSubType, OneInstruction, OneExpression, EntryCount, OpcodesDistinct, OpcodesApart, MnemonicsDistinct, EntriesDistinct, UncoveredDistinct, UncoveredUnlisted};
+ghost use Rattle.wasm_encoder_base.specs.Laws.{OneHeapType, OneRefType, OneValType, OneFieldType, OneFuncType, OneCompositeType, OneSubType, OneInstruction, OneExpression, EntryCount, OpcodesDistinct, OpcodesApart, MnemonicsDistinct, EntriesDistinct, UncoveredDistinct, UncoveredUnlisted};
 
 use crate::types::RefType;
-pub use wasm_encoder_bytes::laws::{one_reading, shortest};
+pub use wasm_encoder_bytes::laws::{one_reading, shortest, spelling_examples};
 
 /// Types are told apart by their bytes, whatever follows these.
 pub fn one_type()
@@ -17,6 +17,7 @@ pub fn one_type()
     ensures value_types { OneValType }
     ensures field_types { OneFieldType }
     ensures function_types { OneFuncType }
+    ensures composite_types { OneCompositeType }
     ensures sub_types { OneSubType }
 {}
 
@@ -54,8 +55,10 @@ pub fn distinct_uncovered()
     ensures unlisted { UncoveredUnlisted }
 {}
 
-/// Entries of the table of each operand syntax, and a few instructions and their bytes, by hand.
+/// A function type and its bytes, entries of the table of each operand syntax, and a few instructions and their
+/// bytes, by hand.
 pub fn examples()
+    ensures function_type { FunctionType }
     ensures entries { SamplesListed }
     ensures indices { CallIndirect }
     ensures segments { MemoryInit }

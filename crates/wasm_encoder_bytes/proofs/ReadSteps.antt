@@ -5,7 +5,7 @@ use Rattle.std.proofs.lemmas.List.{length-drop}
 use Rattle.std.proofs.Math.Seq.{take-length}
 use Rattle.std.proofs.lemmas.Bool.{cases_lt, le-leb, lt-leb}
 use Rattle.wasm_encoder_bytes.specs.Leb.{seven, leb}
-use Rattle.wasm_encoder_bytes.specs.Reading.{StandsInFront}
+use Rattle.wasm_encoder_bytes.specs.Front.{StandsInFront}
 use Rattle.wasm_encoder_bytes.proofs.LebSteps.{seven-below, seven-twice, leb-last, leb-more}
 use Rattle.wasm_encoder_bytes.proofs.UniqueLeb.{leb-one, signs-apart}
 use Rattle.wasm_encoder_bytes.proofs.UniqueParts.{cons_head, cons_tail, no_cons}
@@ -57,9 +57,6 @@ turns last b e = ⊎_elim (λ h. absurd (let f = lt-leb last b h in let g : true
 
 stays : (last b : ℕ) → false ≡ nat_le last b → b < last
 stays last b e = ⊎_elim (λ h. h) (λ h. absurd (let f = le-leb last b h in let g : false ≡ true = e ∙ f in cc)) (cases_lt b last)
-
-pub last_sign : (flip : Bool) (last b : ℕ) → flip ≡ nat_le last b → b < 128 → IsLimit last → MayTurn last flip
-last_sign flip last b e p k t = turned_limit last b k p (turns last b (sym t ∙ e))
 
 pub found_last : (flip : Bool) (last b size : ℕ) → flip ≡ nat_le last b → size ≡ seven flip b → b < 128 → IsLimit last → leb flip last size ≡ b ∷ []
 found_last false last b size f e p k = ap (leb false last) e ∙ leb-last false last b (stays last b f)

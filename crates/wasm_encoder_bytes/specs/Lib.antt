@@ -2,9 +2,9 @@ pub mod Adds
 pub mod Bytes
 pub mod Decodes
 pub mod Encodes
+pub mod Front
 pub mod Ieee
 pub mod Leb
 pub mod Lists
-pub mod Reading
 pub mod SpellingLaws
 pub mod Unique

@@ -1,5 +1,5 @@
 -- The laws of numbers, names and lists that the crate's law functions prove.
-use Rattle.std.specs.Prelude.{ℕ, ◌≡◌, List, [], ◌∷◌, ◌++◌}
+use Rattle.std.specs.Prelude.{ℕ, ◌≡◌, List, [], ◌∷◌, ◌++◌, negsuc, codes}
 use Rattle.std.specs.List.{AllByRecursion}
 use Rattle.wasm_encoder_bytes.specs.Leb.{uleb, sleb}
 use Rattle.wasm_encoder_bytes.specs.Decodes.{IsShortest, unsigned_of, signed_of}
@@ -35,3 +35,10 @@ OneList = Unique (AllByRecursion Any) (counted uleb)
 pub record IsBuiltByItems : Type 0 where
   pub none : no_items ≡ listed (λ (bytes : List ℕ). bytes) []
   pub one_more : (items : List (List ℕ)) (item : List ℕ) → with_item (listed (λ bytes. bytes) items) item ≡ listed (λ bytes. bytes) (items ++ item ∷ [])
+
+-- Spellings by hand. `negsuc 123455` is -123456.
+pub record SpellingExamples : Type 0 where
+  pub unsigned : uleb 624485 ≡ 0xE5 ∷ 0x8E ∷ 0x26 ∷ []
+  pub signed : sleb (negsuc 123455) ≡ 0xC0 ∷ 0xBB ∷ 0x78 ∷ []
+  pub name : sized (codes "abc") ≡ 0x03 ∷ 0x61 ∷ 0x62 ∷ 0x63 ∷ []
+  pub list : counted uleb (1 ∷ 128 ∷ []) ≡ 0x02 ∷ 0x01 ∷ 0x80 ∷ 0x01 ∷ []

@@ -1,8 +1,23 @@
-//! The spelling of values in bytes: LEB128, the trait [`Encode`], names and lists, floats by their bits,
-//! and lists that are borrowed or owned (WebAssembly Core Specification 3.0, 5.1.3 and 5.2).
+//! The spelling of values in bytes (WebAssembly Core Specification 3.0, 5.1.3 and 5.2): LEB128, names, lists, floats by
+//! their bits. It is the lower part of `wasm_encoder_base`, which hands on all that is public here.
 //!
-//! It is the lower part of `wasm_encoder_base`, which hands on all that is here. Every LEB128 that is written
-//! is the shortest one.
+//! [`Encode`] appends a value's spelling to a vector of bytes; refused, the vector is as it was. Every LEB128 that is
+//! written is the shortest one. [`read_u32`] and [`read_s33`] read such numbers back. [`Items`] is a list that is
+//! borrowed or owned, [`OwnedItems`] one that is owned; contracts see their items.
+//!
+//! ```
+//! let mut sink = Vec::new(alloc);
+//! 624485u32.encode(&mut sink)?;
+//! (-123456i32).encode(&mut sink)?;
+//! "abc".encode(&mut sink)?;
+//! [1u32, 128].as_slice().encode(&mut sink)?;
+//! ```
+//!
+//! leaves the bytes `E5 8E 26`, `C0 BB 78`, `03 61 62 63` and `02 01 80 01` in `sink`.
+//!
+//! The laws: [`laws::shortest`], what is written for a number decodes to it, and nothing shorter does;
+//! [`laws::one_reading`], numbers, names and lists are told apart by their bytes; [`laws::spelling_examples`], the
+//! bytes above.
 #![tactic(auto)]
 
 mod adding;

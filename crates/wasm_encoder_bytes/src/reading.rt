@@ -2,7 +2,7 @@
 
 ghost use Rattle.std.specs.Prelude.{◌≡◌, ℕ, ℤ, pos, negsuc, Bool, true, ◌+◌, ◌-◌, ◌*◌, ◌<◌, ◌≤◌, ◌^◌, ◌≤ℤ◌, ◌⊎◌, nat_le, length, IfSome, IfNone, cond};
 ghost use Rattle.wasm_encoder_bytes.specs.Leb.{seven, leb, uleb, sleb};
-ghost use Rattle.wasm_encoder_bytes.specs.Reading.{StandsInFront};
+ghost use Rattle.wasm_encoder_bytes.specs.Front.{StandsInFront};
 
 use crate::leb::seven;
 

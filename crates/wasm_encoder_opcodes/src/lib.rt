@@ -4,6 +4,16 @@
 //! A value is encoded as its opcode in the one table of `wasm_encoder_base`: a byte, or a prefix and a number
 //! ([`Prefixed`]). That is the whole instruction, save at [`AccessOp`], [`AtomicOp`] and [`AtomicRmwOp`]: there a memory
 //! argument stands after it, which the value doesn't hold.
+//!
+//! ```
+//! let mut sink = Vec::new(alloc);
+//! CompareOp::I32LtS.encode(&mut sink)?;
+//! VectorFloatOp::I8x16RelaxedSwizzle.encode(&mut sink)?;
+//! ```
+//!
+//! leaves the bytes `48` and `FD 80 02` in `sink`.
+//!
+//! The law: [`laws::listed`], each opcode is that of the entry in the table with the operation's mnemonic.
 #![tactic(auto)]
 
 mod access;

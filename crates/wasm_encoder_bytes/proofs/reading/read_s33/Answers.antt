@@ -1,7 +1,7 @@
 use Rattle.std.proofs.Common.{ℕ, ℤ, pos, negsuc, ◌≡◌, ◌≤◌, ◌≤ℤ◌, Bool, true, false, List, refl, arith}
 use Rattle.std.proofs.lemmas.Int.{ints}
 use Rattle.wasm_encoder_bytes.specs.Leb.{leb, sleb}
-use Rattle.wasm_encoder_bytes.specs.Reading.{StandsInFront}
+use Rattle.wasm_encoder_bytes.specs.Front.{StandsInFront}
 use Rattle.wasm_encoder_bytes.proofs.ReadSteps.{none_holds}
 use Rattle.wasm_encoder_bytes.proofs.reading.read_s33.Goals as goal
 

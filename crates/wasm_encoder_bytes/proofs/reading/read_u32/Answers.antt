@@ -1,6 +1,6 @@
 use Rattle.std.proofs.Common.{ℕ, ◌≡◌, ◌<◌, ◌≤◌, Bool, true, false, List, arith}
 use Rattle.wasm_encoder_bytes.specs.Leb.{leb, uleb}
-use Rattle.wasm_encoder_bytes.specs.Reading.{StandsInFront}
+use Rattle.wasm_encoder_bytes.specs.Front.{StandsInFront}
 use Rattle.wasm_encoder_bytes.proofs.ReadSteps.{none_holds}
 use Rattle.wasm_encoder_bytes.proofs.reading.read_u32.Goals as goal
 
