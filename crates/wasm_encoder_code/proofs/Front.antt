@@ -1,6 +1,6 @@
 -- What stands behind the first byte.
 use Rattle.std.proofs.Common.{ℕ, ◌≡◌, ◌-◌, ◌≤◌, List, ◌∷◌, ◌++◌, length, take, drop, ap, ◌∙◌, arith, take_all}
-use Rattle.wasm_encoder_base.specs.Reading.{StandsInFront}
+use Rattle.wasm_encoder_base.specs.Front.{StandsInFront}
 
 behind : (b : ℕ) (l : List ℕ) → take (length (b ∷ l) - 1) (drop 1 (b ∷ l)) ≡ l
 behind b l = ap (λ n. take n l) (let e : length (b ∷ l) - 1 ≡ length l = omega arith in e) ∙ take_all (length l) l (let h : length l ≤ length l = omega arith in h)

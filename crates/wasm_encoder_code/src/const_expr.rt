@@ -4,7 +4,7 @@ ghost use Rattle.wasm_encoder_base.specs.Instr.{instr_bytes};
 ghost use Rattle.wasm_encoder_instr.specs.Instruction.{instr_view, can_encode_instr, fits_instr};
 ghost use Rattle.wasm_encoder_base.specs.Leb.{uleb};
 ghost use Rattle.wasm_encoder_code.specs.Sink.{IsMade};
-ghost use Rattle.wasm_encoder_base.specs.Reading.{StandsInFront};
+ghost use Rattle.wasm_encoder_base.specs.Front.{StandsInFront};
 
 use std::alloc::{AllocError, Global};
 use std::marker::Model;
