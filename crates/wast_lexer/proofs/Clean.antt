@@ -38,9 +38,6 @@ module _ (text : List ℕ) (start : Bool) (at to : ℕ) (so : start ≡ is_clean
   pub clean_not : true ≡ starts_refused (drop to text) → start ≡ false
   clean_not r = let h : to < length text = omega (arith, refused_long (drop to text) (sym r), length-drop to text) in clean_here ∙ ap is_clean (cell text to h) ∙ (rw (sym (r ∙ ap starts_refused (cell text to h))) refl)
 
-pub clean_past : (text : List ℕ) (start : Bool) (at : ℕ) → start ≡ is_clean (drop at text) → length text ≤ at → start ≡ true
-clean_past text start at so h = so ∙ ap is_clean (drop_all at text h)
-
 pub refused_here : (text : List ℕ) (i : ℕ) → i + 2 < length text → starts_refused (drop i text) ≡ is_refused (get_or text i 0) (get_or text (i + 1) 0) (get_or text (i + 2) 0)
 refused_here text i h =
     let l0 : i < length text = omega arith in

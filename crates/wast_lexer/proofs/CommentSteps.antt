@@ -41,9 +41,6 @@ close_no d c (b ∷ s) o e = rw (o, e) refl
 pub close_other : (d : ℕ) (text : List ℕ) (i : ℕ) → i < length text → starts_pair 40 59 (drop i text) ≡ false → starts_pair 59 41 (drop i text) ≡ false → close d (drop i text) ≡ close d (drop (i + 1) text)
 close_other d text i h o e = rw (cell text i h) (close_no d (get_or text i 0) (drop (i + 1) text) (rw (cell text i h) at o) (rw (cell text i h) at e))
 
-pub close_open : (d : ℕ) (s : List ℕ) → close d (40 ∷ 59 ∷ s) ≡ close (d + 1) s
-close_open d s = refl
-
 pub close_deep : (d : ℕ) (s : List ℕ) → d ≢ 0 → close d (59 ∷ 41 ∷ s) ≡ close (d - 1) s
 close_deep d s h = let n : (d == 0) ≡ false = grind (arith, nat_tests) in rw n refl
 

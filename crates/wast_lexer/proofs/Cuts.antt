@@ -2,8 +2,8 @@
 use Rattle.std.proofs.Common.{◌≡◌, ◌≢◌, ℕ, ◌+◌, ◌-◌, ◌<◌, ◌≤◌, Bool, true, List, [], ◌∷◌, ◌++◌, length, drop, get_or, suc, IsUtf8, refl, sym, ◌∙◌, ap, arith}
 use Rattle.std.specs.Prelude.{nat_lt}
 use Rattle.std.proofs.lemmas.Bool.Decides.{nat_tests}
-use Rattle.wast_lexer.specs.Kinds.{is_idchar, Run}
-use Rattle.wast_lexer.specs.Kinds.Run.{Ends, Char, Quoted}
+use Rattle.wast_lexer.specs.Kinds.{is_idchar, Word}
+use Rattle.wast_lexer.specs.Kinds.Word.{Ends, Char, Quoted}
 use Rattle.wast_lexer.specs.Tiling.{ends}
 use Rattle.std.proofs.lemmas.Grind.{common_steps}
 use Rattle.std.specs.Str.{IsCharBoundary}
@@ -25,11 +25,11 @@ step_low : (c : ℕ) (text : List ℕ) → is_low c ≡ true → (text ≢ [] �
 step_low c [] low more = low
 step_low c (d ∷ text) low more = more (λ e. cc)
 
--- a run ends in a byte of ASCII
-pub run_low : (w : List ℕ) → Run w → w ≢ [] → ends is_low w ≡ true
-run_low w Ends some = absurd (some refl)
-run_low w (Char {c} {text} id more) some = step_low c text (id_low c id) (run_low text more)
-run_low w (Quoted {inner} {bytes} {text} es more) some = ends_append is_low (34 ∷ inner) 34 text ∙ step_low 34 text refl (run_low text more)
+-- a word ends in a byte of ASCII
+pub low_word : (w : List ℕ) → Word w → w ≢ [] → ends is_low w ≡ true
+low_word w Ends some = absurd (some refl)
+low_word w (Char {c} {text} id more) some = step_low c text (id_low c id) (low_word text more)
+low_word w (Quoted {inner} {bytes} {text} es more) some = ends_append is_low (34 ∷ inner) 34 text ∙ step_low 34 text refl (low_word text more)
 
 last_low : (w : List ℕ) → w ≢ [] → ends is_low w ≡ true → get_or w (length w - 1) 0 < 128
 last_low [] some h = absurd (some refl)

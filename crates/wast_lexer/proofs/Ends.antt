@@ -13,8 +13,8 @@ use Rattle.wast_lexer.specs.Tiling.{ends, Begins}
 use Rattle.std.specs.Prelude.{Some}
 use Rattle.wast_lexer.specs.Scan.{next}
 use Rattle.wast_lexer.proofs.ScanLaws.{sound}
-use Rattle.wast_lexer.proofs.KindLaws.{id_run, annotation_run, name_run, name_all, string_run, number_all}
-use Rattle.wast_lexer.proofs.Cuts.{is_low, ends_append, run_low, cut_behind}
+use Rattle.wast_lexer.proofs.KindLaws.{id_word, annotation_word, name_word, name_all, string_word, number_all}
+use Rattle.wast_lexer.proofs.Cuts.{is_low, ends_append, low_word, cut_behind}
 
 spaces_low : (w : List ℕ) → w ≢ [] → list_all is_space w ≡ true → ends is_low w ≡ true
 spaces_low [] some h = absurd (some refl)
@@ -41,15 +41,15 @@ word_low allow LParen w some l n = ap (ends is_low) l
 word_low allow RParen w some l n = ap (ends is_low) l
 word_low allow LineComment w some l n = absurd (n refl)
 word_low allow BlockComment w some l n = ap (ends is_low) l.0.2 ∙ ends_append is_low (40 ∷ 59 ∷ l.0.0) 59 (41 ∷ [])
-word_low allow String w some l n = run_low w (string_run w l.0.0 l.0.1) some
-word_low allow Id w some l n = run_low w (id_run w l.0) some
-word_low allow Keyword w some l n = run_low w (name_run w (name_all w l.name)) some
-word_low allow Annotation w some l n = run_low w (annotation_run w l.0) some
-word_low allow (Integer kind) w some l n = run_low w (name_run w (number_all (kinds.Integer kind) w l)) some
-word_low allow (Float kind) w some l n = run_low w (name_run w (number_all (kinds.Float kind) w l)) some
+word_low allow String w some l n = low_word w (string_word w l.0.0 l.0.1) some
+word_low allow Id w some l n = low_word w (id_word w l.0) some
+word_low allow Keyword w some l n = low_word w (name_word w (name_all w l.name)) some
+word_low allow Annotation w some l n = low_word w (annotation_word w l.0) some
+word_low allow (Integer kind) w some l n = low_word w (name_word w (number_all (kinds.Integer kind) w l)) some
+word_low allow (Float kind) w some l n = low_word w (name_word w (number_all (kinds.Float kind) w l)) some
 word_low allow Reserved w some l n = elim l [
   | inl m ↦ ap (ends is_low) m.2 ∙ one_low m.0 m.1
-  | inr o ↦ run_low w o.0.run some
+  | inr o ↦ low_word w o.0.is_word some
 ]
 
 split_length : (text w rest : List ℕ) (from : ℕ) → drop from text ≡ w ++ rest → w ≢ [] → from + length w + length rest ≡ length text
@@ -73,8 +73,8 @@ line_cut text w (c ∷ rest) from e some h =
 
 -- a text may be cut behind each of its tokens
 pub token_cut : (allow opened : Bool) (kind : TokenKind) (text w rest : List ℕ) (from : ℕ) → IsUtf8 text → drop from text ≡ w ++ rest → Begins allow opened kind w rest → IsCharBoundary text (from + length w)
-token_cut allow opened LineComment text w rest from u e b = line_cut text w rest from e b.some b.follow
-token_cut allow opened kind text w rest from u e b = let l = split_length text w rest from e b.some in cut_behind text w rest from u b.some (word_low allow kind w b.some b.lexeme (λ k. cc)) e (omega (arith, l))
+token_cut allow opened LineComment text w rest from u e b = line_cut text w rest from e b.nonempty b.follow
+token_cut allow opened kind text w rest from u e b = let l = split_length text w rest from e b.nonempty in cut_behind text w rest from u b.nonempty (word_low allow kind w b.nonempty b.lexeme (λ k. cc)) e (omega (arith, l))
 
 -- the scan ends where a character does
 pub next_cut : (allow opened : Bool) (text : List ℕ) (from to : ℕ) (k : TokenKind) → IsUtf8 text → from < to → to ≤ length text → next allow opened (drop from text) ≡ Some (k, drop to text) → IsCharBoundary text to

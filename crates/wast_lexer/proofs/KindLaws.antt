@@ -1,4 +1,4 @@
--- The kinds of runs.
+-- The kinds of words.
 use Rattle.std.proofs.Common.{◌≡◌, ◌≢◌, ℕ, Bool, true, false, inl, inr, ◌&&◌, ◌||◌, List, [], ◌∷◌, Some, None, refl, sym, ◌∙◌, ap, subst, arith}
 use Rattle.std.specs.Prelude.{◌==◌}
 use Rattle.std.specs.List.{list_all}
@@ -12,18 +12,18 @@ use Rattle.wast_lexer_numbers.specs.NumberScan.{number}
 use Rattle.wast_lexer_numbers.proofs.ByteLaws.{is_number_byte, number_bytes, all_more}
 use Rattle.wast_lexer_numbers.proofs.NumberLaws.{number_scanned, scanned_number}
 use Rattle.wast_lexer.specs.declared.token.TokenKind.TheVariants.{String, Id, Keyword, Reserved}
-use Rattle.wast_lexer.specs.Kinds.{starts, is_idchar, is_clean, may_stand, is_at, is_lower, is_name, IsNameOf, IsId, IsKeyword, IsAnnotation, IsOddRun, Run}
-use Rattle.wast_lexer.specs.Kinds.Run.{Ends, Char, Quoted}
+use Rattle.wast_lexer.specs.Kinds.{starts, is_idchar, is_clean, may_stand, is_at, is_lower, is_name, IsNameOf, IsId, IsKeyword, IsAnnotation, IsOddWord, Word}
+use Rattle.wast_lexer.specs.Kinds.Word.{Ends, Char, Quoted}
 use Rattle.wast_lexer.specs.Scan.{plain_kind, number_token, is_string, is_text_string, is_id, is_annotated}
 use Rattle.wast_lexer.proofs.Basics.{and_true, eq_of, cases_option}
-use Rattle.wast_lexer.proofs.RunLaws.{string_complete, string_sound, text_complete, text_sound}
+use Rattle.wast_lexer.proofs.WordLaws.{string_complete, string_sound, text_complete, text_sound}
 use Rattle.wast_lexer.proofs.Refused.{not_refused}
 use Rattle.wast_lexer.proofs.Ascii.{names_utf8}
 
 -- ---- names
-pub name_run : (w : List ℕ) → list_all is_idchar w ≡ true → Run w
-name_run [] h = Ends
-name_run (c ∷ w) h = let both = and_true (is_idchar c) (list_all is_idchar w) h in Char both.0 (name_run w both.1)
+pub name_word : (w : List ℕ) → list_all is_idchar w ≡ true → Word w
+name_word [] h = Ends
+name_word (c ∷ w) h = let both = and_true (is_idchar c) (list_all is_idchar w) h in Char both.0 (name_word w both.1)
 
 pub name_all : (w : List ℕ) → is_name w ≡ true → list_all is_idchar w ≡ true
 name_all w h = (and_true (starts is_idchar w) (list_all is_idchar w) h).1
@@ -43,19 +43,19 @@ pub names_stand : (allow : Bool) (w : List ℕ) → list_all is_idchar w ≡ tru
 names_stand true w h = refl
 names_stand false w h = names_clean w h
 
--- ---- runs of each kind
-pub string_run : (w b : List ℕ) → IsString w b → Run w
-string_run w b s = subst Run (sym s.2) (Quoted s.1 Ends)
+-- ---- words of each kind
+pub string_word : (w b : List ℕ) → IsString w b → Word w
+string_word w b s = subst Word (sym s.2) (Quoted s.1 Ends)
 
-name_of_run : (w b : List ℕ) → IsNameOf w b → Run w
-name_of_run w b (inl h) = name_run w (name_all w h.0)
-name_of_run w b (inr s) = string_run w b s
+name_of_word : (w b : List ℕ) → IsNameOf w b → Word w
+name_of_word w b (inl h) = name_word w (name_all w h.0)
+name_of_word w b (inr s) = string_word w b s
 
-pub id_run : (w : List ℕ) → IsId w → Run w
-id_run w (bytes, (name, split, is)) = subst Run (sym split) (Char refl (name_of_run name bytes is))
+pub id_word : (w : List ℕ) → IsId w → Word w
+id_word w (bytes, (name, split, is)) = subst Word (sym split) (Char refl (name_of_word name bytes is))
 
-pub annotation_run : (w : List ℕ) → IsAnnotation w → Run w
-annotation_run w (bytes, a) = subst Run (sym a.split) (Char refl (name_of_run a.name bytes a.is))
+pub annotation_word : (w : List ℕ) → IsAnnotation w → Word w
+annotation_word w (bytes, a) = subst Word (sym a.split) (Char refl (name_of_word a.name bytes a.is))
 
 -- a number is identifier characters
 pub number_all : (k : NumberKind) (w : List ℕ) → IsNumber k w → list_all is_idchar w ≡ true
@@ -116,7 +116,7 @@ annotation_is w (bytes, a) = ap is_annotated a.split ∙ accepted a.is
   where
     accepted : IsNameOf a.name bytes → (is_name a.name || is_text_string a.name) ≡ true
     accepted (inl h) = rw h.0 refl
-    accepted (inr s) = rw (text_complete a.name bytes s a.some a.utf8) (or-true (is_name a.name))
+    accepted (inr s) = rw (text_complete a.name bytes s a.nonempty a.utf8) (or-true (is_name a.name))
 
 pub annotation_sound : (w : List ℕ) → is_annotated w ≡ true → IsAnnotation w
 annotation_sound [] h = absurd (cc)
@@ -124,8 +124,8 @@ annotation_sound (c ∷ w) h =
     let both = and_true (is_at c) (is_name w || is_text_string w) h in
     let split : c ∷ w ≡ 64 ∷ w = ap (λ (i : ℕ). i ∷ w) (eq_of c 64 both.0) in
     elim (or_cases (is_name w) (is_text_string w) both.1) [
-      | inl name ↦ (w, record { name = w; split = split; is = inl (name, refl); some = name_some w name; utf8 = names_utf8 w (name_all w name) })
-      | inr q ↦ (let s = text_sound w q in (s.0, record { name = w; split = split; is = inr s.1; some = s.2; utf8 = s.3 }))
+      | inl name ↦ (w, record { name = w; split = split; is = inl (name, refl); nonempty = name_some w name; utf8 = names_utf8 w (name_all w name) })
+      | inr q ↦ (let s = text_sound w q in (s.0, record { name = w; split = split; is = inr s.1; nonempty = s.2; utf8 = s.3 }))
     ]
 
 pub keyword_of : (w : List ℕ) → number w ≡ None → (starts is_lower w && is_name w) ≡ true → IsKeyword w
@@ -133,7 +133,7 @@ keyword_of w none h =
     let both = and_true (starts is_lower w) (is_name w) h in
     record { lower = both.0; name = both.1; not_number = λ k num. (let no : None ≡ Some k = sym none ∙ number_scanned w k num in cc) }
 
-pub odd_kind : (w : List ℕ) → IsOddRun w → plain_kind w ≡ Reserved
+pub odd_kind : (w : List ℕ) → IsOddWord w → plain_kind w ≡ Reserved
 odd_kind w odd =
     let none = none_number w odd.not_number in
     elim (cases_Bool (starts is_lower w && is_name w)) [

@@ -11,13 +11,13 @@ use Rattle.wast_lexer_numbers.specs.NumberScan.{number}
 use Rattle.wast_lexer.specs.declared.token.TokenKind.{TokenKind}
 use Rattle.wast_lexer.specs.declared.token.TokenKind.TheVariants.{Id, Keyword, Annotation, Reserved}
 use Rattle.wast_lexer.specs.Kinds.{starts, is_idchar, is_lower, is_name}
-use Rattle.wast_lexer.specs.Scan.{skip, kind_of, plain_kind, word_kind, number_or, is_string, is_text_string}
+use Rattle.wast_lexer.specs.Scan.{skip, kind_of, plain_kind, other_kind, number_or, is_string, is_text_string}
 use Rattle.std.specs.Bool.{then_some}
 use Rattle.std.specs.Prelude.{option_map}
 use Rattle.wast_lexer.specs.Tiling.{goes_on}
-use Rattle.wast_lexer.specs.Scan.{run, next}
+use Rattle.wast_lexer.specs.Scan.{after_word, next}
 use Rattle.wast_lexer.proofs.KindLaws.{names_stand}
-use Rattle.wast_lexer.proofs.RunSteps.{part_ends, run_clean}
+use Rattle.wast_lexer.proofs.WordSteps.{part_ends, word_clean}
 use Rattle.wast_lexer.proofs.Basics.{and_true}
 use Rattle.wast_lexer.proofs.ScanLaws.{skip_split}
 
@@ -75,29 +75,14 @@ module _ (word : List ℕ) (all : list_all is_idchar word ≡ true) (some : 0 < 
       go [] a l e = absurd (omega (arith, l))
       go (c ∷ w) a l e = rw e (ap (λ b. Some (if b then Id else Reserved)) (sym (tail_name c w a).0) ∙ sym (plain opened w))
 
-  pub other_kind : (opened : Bool) (k : TokenKind) → (opened && (get_or word 0 0 == 64)) ≡ false → (get_or word 0 0 == 36) ≡ false → number_or (number word) (if is_lower (get_or word 0 0) then Keyword else Reserved) ≡ k → kind_of opened word ≡ Some k
-  other_kind opened k at dollar is = go word all some at dollar is
-    where
-      go : (w : List ℕ) → list_all is_idchar w ≡ true → 0 < length w → (opened && (get_or w 0 0 == 64)) ≡ false → (get_or w 0 0 == 36) ≡ false → number_or (number w) (if is_lower (get_or w 0 0) then Keyword else Reserved) ≡ k → kind_of opened w ≡ Some k
-      go [] a l at dollar is = absurd (omega (arith, l))
-      go (c ∷ w) a l at dollar is =
-          let both = and_true (is_idchar c) (list_all is_idchar w) a in
-          let q = (no_string (c ∷ w) a).0 in
-          let kind : word_kind (c ∷ w) ≡ (if is_lower c then Keyword else Reserved) = rw (both.0, both.1, q) (and_same (is_lower c)) in
-          rw at (rw dollar (ap (λ i. Some (number_or (number (c ∷ w)) i)) kind ∙ ap (λ (i : TokenKind). let o : Option TokenKind = Some i in o) is))
-        where
-          and_same : (b : Bool) → (if b && true then Keyword else Reserved) ≡ (if b then Keyword else Reserved)
-          and_same true = refl
-          and_same false = refl
-
 pub then_some_is : {A : Type 0} (b : Bool) (x : A) → then_some b x ≡ (if b then Some x else None)
 then_some_is true x = refl
 then_some_is false x = refl
 
--- what the scan makes of such a run
+-- what the scan makes of such a word
 pub name_next : (allow opened : Bool) (text : List ℕ) (at end : ℕ) → at < end → end ≤ length text → goes_on (get_or text at 0) ≡ true → drop end text ≡ skip is_idchar (drop at text) → starts is_quote (drop end text) ≡ false
     → next allow opened (drop at text) ≡ option_map (λ k. (k, drop end text)) (kind_of opened (slice_range text at end))
 name_next allow opened text at end some within on found behind =
-    let ended = part_ends text (run None (drop at text)) at end refl found (sym behind) in
-    run_clean allow opened text at end (omega (arith, some, within)) on (omega (arith, some)) within ended
+    let ended = part_ends text (after_word None (drop at text)) at end refl found (sym behind) in
+    word_clean allow opened text at end (omega (arith, some, within)) on (omega (arith, some)) within ended
     (sym (names_stand allow (slice_range text at end) (passed_all is_idchar text at end (omega (arith, some)) within found)))

@@ -67,7 +67,7 @@ table_more allow text tokens from to t s is =
     let word : l.text ≡ slice_range text from to = ap (λ n. slice_range text n (t.offset + t.len)) is.place ∙ ap (slice_range text from) end in
     let low : from ≤ to = omega (arith, is.len) in
     let size = range_length text from to low is.within in
-    let less : from < to = grow is.begins.some size low in
+    let less : from < to = grow is.begins.nonempty size low in
     let more = tiles_more allow false 0 text (map (lexeme_of text) tokens) (is_opened text from) from (drop from text) l (drop to text) s is.place
     (cut_at text from to low ∙ ap (λ y. y ++ drop to text) (sym word)) (subst (λ y. Begins allow (is_opened text from) t.kind y (drop to text)) (sym word) is.begins) in
     let opens : ends is_open l.text ≡ is_opened text to = ap (ends is_open) word ∙ sym (opened_is text from to less is.within) in
@@ -88,5 +88,5 @@ all_none P k d h = absurd (omega (arith, h))
 pub token_moves : (allow : Bool) (text : List ℕ) (from to : ℕ) (t : Token) → IsTokenAt allow text from to t → from < to
 token_moves allow text from to t is =
     let low : from ≤ to = omega (arith, is.len) in
-    let l = some_length (slice_range text from to) is.begins.some in
+    let l = some_length (slice_range text from to) is.begins.nonempty in
     omega (arith, l, range_length text from to low is.within)

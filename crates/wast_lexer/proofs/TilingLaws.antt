@@ -26,8 +26,8 @@ lexeme_same a b k t p =
 
 pub tile_once : (allow opened : Bool) (from : ℕ) (text : List ℕ) (a b : List Lexeme) → Tiles allow opened from text a → Tiles allow opened from text b → a ≡ b
 tile_once allow opened from text [] [] s t = refl
-tile_once allow opened from text [] (y ∷ b) s t = absurd (t.3.some (front_nil y.text t.0 (sym t.2 ∙ s)))
-tile_once allow opened from text (x ∷ a) [] s t = absurd (s.3.some (front_nil x.text s.0 (sym s.2 ∙ t)))
+tile_once allow opened from text [] (y ∷ b) s t = absurd (t.3.nonempty (front_nil y.text t.0 (sym t.2 ∙ s)))
+tile_once allow opened from text (x ∷ a) [] s t = absurd (s.3.nonempty (front_nil x.text s.0 (sym s.2 ∙ t)))
 tile_once allow opened from text (x ∷ a) (y ∷ b) s t =
     let same = once allow opened x.kind y.kind x.text y.text s.0 t.0 s.3 t.3 (sym s.2 ∙ t.2) in
     let tails : a ≡ b = tile_once allow (ends is_open x.text) (from + length x.text) s.0 a b s.4 (rw (same.1, same.2) t.4) in

@@ -106,7 +106,7 @@ pub record IsAnnotationOf (word bytes : List ℕ) : Type 0 where
   pub name : List ℕ
   pub split : word ≡ 64 ∷ name
   pub is : IsNameOf name bytes
-  pub some : bytes ≢ []
+  pub nonempty : bytes ≢ []
   pub utf8 : IsUtf8 bytes
 
 abbrev pub IsAnnotation : List ℕ → Type 0
@@ -119,14 +119,14 @@ pub record IsKeyword (word : List ℕ) : Type 0 where
   pub not_number : (kind : NumberKind) → ¬ IsNumber kind word
 
 -- identifier characters and strings, without anything between them
-pub data Run : List ℕ → Type 0 where
-  Ends : Run []
-  Char : {c : ℕ} {text : List ℕ} → is_idchar c ≡ true → Run text → Run (c ∷ text)
-  Quoted : {inner bytes text : List ℕ} → Elements inner bytes → Run text → Run (34 ∷ (inner ++ 34 ∷ text))
+pub data Word : List ℕ → Type 0 where
+  Ends : Word []
+  Char : {c : ℕ} {text : List ℕ} → is_idchar c ≡ true → Word text → Word (c ∷ text)
+  Quoted : {inner bytes text : List ℕ} → Elements inner bytes → Word text → Word (34 ∷ (inner ++ 34 ∷ text))
 
--- a run that is none of the other kinds (6.2.2, `reserved`)
-pub record IsOddRun (word : List ℕ) : Type 0 where
-  pub run : Run word
+-- a word that is none of the other kinds (6.2.2, `reserved`)
+pub record IsOddWord (word : List ℕ) : Type 0 where
+  pub is_word : Word word
   pub not_id : ¬ IsId word
   pub not_number : (kind : NumberKind) → ¬ IsNumber kind word
   pub not_keyword : ¬ IsKeyword word
@@ -149,4 +149,4 @@ IsLexeme allow Annotation word = IsAnnotation word × (may_stand allow word ≡ 
 IsLexeme allow Keyword word = IsKeyword word
 IsLexeme allow (Integer kind) word = IsNumber (number.Integer kind) word
 IsLexeme allow (Float kind) word = IsNumber (number.Float kind) word
-IsLexeme allow Reserved word = IsMark word ⊎ (IsOddRun word × (may_stand allow word ≡ true))
+IsLexeme allow Reserved word = IsMark word ⊎ (IsOddWord word × (may_stand allow word ≡ true))

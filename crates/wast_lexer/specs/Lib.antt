@@ -4,7 +4,8 @@ pub mod Tiling
 pub mod Laws
 pub mod Span
 pub mod Parse
-pub mod Readers
+pub mod TokenText
+pub mod Source
 pub mod Tokens
 pub mod Groups
 pub mod Table
@@ -15,7 +16,7 @@ pub use Rattle.wast_lexer_strings.specs.StringScan
 pub use Rattle.wast_lexer_strings.specs.declared.error.LexError
 pub use Rattle.wast_lexer_numbers.specs.Numbers
 pub use Rattle.wast_lexer_numbers.specs.NumberScan
-pub use Rattle.wast_lexer_numbers.specs.Readings
+pub use Rattle.wast_lexer_numbers.specs.NumberParts
 pub use Rattle.wast_lexer_numbers.specs.declared.kind.FloatKind
 pub use Rattle.wast_lexer_numbers.specs.declared.kind.IntegerKind
 pub use Rattle.wast_lexer_numbers.specs.declared.kind.NumberKind

@@ -24,7 +24,7 @@ NoTokenAt allow text from = (kind : TokenKind) (word rest : List ℕ) → drop f
 
 -- a fault at a place, where no token begins; no memory is asked for
 abbrev pub IsFaultAt : Bool → List ℕ → ℕ → LexFault → Type 0
-IsFaultAt allow text from (Lex span error) = (from < length text) × NoTokenAt allow text from × (span.offset ≡ from)
+IsFaultAt allow text from (Lex span error) = (from < length text) × NoTokenAt allow text from × (span ≡ from)
 IsFaultAt allow text from Memory = ⊥
 
 -- a call at one place answered so, and left the position at another

@@ -45,12 +45,12 @@ abbrev pub comment : Bool → TokenKind → List ℕ → Option (List ℕ) → O
 comment allow kind text None = None
 comment allow kind text (Some rest) = cond (may_stand allow (front text rest)) (Some (kind, rest)) None
 
--- what follows the longest run, where the scan stands outside of strings or within one
-abbrev pub run : Option State → List ℕ → Option (List ℕ)
-run None [] = Some []
-run None (c ∷ text) = if is_idchar c then run None text else if is_quote c then run (Some Within) text else Some (c ∷ text)
-run (Some state) [] = None
-run (Some state) (c ∷ text) = on_step (step state c) (λ to bytes. run (Some to) text) (run None text) None
+-- what follows the longest word, where the scan stands outside of strings or within one
+abbrev pub after_word : Option State → List ℕ → Option (List ℕ)
+after_word None [] = Some []
+after_word None (c ∷ text) = if is_idchar c then after_word None text else if is_quote c then after_word (Some Within) text else Some (c ∷ text)
+after_word (Some state) [] = None
+after_word (Some state) (c ∷ text) = on_step (step state c) (λ to bytes. after_word (Some to) text) (after_word None text) None
 
 abbrev pub is_whole : Option Read → Bool
 is_whole None = false
@@ -81,19 +81,19 @@ abbrev pub number_or : Option NumberKind → TokenKind → TokenKind
 number_or None kind = kind
 number_or (Some n) kind = number_token n
 
-abbrev pub word_kind : List ℕ → TokenKind
-word_kind word = if starts is_lower word && is_name word then Keyword else if is_string word then String else Reserved
+abbrev pub other_kind : List ℕ → TokenKind
+other_kind word = if starts is_lower word && is_name word then Keyword else if is_string word then String else Reserved
 
 abbrev pub plain_kind : List ℕ → TokenKind
-plain_kind word = if is_id word then Id else number_or (numbers.number word) (word_kind word)
+plain_kind word = if is_id word then Id else number_or (numbers.number word) (other_kind word)
 
--- the kind of a run
+-- the kind of a word
 abbrev pub kind_of : Bool → List ℕ → Option TokenKind
 kind_of opened word = if opened && starts is_at word then (if is_annotated word then Some Annotation else None) else Some (plain_kind word)
 
-abbrev pub run_kind : Bool → Bool → List ℕ → Option (List ℕ) → Option (TokenKind × List ℕ)
-run_kind allow opened text None = None
-run_kind allow opened text (Some rest) = if may_stand allow (front text rest) then option_map (λ k. (k, rest)) (kind_of opened (front text rest)) else None
+abbrev pub word_token : Bool → Bool → List ℕ → Option (List ℕ) → Option (TokenKind × List ℕ)
+word_token allow opened text None = None
+word_token allow opened text (Some rest) = if may_stand allow (front text rest) then option_map (λ k. (k, rest)) (kind_of opened (front text rest)) else None
 
 abbrev pub next : Bool → Bool → List ℕ → Option (TokenKind × List ℕ)
 next allow opened [] = None
@@ -103,7 +103,7 @@ next allow opened (c ∷ text) =
     else if is_close c then Some (RParen, text)
     else if is_semicolon c then (if starts is_semicolon text then comment allow LineComment (c ∷ text) (Some (skip (is_neither 10 13) (drop 1 text))) else Some (Reserved, text))
     else if is_mark c then Some (Reserved, text)
-    else if goes_on c then run_kind allow opened (c ∷ text) (run None (c ∷ text))
+    else if goes_on c then word_token allow opened (c ∷ text) (after_word None (c ∷ text))
     else None
 
 -- what a scan of the text from a place on found ends here

@@ -6,7 +6,7 @@ use Rattle.wast_lexer.specs.declared.token.TokenKind.TheVariants.{LineComment, B
 use Rattle.wast_lexer.specs.Kinds.{IsLexeme, starts, is_space, is_line_end, is_open, is_semicolon, is_idchar, is_at}
 use Rattle.wast_lexer.specs.Lexeme.{Lexeme}
 
--- a byte that a run of identifier characters and strings goes on with
+-- a byte that a word goes on with
 abbrev pub goes_on : ℕ → Bool
 goes_on c = is_idchar c || is_quote c
 
@@ -27,7 +27,7 @@ is_annotation _ = false
 -- a token of this kind and text stands before the rest; `opened`: right after `(`, where what begins with `@` is an
 -- annotation, as it is nowhere else
 pub record Begins (allow opened : Bool) (kind : TokenKind) (word rest : List ℕ) : Type 0 where
-  pub some : word ≢ []
+  pub nonempty : word ≢ []
   pub lexeme : IsLexeme allow kind word
   pub follow : MayFollow kind word rest
   pub marked : is_annotation kind ≡ (opened && starts is_at word)

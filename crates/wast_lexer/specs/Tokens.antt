@@ -1,15 +1,32 @@
 -- What the iterator of a lexer's tokens gives, where it stands at a place, or has stopped.
-use Rattle.std.specs.Prelude.{◌≡◌, ◌⊎◌, ◌+◌, ◌-◌, ℕ, Bool, true, false, if◌then◌else◌, List, length, Option, Some, None, Result, Ok, Err}
-use Rattle.wast_lexer.specs.declared.token.Token.{Token}
+use Rattle.std.specs.Prelude.{◌≡◌, ◌⊎◌, ◌+◌, ◌-◌, ℕ, Bool, true, false, if◌then◌else◌, length, Option, Some, None, Result, Ok, Err}
 use Rattle.wast_lexer.specs.declared.fault.LexFault.{LexFault}
+use Rattle.wast_lexer.specs.declared.lexer.Lexer.{Lexer}
+use Rattle.wast_lexer.specs.declared.token.Token.{Token}
+use Rattle.wast_lexer.specs.declared.lexer.Tokens.{Tokens}
 use Rattle.wast_lexer.specs.Parse.{IsTokenAt, IsFaultAt}
+use Rattle.wast_lexer.specs.Source.{source, allows}
+
+abbrev pub lexer_of : Tokens → Lexer
+lexer_of s = s.lexer
+
+-- the offset at which the next token begins
+abbrev pub place_of : Tokens → ℕ
+place_of s = s.pos
+
+abbrev pub has_stopped : Tokens → Bool
+has_stopped s = s.stopped
 
 -- nothing, where it has stopped or is at the end; else the token at its place, or the fault there, and then it stops
-abbrev pub GivesNext : Bool → List ℕ → ℕ → Bool → Option (Result Token LexFault) → ℕ → Bool → Type 0
-GivesNext allow text from stopped None to stops = ((stopped ≡ true) ⊎ (from ≡ length text)) × (stops ≡ true)
-GivesNext allow text from stopped (Some (Ok token)) to stops = (stopped ≡ false) × IsTokenAt allow text from to token × (stops ≡ false)
-GivesNext allow text from stopped (Some (Err e)) to stops = (stopped ≡ false) × IsFaultAt allow text from e × (stops ≡ true)
+abbrev pub GivesAt : Tokens → Option (Result Token LexFault) → Tokens → Type 0
+GivesAt s None t = ((has_stopped s ≡ true) ⊎ (place_of s ≡ length (source (lexer_of s)))) × (has_stopped t ≡ true)
+GivesAt s (Some (Ok token)) t = (has_stopped s ≡ false) × IsTokenAt (allows (lexer_of s)) (source (lexer_of s)) (place_of s) (place_of t) token × (has_stopped t ≡ false)
+GivesAt s (Some (Err e)) t = (has_stopped s ≡ false) × IsFaultAt (allows (lexer_of s)) (source (lexer_of s)) (place_of s) e × (has_stopped t ≡ true)
+
+-- the next of a text's tokens, which stays the same text
+abbrev pub GivesNext : Tokens → Option (Result Token LexFault) → Tokens → Type 0
+GivesNext s r t = (lexer_of t ≡ lexer_of s) × GivesAt s r t
 
 -- so many items come at most
-abbrev pub left : List ℕ → ℕ → Bool → ℕ
-left text from stopped = if stopped then 0 else length text - from + 1
+abbrev pub left : Tokens → ℕ
+left s = if has_stopped s then 0 else length (source (lexer_of s)) - place_of s + 1

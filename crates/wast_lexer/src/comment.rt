@@ -16,7 +16,7 @@ pub(crate) fn comment(
     allow: bool,
     kind: TokenKind,
 ) -> Result<(TokenKind, usize), LexError>
-    requires some { at < end }
+    requires nonempty { at < end }
     requires within { end ≤ length text.now }
     ensures { FindsToken result text.now at (comment allow kind (drop at text.now) (Some (drop end text.now))) }
 {

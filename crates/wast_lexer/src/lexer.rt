@@ -1,15 +1,7 @@
-//! Cuts a text into tokens.
+//! A lexer, and the iterator over its tokens.
 
-ghost use Rattle.std.specs.Prelude.{◌^◌, ◌≡◌, ◌≤◌, ◌<◌, ℕ, length, false, true, Ok, None};
+ghost use Rattle.std.specs.Prelude.{◌^◌, ◌<◌, length};
 ghost use Rattle.std.specs.Str.{IsCharBoundary};
-ghost use Rattle.wast_lexer.specs.Parse.{Answers, is_opened, is_marked};
-ghost use Rattle.wast_lexer.specs.Readers.{GivesTokenOf};
-
-use crate::fault::LexFault;
-use crate::scan::scan;
-use crate::span::Span;
-use crate::token::Token;
-use crate::tokens::Tokens;
 
 /// A text to be cut into tokens.
 #[derive(Clone, Copy)]
@@ -20,104 +12,11 @@ pub struct Lexer<'a> {
     ghost start: { IsCharBoundary input.now 0 },
 }
 
-impl<'a> Lexer<'a> {
-    pub fn new(input: &'a str) -> Lexer<'a>
-        requires { length input.now < 2 ^ 32 }
-        ensures input { result.input.now ≡ input.now }
-        ensures allow { result.allow ≡ false }
-    {
-        Lexer {
-            input,
-            allow: false,
-        }
-    }
-
-    /// The text.
-    pub fn input(&self) -> &'a str
-        ensures { result.now ≡ self.now.input.now }
-    {
-        self.input
-    }
-
-    /// Whether the characters U+202A, 202B, 202D, 202E, 2066 to 2069 and 206C may stand in comments and strings.
-    pub fn allow_confusing_unicode(&mut self, allow: bool)
-        ensures input { self.new.input.now ≡ self.old.input.now }
-        ensures allow { self.new.allow ≡ allow }
-    {
-        self.allow = allow;
-    }
-
-    /// The token at a position, which moves past it.
-    pub fn parse(&self, pos: &mut usize) -> Result<Option<Token>, LexFault>
-        requires { IsCharBoundary self.now.input.now pos.old }
-        ensures answers { Answers self.now.allow self.now.input.now pos.old pos.new result }
-        ensures boundary { IsCharBoundary self.now.input.now pos.new }
-        ensures token { GivesTokenOf self.now.input.now result }
-    {
-        let text = self.input.as_bytes();
-        let offset = *pos;
-        if offset == text.len() {
-            return Ok(None);
-        }
-        let opened = is_opened(text, offset);
-        match scan(text, offset, self.allow, opened) {
-            Ok((kind, end)) => {
-                *pos = end;
-                Ok(Some(Token {
-                    kind,
-                    offset,
-                    len: (end - offset) as u32,
-                }))
-            }
-            Err(error) => Err(LexFault::Lex {
-                span: Span::from_offset(offset),
-                error,
-            }),
-        }
-    }
-
-    /// The annotation at a position, where `@` stands there right after `(`.
-    pub fn annotation(&self, pos: usize) -> Result<Option<Token>, LexFault>
-        requires { IsCharBoundary self.now.input.now pos }
-        ensures answers { is_marked self.now.input.now pos ≡ true → (to : ℕ) × Answers self.now.allow self.now.input.now pos to result }
-        ensures nothing { is_marked self.now.input.now pos ≡ false → result ≡ Ok None }
-        ensures token { GivesTokenOf self.now.input.now result }
-    {
-        if !is_marked(self.input.as_bytes(), pos) {
-            return Ok(None);
-        }
-        let mut at = pos;
-        self.parse(&mut at)
-    }
-
-    /// The tokens from a position on, up to the end or the first fault.
-    pub fn iter(&self, pos: usize) -> Tokens<'a>
-        requires { IsCharBoundary self.now.input.now pos }
-        ensures input { result.lexer.input.now ≡ self.now.input.now }
-        ensures allow { result.lexer.allow ≡ self.now.allow }
-        ensures pos { result.pos ≡ pos }
-        ensures goes_on { result.stopped ≡ false }
-    {
-        Tokens {
-            lexer: *self,
-            pos,
-            stopped: false,
-        }
-    }
-}
-
-/// Whether a `@` stands at a place, right after `(`.
-fn is_marked(text: &[u8], at: usize) -> bool
-    requires { at ≤ length text.now }
-    ensures { result ≡ is_marked text.now at }
-{
-    is_opened(text, at) && at < text.len() && text[at] == b'@'
-}
-
-/// Whether a `(` stands right before a place.
-fn is_opened(text: &[u8], at: usize) -> bool
-    requires { at ≤ length text.now }
-    ensures { result ≡ is_opened text.now at }
-{
-    0 < at && text[at - 1] == b'('
+/// The tokens of a text from a position on. It ends after its first fault.
+#[derive(Clone, Copy)]
+pub struct Tokens<'a> {
+    pub(crate) lexer: Lexer<'a>,
+    pub(crate) pos: usize,
+    pub(crate) stopped: bool,
+    ghost boundary: { IsCharBoundary lexer.input.now pos },
 }

@@ -4,14 +4,14 @@ ghost use Rattle.std.specs.Prelude.{IsOk, IsOkAnd, ◌≡◌, ◌≢◌, ◌≤�
 ghost use Rattle.std.specs.Str.{IsUtf8};
 ghost use Rattle.std.specs.Cow.{cow_str_bytes, IsBorrowedStr};
 ghost use Rattle.wast_lexer_strings.specs.Strings.{IsString};
-ghost use Rattle.wast_lexer_numbers.specs.Readings.{IsIntegerOf, IsFloatOf};
+ghost use Rattle.wast_lexer_numbers.specs.NumberParts.{IsIntegerOf, IsFloatOf};
 ghost use Rattle.wast_lexer.specs.declared.token.TokenKind.TheVariants as kinds;
 ghost use Rattle.wast_lexer.specs.declared.token.TokenKind.TheVariants.{String, Id, Keyword, Annotation, Reserved};
 ghost use Rattle.wast_lexer.specs.Kinds.{is_name, IsNameOf, IsIdOf, IsAnnotationOf};
-ghost use Rattle.wast_lexer.specs.Readers.{IsOf, text_of, is_plain, IsIdFault, IsRefusal};
+ghost use Rattle.wast_lexer.specs.TokenText.{IsOf, text_of, is_plain, IsIdFault, IsRefusal};
 
 use crate::fault::LexFault;
-use crate::run::is_quote_at;
+use crate::word::is_quote_at;
 use crate::span::Span;
 use crate::token::Token;
 use std::alloc::{AllocError, Global};
@@ -31,7 +31,7 @@ impl Token {
 
     /// The word that a keyword is.
     pub fn keyword<'a>(&self, text: &'a str) -> &'a str
-        requires own { IsOf text.now self.now }
+        requires of_text { IsOf text.now self.now }
         requires kind { self.now.kind ≡ Keyword }
         ensures { result.now ≡ text_of text.now self.now }
     {
@@ -40,7 +40,7 @@ impl Token {
 
     /// The text of a reserved token.
     pub fn reserved<'a>(&self, text: &'a str) -> &'a str
-        requires own { IsOf text.now self.now }
+        requires of_text { IsOf text.now self.now }
         requires kind { self.now.kind ≡ Reserved }
         ensures { result.now ≡ text_of text.now self.now }
     {
@@ -49,7 +49,7 @@ impl Token {
 
     /// The bytes that a string stands for, borrowed where nothing is escaped: no memory is then wanted.
     pub fn string<'a>(&self, alloc: Global, text: &'a str) -> Result<Bytes<'a>, AllocError>
-        requires own { IsOf text.now self.now }
+        requires of_text { IsOf text.now self.now }
         requires kind { self.now.kind ≡ String }
         ensures value { IfOk result (λ b. IsString (text_of text.now self.now) b) }
         ensures plain { is_plain (text_of text.now self.now) ≡ true → IsOk result }
@@ -67,7 +67,7 @@ impl Token {
     /// Refused as [`LexError::EmptyId`] or [`LexError::InvalidUtf8Id`], at the token's place, where what stands there is
     /// no such text.
     pub fn id<'a>(&self, alloc: Global, text: &'a str) -> Result<CowStr<'a, Global>, LexFault>
-        requires own { IsOf text.now self.now }
+        requires of_text { IsOf text.now self.now }
         requires kind { self.now.kind ≡ Id }
         ensures ok { IfOk result (λ v. IsIdOf (text_of text.now self.now) (cow_str_bytes v) × (cow_str_bytes v ≢ []) × IsUtf8 (cow_str_bytes v)) }
         ensures err { IfErr result (IsIdFault (text_of text.now self.now) self.now.offset) }
@@ -92,7 +92,7 @@ impl Token {
         alloc: Global,
         text: &'a str,
     ) -> Result<CowStr<'a, Global>, AllocError>
-        requires own { IsOf text.now self.now }
+        requires of_text { IsOf text.now self.now }
         requires kind { self.now.kind ≡ Annotation }
         ensures ok { IfOk result (λ v. IsAnnotationOf (text_of text.now self.now) (cow_str_bytes v)) }
         ensures borrowed { is_plain (text_of text.now self.now) ≡ true → IsOkAnd result IsBorrowedStr }
@@ -106,7 +106,7 @@ impl Token {
 
     /// The parts of an integer.
     pub fn integer<'a>(&self, text: &'a str, kind: IntegerKind) -> Integer<'a>
-        requires own { IsOf text.now self.now }
+        requires of_text { IsOf text.now self.now }
         requires kind { self.now.kind ≡ kinds.Integer kind }
         ensures { IsIntegerOf (text_of text.now self.now) result }
     {
@@ -115,7 +115,7 @@ impl Token {
 
     /// The parts of a float.
     pub fn float<'a>(&self, text: &'a str, kind: FloatKind) -> Float<'a>
-        requires own { IsOf text.now self.now }
+        requires of_text { IsOf text.now self.now }
         requires kind { self.now.kind ≡ kinds.Float kind }
         ensures { IsFloatOf (text_of text.now self.now) result }
     {

@@ -5,7 +5,7 @@ ghost use Rattle.wast_lexer.specs.Scan.{FindsToken, next};
 ghost use Rattle.wast_lexer.specs.Kinds.{is_space, is_mark};
 
 use crate::comment::{block_end, comment, is_semicolon_at};
-use crate::run::{goes_on, scan_run};
+use crate::word::{goes_on, scan_word};
 use crate::skip::{find_either, space_end};
 use crate::token::TokenKind;
 use wast_lexer_strings::LexError;
@@ -32,7 +32,7 @@ pub(crate) fn scan(
     } else if is_mark(byte) {
         Ok((TokenKind::Reserved, at + 1))
     } else if goes_on(byte) {
-        scan_run(text, at, allow, opened)
+        scan_word(text, at, allow, opened)
     } else {
         Err(LexError::Unexpected)
     }
@@ -46,7 +46,7 @@ fn scan_open(
     opened: bool,
 ) -> Result<(TokenKind, usize), LexError>
     requires inside { at < length text.now }
-    requires here { slice_index text.now at ≡ 40 }
+    requires opens { slice_index text.now at ≡ 40 }
     ensures { FindsToken result text.now at (next allow opened (drop at text.now)) }
 {
     if !is_semicolon_at(text, at + 1) {
@@ -66,7 +66,7 @@ fn scan_semicolon(
     opened: bool,
 ) -> Result<(TokenKind, usize), LexError>
     requires inside { at < length text.now }
-    requires here { slice_index text.now at ≡ 59 }
+    requires semicolon { slice_index text.now at ≡ 59 }
     ensures { FindsToken result text.now at (next allow opened (drop at text.now)) }
 {
     if !is_semicolon_at(text, at + 1) {

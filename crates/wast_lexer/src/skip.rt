@@ -4,7 +4,7 @@ ghost use Rattle.std.specs.Prelude.{◌≡◌, ◌≤◌, ℕ, length, drop};
 ghost use Rattle.wast_lexer.specs.Kinds.{is_space, is_idchar};
 ghost use Rattle.wast_lexer.specs.Scan.{skip, is_neither};
 
-use crate::run::is_idchar;
+use crate::word::is_idchar;
 use crate::scan::is_space;
 use memchr::memchr2;
 
@@ -12,8 +12,8 @@ use memchr::memchr2;
 #[tactic(auto, using(crate::proofs::Searches::skips))]
 pub(crate) fn space_end(text: &[u8], from: usize) -> usize
     requires { from ≤ length text.now }
-    ensures low { from ≤ result }
-    ensures high { result ≤ length text.now }
+    ensures forward { from ≤ result }
+    ensures within { result ≤ length text.now }
     ensures rest { drop result text.now ≡ skip is_space (drop from text.now) }
 {
     let mut end = from;
@@ -27,8 +27,8 @@ pub(crate) fn space_end(text: &[u8], from: usize) -> usize
 #[tactic(auto, using(crate::proofs::Searches::skips))]
 pub(crate) fn name_end(text: &[u8], from: usize) -> usize
     requires { from ≤ length text.now }
-    ensures low { from ≤ result }
-    ensures high { result ≤ length text.now }
+    ensures forward { from ≤ result }
+    ensures within { result ≤ length text.now }
     ensures rest { drop result text.now ≡ skip is_idchar (drop from text.now) }
 {
     let mut end = from;
@@ -41,8 +41,8 @@ pub(crate) fn name_end(text: &[u8], from: usize) -> usize
 /// The first place from here on of one of two bytes, or the end.
 pub(crate) fn find_either(text: &[u8], from: usize, a: u8, b: u8) -> usize
     requires { from ≤ length text.now }
-    ensures low { from ≤ result }
-    ensures high { result ≤ length text.now }
+    ensures forward { from ≤ result }
+    ensures within { result ≤ length text.now }
     ensures rest { drop result text.now ≡ skip (is_neither a b) (drop from text.now) }
 {
     match memchr2(a, b, &text[from..]) {

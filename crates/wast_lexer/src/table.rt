@@ -4,7 +4,7 @@ ghost use Rattle.std.specs.Prelude.{◌≡◌, ◌≤◌, ◌<◌, ◌+◌, ◌^
 ghost use Rattle.std.specs.List.{All};
 ghost use Rattle.wast_lexer.specs.Groups.{parens, IsGroupAt};
 ghost use Rattle.wast_lexer.specs.Levels.{Ends};
-ghost use Rattle.wast_lexer.specs.Readers.{IsOf};
+ghost use Rattle.wast_lexer.specs.TokenText.{IsOf};
 ghost use Rattle.wast_lexer.specs.Table.{IsTable};
 
 use crate::fault::LexFault;

@@ -19,7 +19,7 @@ pub enum TokenKind {
     Keyword,
     /// `@` and characters, or `@` and a string, right after `(`.
     Annotation,
-    /// A run that is nothing else, or one of `,` `;` `[` `]` `{` `}`.
+    /// A word that is nothing else, or one of `,` `;` `[` `]` `{` `}`.
     Reserved,
     Integer(IntegerKind),
     Float(FloatKind),

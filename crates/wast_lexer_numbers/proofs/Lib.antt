@@ -1,4 +1,4 @@
 pub mod DigitLaws
 pub mod NumberLaws
 pub mod ByteLaws
-pub mod ReadingLaws
+pub mod NumberPartsLaws

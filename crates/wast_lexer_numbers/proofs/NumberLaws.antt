@@ -12,7 +12,7 @@ use Rattle.wast_lexer_numbers.specs.declared.kind.NumberKind.{NumberKind}
 use Rattle.wast_lexer_numbers.specs.declared.kind.NumberKind.TheVariants.{Integer, Float}
 use Rattle.wast_lexer_numbers.specs.Numbers.{is_digit, is_base, is_power, Digits, sign_text, base_text, Parts, IsFraction, IsExponent, IsMagnitude, is_float, inf, nan, nan_prefix, IsUnsigned, IsNumber}
 use Rattle.wast_lexer_numbers.specs.Numbers.Digits.{Last, Next, Gap}
-use Rattle.wast_lexer_numbers.specs.Readings.{exponent_of}
+use Rattle.wast_lexer_numbers.specs.FloatSteps.{exponent_of}
 use Rattle.wast_lexer_numbers.specs.NumberScan.{begins_number, after, prefixed, sign_of, unsigned, is_all, ends_power, power_after, ends_fraction, float_if, kind_after, magnitude, nan_if, based, payload, body, number}
 use Rattle.wast_lexer_numbers.proofs.DigitLaws.{digits_scanned, scanned_digits, eq_of}
 

@@ -1,4 +1,5 @@
 pub mod Numbers
-pub mod Readings
+pub mod NumberParts
 pub mod NumberScan
+pub mod FloatSteps
 pub mod Laws

@@ -1,5 +1,4 @@
--- The scan of a number. It says what the private functions of the lexer do, and is no part of any promise: the laws tie
--- it to numbers.
+-- The scan of a number, from left to right. The call `number` answers by it; the law `scans_numbers` ties it to numbers.
 use Rattle.std.specs.Prelude.{if◌then◌else◌, Option, Some, None, ℕ, Bool, true, false, ◌&&◌, ◌||◌, ◌==◌, nat_le, List, [], ◌∷◌}
 use Rattle.wast_lexer_numbers.specs.declared.kind.SignToken.{SignToken}
 use Rattle.wast_lexer_numbers.specs.declared.kind.SignToken.TheVariants.{Plus, Minus}

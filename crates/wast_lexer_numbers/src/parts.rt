@@ -1,6 +1,7 @@
 //! The parts of a number, as they are written.
 
 ghost use Rattle.std.specs.Prelude.{◌≡◌, if◌then◌else◌};
+ghost use Rattle.wast_lexer_numbers.specs.NumberParts.{integer_sign, integer_digits, is_hexadecimal};
 
 use crate::kind::SignToken;
 
@@ -13,16 +14,17 @@ pub struct Integer<'a> {
 }
 
 impl<'a> Integer<'a> {
+    /// The sign, where one is written.
     pub fn sign(&self) -> Option<SignToken>
-        ensures { result ≡ self.now.sign }
+        ensures { result ≡ integer_sign self.now }
     {
         self.sign
     }
 
-    /// The digits, with each `_` among them, and their base.
+    /// The digits as they are written, with each `_` among them, and their base: 10 or 16.
     pub fn val(&self) -> (&'a str, u32)
-        ensures digits { result.0.now ≡ self.now.digits.now }
-        ensures base { result.1 ≡ (if self.now.hex then 16 else 10) }
+        ensures digits { result.0.now ≡ integer_digits self.now }
+        ensures base { result.1 ≡ (if is_hexadecimal self.now then 16 else 10) }
     {
         (self.digits, if self.hex { 16 } else { 10 })
     }

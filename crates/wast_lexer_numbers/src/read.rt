@@ -5,7 +5,8 @@ ghost use Rattle.std.specs.List.{list_all};
 ghost use Rattle.wast_lexer_numbers.specs.declared.kind.FloatKind.TheVariants.{Normal};
 ghost use Rattle.wast_lexer_numbers.specs.declared.kind.NumberKind.TheVariants as kinds;
 ghost use Rattle.wast_lexer_numbers.specs.Numbers.{IsNumber, Digits, sign_text};
-ghost use Rattle.wast_lexer_numbers.specs.Readings.{IsIntegerOf, IsFloatOf, IsValOf, IsTailOf, text_now, is_ascii, exponent_of, is_point_first};
+ghost use Rattle.wast_lexer_numbers.specs.NumberParts.{IsIntegerOf, IsFloatOf, text_now};
+ghost use Rattle.wast_lexer_numbers.specs.FloatSteps.{IsValOf, IsTailOf, is_ascii, exponent_of, is_point_first};
 ghost use Rattle.wast_lexer_numbers.specs.NumberScan.{after, magnitude, ends_fraction, body};
 
 use crate::kind::{FloatKind, IntegerKind, SignToken};

@@ -10,7 +10,7 @@ use Rattle.wast_lexer_strings.specs.declared.piece.Piece.TheVariants.{Byte, Char
 use Rattle.wast_lexer_strings.specs.StringScan.{meant}
 use Rattle.std.proofs.lemmas.Bool.{cases_Bool}
 use Rattle.std.proofs.lemmas.Str.{IsUtf8-from_is_utf8, is_utf8-from_IsUtf8}
-use Rattle.wast_lexer_strings.proofs.StringReading.{more_more, cell}
+use Rattle.wast_lexer_strings.proofs.StringScanLaws.{more_more, cell}
 use Rattle.simdutf8.specs.Steps.{IsClosed}
 use Rattle.simdutf8.proofs.Chars.{StepsThen-IsUtf8}
 use Rattle.wast_lexer_strings.specs.declared.utf8.Tail.{Tail}

@@ -50,9 +50,6 @@ hex_not c h = grind (arith, nat_tests)
 number_on : (m c : ℕ) (ds : List ℕ) (n : ℕ) → is_hex c ≡ true → 16 * m + hex_value c ≡ n → number m (c ∷ ds) ≡ number n ds
 number_on m c ds n h e = rw (number, hex_not c h) (ap (λ k. number k ds) e)
 
-number_gap : (n : ℕ) (ds : List ℕ) → number n (95 ∷ ds) ≡ number n ds
-number_gap n ds = refl
-
 digits_on : (c : ℕ) (ds : List ℕ) → is_hex c ≡ true → (ds ≡ [] → ⊥) → is_digits ds ≡ true → is_digits (c ∷ ds) ≡ true
 digits_on c [] h some are = absurd (some refl)
 digits_on c (d ∷ []) h some are = rw (is_digits, h, hex_not d are) are

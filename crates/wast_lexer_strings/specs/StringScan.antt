@@ -1,5 +1,5 @@
--- The scan that reads a string byte by byte. It says what the private functions of the lexer do; the laws tie it to
--- strings.
+-- The scan that reads a string byte by byte. The calls `string_end` and `is_text` answer by it; the law `one_meaning` ties
+-- it to strings.
 use Rattle.std.specs.Prelude.{if◌then◌else◌, Option, Some, None, nat_lt, ◌+◌, ◌*◌, ◌≡◌, ℕ, ◌<◌, ◌≤◌, Bool, true, false, not, ◌&&◌, ◌==◌, List, [], ◌∷◌, ◌++◌, length, drop, encode_utf8, Result, Ok, Err}
 use Rattle.std.specs.Str.{is_utf8}
 use Rattle.wast_lexer_strings.specs.declared.piece.Piece.{Piece}

@@ -1,6 +1,6 @@
 //! What the lexer says of a text.
 
-ghost use Rattle.wast_lexer.specs.Readers.{IsOf};
+ghost use Rattle.wast_lexer.specs.TokenText.{IsOf};
 
 use std::alloc::Global;
 use std::borrow::CowStr;

@@ -1,6 +1,6 @@
 //! Tests of the lexer.
 ghost use Rattle.std.specs.Prelude.{◌≡◌, ◌<◌, ◌^◌, IfSome, length};
-ghost use Rattle.wast_lexer.specs.Readers.{GivesTokenOf};
+ghost use Rattle.wast_lexer.specs.TokenText.{GivesTokenOf};
 
 use std::alloc::{AllocError, Global};
 use std::test::Fail;

@@ -35,5 +35,5 @@ returns-else-next c =
     let n = parens_length c.args.tokens.now in
     let known = c.requires.known (c.args.at + 1) (omega arith) (omega (arith, n, c.requires.inside)) in
     let s = open_some ts c.args.at _ (omega (arith, n, c.requires.inside)) (omega (arith, n, c.requires.fits)) (paren_at c.args.tokens.now c.args.at _ Opens c.requires.inside c.in-Opens.ensures) known c.if-next.false in
-    let low : c.args.at + 1 ≤ get_or c.args.ends.now (c.args.at + 1) 0 + 1 = omega (arith, known_low ts c.args.at _ known c.if-next.false) in
-    c.requires.known (get_or c.args.ends.now (c.args.at + 1) 0 + 1) low (omega (arith, s.0)) ∙ sym s.1
+    let forward : c.args.at + 1 ≤ get_or c.args.ends.now (c.args.at + 1) 0 + 1 = omega (arith, known_low ts c.args.at _ known c.if-next.false) in
+    c.requires.known (get_or c.args.ends.now (c.args.at + 1) 0 + 1) forward (omega (arith, s.0)) ∙ sym s.1

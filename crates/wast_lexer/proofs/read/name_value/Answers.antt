@@ -1,7 +1,7 @@
 use Rattle.std.proofs.Common.{sym, ap, subst, inr}
 use Rattle.std.proofs.lemmas.Str.{IsUtf8-string_bytes}
 use Rattle.wast_lexer_strings.specs.Strings.{IsString}
-use Rattle.wast_lexer.proofs.ReaderLaws.{quote_cut, name_string, plain_is}
+use Rattle.wast_lexer.proofs.TokenTextLaws.{quote_cut, name_string, plain_is}
 use Rattle.wast_lexer.proofs.read.name_value.Goals as goal
 
 pub range-requires-clause-start_boundary : goal.range-requires-clause-start_boundary

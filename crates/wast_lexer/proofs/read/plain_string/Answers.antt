@@ -1,5 +1,5 @@
 use Rattle.std.proofs.Common.{sym}
-use Rattle.wast_lexer.proofs.ReaderLaws.{plain_is}
+use Rattle.wast_lexer.proofs.TokenTextLaws.{plain_is}
 use Rattle.wast_lexer.proofs.read.plain_string.Goals as goal
 
 pub returns-then-is_plain : goal.returns-then-is_plain

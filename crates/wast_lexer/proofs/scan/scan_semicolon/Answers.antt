@@ -6,4 +6,4 @@ use Rattle.wast_lexer.proofs.CommentSteps.{next_line}
 use Rattle.wast_lexer.proofs.scan.scan_semicolon.Goals as goal
 
 pub returns : goal.returns
-returns c = subst (FindsToken c.comment.result c.args.text.now c.args.at) (sym (next_line c.args.allow c.args.opened c.args.text.now c.args.at c.requires.inside c.requires.here c.if-not-is_semicolon_at.ensures.value ∙ ap (λ (y : List ℕ). comment c.args.allow LineComment (drop c.args.at c.args.text.now) (Some y)) (sym c.find_either-end.ensures.rest))) c.comment.ensures
+returns c = subst (FindsToken c.comment.result c.args.text.now c.args.at) (sym (next_line c.args.allow c.args.opened c.args.text.now c.args.at c.requires.inside c.requires.semicolon c.if-not-is_semicolon_at.ensures.value ∙ ap (λ (y : List ℕ). comment c.args.allow LineComment (drop c.args.at c.args.text.now) (Some y)) (sym c.find_either-end.ensures.rest))) c.comment.ensures

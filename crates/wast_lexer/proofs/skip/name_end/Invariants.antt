@@ -4,7 +4,7 @@ use Rattle.wast_lexer.specs.Scan.{skip}
 use Rattle.wast_lexer.proofs.skip.name_end.Given as goal
 
 abbrev pub invariant-loop-end : goal.invariant-loop-end
-invariant-loop-end l = record { low : l.from ≤ l.end; high : l.end ≤ length l.text; rest : skip is_idchar (drop l.from l.text) ≡ skip is_idchar (drop l.end l.text) }
+invariant-loop-end l = record { forward : l.from ≤ l.end; within : l.end ≤ length l.text; rest : skip is_idchar (drop l.from l.text) ≡ skip is_idchar (drop l.end l.text) }
 
 abbrev pub decreases-loop-end : goal.decreases-loop-end
 decreases-loop-end l = length l.text - l.end

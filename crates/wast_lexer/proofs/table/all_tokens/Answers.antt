@@ -4,7 +4,7 @@ use Rattle.std.proofs.lemmas.List.{drop_all, length-append}
 use Rattle.wast_lexer.specs.Lexeme.{lexeme_of}
 use Rattle.wast_lexer.specs.Tiling.{TilesUpTo}
 use Rattle.wast_lexer.specs.Parse.{is_opened}
-use Rattle.wast_lexer.specs.Readers.{IsOf}
+use Rattle.wast_lexer.specs.TokenText.{IsOf}
 use Rattle.wast_lexer.proofs.TableLaws.{tiles_all, table_more, all_more, all_none, token_moves}
 use Rattle.wast_lexer.proofs.table.all_tokens.Goals as goal
 

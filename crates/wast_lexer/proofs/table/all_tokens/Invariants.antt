@@ -4,7 +4,7 @@ use Rattle.std.specs.Str.{IsCharBoundary}
 use Rattle.wast_lexer.specs.Lexeme.{lexeme_of}
 use Rattle.wast_lexer.specs.Tiling.{TilesUpTo}
 use Rattle.wast_lexer.specs.Parse.{is_opened}
-use Rattle.wast_lexer.specs.Readers.{IsOf}
+use Rattle.wast_lexer.specs.TokenText.{IsOf}
 use Rattle.wast_lexer.proofs.table.all_tokens.Given as goal
 
 abbrev pub invariant-tokens : goal.invariant-tokens

@@ -4,9 +4,10 @@ use Rattle.wast_lexer_numbers.specs.declared.kind.FloatKind.{FloatKind}
 use Rattle.wast_lexer_numbers.specs.declared.kind.NumberKind.{NumberKind}
 use Rattle.wast_lexer_numbers.specs.declared.kind.NumberKind.TheVariants.{Float}
 use Rattle.wast_lexer_numbers.specs.Numbers.{sign_text}
-use Rattle.wast_lexer_numbers.specs.Readings.{IsFloatOf, is_ascii}
+use Rattle.wast_lexer_numbers.specs.NumberParts.{IsFloatOf}
+use Rattle.wast_lexer_numbers.specs.FloatSteps.{is_ascii}
 use Rattle.wast_lexer_numbers.specs.NumberScan.{body, sign_of, unsigned}
-use Rattle.wast_lexer_numbers.proofs.ReadingLaws.{body_of}
+use Rattle.wast_lexer_numbers.proofs.NumberPartsLaws.{body_of}
 use Rattle.wast_lexer_numbers.proofs.read.float.Goals as goal
 
 pub normal-requires-clause-ascii : goal.normal-requires-clause-ascii

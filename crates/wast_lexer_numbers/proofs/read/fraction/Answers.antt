@@ -1,7 +1,7 @@
 use Rattle.std.proofs.Common.{sym, ap, subst, inl, inr, ◌++◌, List, ℕ}
 use Rattle.wast_lexer_numbers.specs.Numbers.{IsExponent}
 use Rattle.wast_lexer_numbers.proofs.NumberLaws.{exponent_is}
-use Rattle.wast_lexer_numbers.proofs.ReadingLaws.{fraction_tail}
+use Rattle.wast_lexer_numbers.proofs.NumberPartsLaws.{fraction_tail}
 use Rattle.wast_lexer_numbers.proofs.read.fraction.Goals as goal
 
 pub returns-then-ends_power : goal.returns-then-ends_power

@@ -1,4 +1,4 @@
-use Rattle.wast_lexer_numbers.proofs.ReadingLaws.{normal_based, based_of}
+use Rattle.wast_lexer_numbers.proofs.NumberPartsLaws.{normal_based, based_of}
 use Rattle.wast_lexer_numbers.proofs.read.normal.Goals as goal
 
 pub value-requires-clause-float : goal.value-requires-clause-float

@@ -1,8 +1,8 @@
 use Rattle.std.proofs.Common.{sym, ◌∙◌, ap, subst, take, length, ◌-◌}
 use Rattle.std.specs.List.{list_all}
 use Rattle.wast_lexer_numbers.specs.Numbers.{Digits}
-use Rattle.wast_lexer_numbers.specs.Readings.{is_ascii}
-use Rattle.wast_lexer_numbers.proofs.ReadingLaws.{digits_cut, front_is, all_behind}
+use Rattle.wast_lexer_numbers.specs.FloatSteps.{is_ascii}
+use Rattle.wast_lexer_numbers.proofs.NumberPartsLaws.{digits_cut, front_is, all_behind}
 use Rattle.wast_lexer_numbers.proofs.read.split_digits.Goals as goal
 
 pub overflow_sub-at : goal.overflow_sub-at

@@ -2,7 +2,7 @@ use Rattle.std.proofs.Common.{◌≡◌, sym, subst, refl, true, []}
 use Rattle.wast_lexer_numbers.specs.Numbers.{IsExponent}
 use Rattle.wast_lexer_numbers.specs.NumberScan.{ends_fraction}
 use Rattle.wast_lexer_numbers.proofs.NumberLaws.{exponent_is}
-use Rattle.wast_lexer_numbers.proofs.ReadingLaws.{value_fraction, value_exponent}
+use Rattle.wast_lexer_numbers.proofs.NumberPartsLaws.{value_fraction, value_exponent}
 use Rattle.wast_lexer_numbers.proofs.read.value.Goals as goal
 
 pub fraction-requires-clause-fraction : goal.fraction-requires-clause-fraction

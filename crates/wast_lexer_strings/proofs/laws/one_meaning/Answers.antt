@@ -1,4 +1,4 @@
-use Rattle.wast_lexer_strings.proofs.StringReading.{string_read}
+use Rattle.wast_lexer_strings.proofs.StringScanLaws.{string_read}
 use Rattle.wast_lexer_strings.proofs.Sound.{read_sound}
 use Rattle.wast_lexer_strings.specs.StringScan.State.{Within}
 use Rattle.wast_lexer_strings.proofs.laws.one_meaning.Goals as goal

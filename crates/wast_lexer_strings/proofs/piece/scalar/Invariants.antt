@@ -1,7 +1,7 @@
 use Rattle.std.proofs.Common.{length, ◌-◌, ◌≡◌, ◌≤◌, ◌<◌, drop}
 use Rattle.wast_lexer_strings.specs.StringScan.{read}
 use Rattle.wast_lexer_strings.specs.StringScan.State.{Gap}
-use Rattle.wast_lexer_strings.proofs.StringReading.{spelled}
+use Rattle.wast_lexer_strings.proofs.StringScanLaws.{spelled}
 use Rattle.wast_lexer_strings.proofs.piece.scalar.Given as goal
 
 abbrev pub invariant-digits : goal.invariant-digits

@@ -1,7 +1,7 @@
 use Rattle.std.proofs.Common.{sym, ap}
 use Rattle.std.proofs.lemmas.List.{drop_all}
 use Rattle.wast_lexer_strings.specs.StringScan.{is_empty}
-use Rattle.wast_lexer_strings.proofs.StringReading.{cell}
+use Rattle.wast_lexer_strings.proofs.StringScanLaws.{cell}
 use Rattle.wast_lexer_strings.proofs.string.is_end.Goals as goal
 
 pub returns-then-at-text : goal.returns-then-at-text

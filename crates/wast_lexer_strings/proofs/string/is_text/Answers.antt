@@ -1,7 +1,7 @@
 use Rattle.std.proofs.Common.{arith, refl, sym, ap, ◌∙◌, []}
 use Rattle.std.specs.Prelude.{◌&&◌}
 use Rattle.wast_lexer_strings.specs.StringScan.{meant}
-use Rattle.wast_lexer_strings.proofs.StringReading.{more_none}
+use Rattle.wast_lexer_strings.proofs.StringScanLaws.{more_none}
 use Rattle.wast_lexer_strings.proofs.Following.{begin, turn, fails, at_quote, meant_some}
 use Rattle.wast_lexer_strings.proofs.string.is_text.Goals as goal
 

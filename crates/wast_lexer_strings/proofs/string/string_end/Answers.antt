@@ -1,6 +1,6 @@
 use Rattle.std.proofs.Common.{◌++◌, ap, ◌∙◌, arith}
 use Rattle.wast_lexer_strings.specs.StringScan.{more, meant}
-use Rattle.wast_lexer_strings.proofs.StringReading.{more_more}
+use Rattle.wast_lexer_strings.proofs.StringScanLaws.{more_more}
 use Rattle.wast_lexer_strings.proofs.string.string_end.Goals as goal
 
 pub elements-preserved : goal.elements-preserved

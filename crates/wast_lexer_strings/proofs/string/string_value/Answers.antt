@@ -1,5 +1,5 @@
 use Rattle.std.proofs.Common.{arith}
-use Rattle.wast_lexer_strings.proofs.StringReading.{not_read, all_read, past_read}
+use Rattle.wast_lexer_strings.proofs.StringScanLaws.{not_read, all_read, past_read}
 use Rattle.wast_lexer_strings.proofs.string.string_value.Goals.{then-elements-test+else-word-at-ne34, else-elements-test}
 use Rattle.wast_lexer_strings.proofs.string.string_value.Goals as goal
 

@@ -1,8 +1,0 @@
-use Rattle.std.proofs.Common.{arith, ◌<◌, length, false-eqb}
-use Rattle.wast_lexer.proofs.RunSteps.{name_is}
-use Rattle.wast_lexer.proofs.run.is_name.Goals as goal
-
-pub returns-then-not-is_empty : goal.returns-then-not-is_empty
-returns-then-not-is_empty c =
-    let some : 0 < length c.args.word.now = omega (arith, false-eqb _ 0 c.if-not-is_empty.ensures) in
-    name_is c.args.word.now c.name_end.result some c.name_end.ensures.high c.name_end.ensures.rest
