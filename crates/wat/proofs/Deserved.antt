@@ -5,11 +5,11 @@ use Rattle.wat.specs.declared.fault.Fault.{Fault}
 use Rattle.wat.specs.declared.fault.Fault.TheVariants as faults
 use Rattle.wat_profile.specs.Complaint.{Complaint}
 use Rattle.wat_profile.specs.Tree.{Module}
-use Rattle.wat_profile.specs.Meaning.{meant}
+use Rattle.wat_profile.specs.StandsFor.{meant}
 use Rattle.wat_profile.specs.Means.{Spells}
 use Rattle.wat_profile.specs.Layout.{Lays, Fits}
 use Rattle.wat.specs.Headline.{TooLong, NotUtf8, Fails, Accepts, Assembles, Deserves}
-use Rattle.wat.specs.Answering.{IsNoText}
+use Rattle.wat.specs.NoText.{IsNoText}
 use Rattle.wat.proofs.Verdict.{one_condition}
 
 -- a text that spells no tree
@@ -28,18 +28,6 @@ no_text bytes (faults.Uncovered span form) t = t
 no_text bytes faults.TooLarge t = absurd t
 no_text bytes (faults.Write written) t = t
 
-pub told_too_long : (bytes : List ℕ) (f : Fault) → IsNoText bytes f → Fails bytes TooLong → f ≡ faults.TooLong
-told_too_long bytes faults.TooLong t h = refl
-told_too_long bytes (faults.NotUtf8 offset) t h = absurd (let short = t.0 in omega arith)
-told_too_long bytes (faults.Spelling error) t h = absurd t
-told_too_long bytes faults.Memory t h = absurd t
-told_too_long bytes faults.Read t h = absurd t
-told_too_long bytes (faults.NotWellFormed span) t h = absurd t
-told_too_long bytes (faults.Unmet error) t h = absurd t
-told_too_long bytes (faults.Uncovered span form) t h = absurd t
-told_too_long bytes faults.TooLarge t h = absurd t
-told_too_long bytes (faults.Write written) t h = absurd t
-
 not_utf8_of : (m n : ℕ) → NotUtf8 m ≡ NotUtf8 n → m ≡ n
 not_utf8_of m n e = cc
 
@@ -56,7 +44,7 @@ told_not_utf8 bytes faults.TooLarge n t h = absurd t
 told_not_utf8 bytes (faults.Write written) n t h = absurd t
 
 pub accepted : (bytes : List ℕ) (tree : Module (List ℕ) ℕ) → length bytes < 2 ^ 32 → IsUtf8 bytes → Spells bytes tree → Accepts bytes (meant tree)
-accepted bytes tree short utf8 s = record { short = short; utf8 = utf8; means = record { tree = tree; spelled = s; meant = record { is_meant = refl } } }
+accepted bytes tree short utf8 s = record { short = short; utf8 = utf8; means = record { tree = tree; spelled = s; stands_for = record { is_meant = refl } } }
 
 pub assembled : (bytes binary : List ℕ) (tree : Module (List ℕ) ℕ) → length bytes < 2 ^ 32 → IsUtf8 bytes → Spells bytes tree → Lays binary (meant tree) → Assembles bytes binary
 assembled bytes binary tree short utf8 s lays = (meant tree, accepted bytes tree short utf8 s, record { lays = lays })

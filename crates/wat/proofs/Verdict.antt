@@ -1,15 +1,16 @@
 -- A text means one module, and an input deserves one verdict.
-use Rattle.std.proofs.Common.{ℕ, ◌≡◌, List, refl, sym, ap, ◌∙◌, arith, ⊎_elim}
-use Rattle.std.proofs.lemmas.Bool.{cases_lt}
-use Rattle.std.specs.Str.{IsValidUpTo}
+use Rattle.std.proofs.Common.{ℕ, zero, suc, true, false, [], ◌∷◌, ◌≡◌, ◌<◌, ◌≤◌, ◌^◌, List, length, take, refl, sym, ap, subst, ◌∙◌, arith, take_all, inl, inr, ⊎_elim}
+use Rattle.std.proofs.lemmas.Bool.{cases_lt, cases_Bool}
+use Rattle.std.proofs.lemmas.Str.{IsUtf8-nil, IsUtf8-from_is_utf8, is_utf8-from_IsUtf8}
+use Rattle.std.specs.Str.{IsUtf8, IsValidUpTo, is_utf8}
 use Rattle.wat_profile.specs.AbstractModule.{AbstractModule}
-use Rattle.wat_profile.specs.Meaning.{meant}
+use Rattle.wat_profile.specs.StandsFor.{meant}
 use Rattle.wat.specs.Headline.{Condition, TooLong, NotUtf8, Misspelled, Fails, Accepts, OneVerdict}
 use Rattle.wat.specs.Laws.{OneMeaning}
-use Rattle.wat_profile.proofs.Spelling.{one_spelling}
+use Rattle.wat_profile.proofs.OneSpelling.{one_spelling}
 
 pub one_meaning : OneMeaning
-one_meaning text m n x y = x.meant.is_meant ∙ ap meant (one_spelling text x.tree y.tree x.spelled y.spelled) ∙ sym y.meant.is_meant
+one_meaning text m n x y = x.stands_for.is_meant ∙ ap meant (one_spelling text x.tree y.tree x.spelled y.spelled) ∙ sym y.stands_for.is_meant
 
 one_length : (bytes : List ℕ) (m n : ℕ) → IsValidUpTo bytes m → IsValidUpTo bytes n → m ≡ n
 one_length bytes m n x y =
@@ -33,9 +34,56 @@ none_where_accepted bytes TooLong m x y = let short = y.short in omega arith
 none_where_accepted bytes (NotUtf8 n) m x y = x.1 y.utf8
 none_where_accepted bytes Misspelled m x y = x.2 y.means.tree y.means.spelled
 
+-- bytes are UTF-8 or not
+no_utf8 : (bytes : List ℕ) → is_utf8 bytes ≡ false → IsUtf8 bytes → ⊥
+no_utf8 bytes e u = let t : is_utf8 bytes ≡ true = is_utf8-from_IsUtf8 bytes u in absurd (cc (e, t))
+
+-- the longest front that is UTF-8, where none of so many bytes or more is
+record Longest (bytes : List ℕ) (k : ℕ) : Type 0 where
+  len : ℕ
+  below : len < k
+  front : IsUtf8 (take len bytes)
+  longest : (m : ℕ) → len < m → IsUtf8 (take m bytes) → ⊥
+
+take-none : (bytes : List ℕ) → take 0 bytes ≡ []
+take-none [] = refl
+take-none (b ∷ bytes) = refl
+
+longest_below : (bytes : List ℕ) (k : ℕ) → ((m : ℕ) → k ≤ m → IsUtf8 (take m bytes) → ⊥) → Longest bytes k
+longest_below bytes zero none = absurd (none 0 (omega arith) (subst IsUtf8 (sym (take-none bytes)) IsUtf8-nil))
+longest_below bytes (suc k) none = elim (cases_Bool (is_utf8 (take k bytes))) [
+  | inl y ↦ record { len = k; below = omega arith; front = IsUtf8-from_is_utf8 (take k bytes) y; longest = λ m l. none m (omega arith) }
+  | inr n ↦
+      let shorter = longest_below bytes k (λ m l u. ⊎_elim
+      (λ more. none m (omega arith) u)
+      (λ same. no_utf8 (take k bytes) n (let e : m ≡ k = omega arith in subst (λ j. IsUtf8 (take j bytes)) e u))
+      (cases_lt k m)) in
+      record { len = shorter.len; below = (let l = shorter.below in omega arith); front = shorter.front; longest = shorter.longest }
+]
+
+valid_up_to : (bytes : List ℕ) → (IsUtf8 bytes → ⊥) → (n : ℕ) × IsValidUpTo bytes n
+valid_up_to bytes none =
+    let l = longest_below bytes (length bytes) (λ m long u. none (subst IsUtf8 (take_all m bytes long) u)) in
+    (l.len, record { short = l.below; front = l.front; longest = l.longest })
+
+some_verdict : (bytes : List ℕ) → ((c : Condition) → Fails bytes c → ⊥) → ((m : AbstractModule (List ℕ)) → Accepts bytes m → ⊥) → ⊥
+some_verdict bytes fails accepts = ⊎_elim
+    (λ short. elim (cases_Bool (is_utf8 bytes)) [
+      | inl y ↦
+          let utf8 = IsUtf8-from_is_utf8 bytes y in
+          fails Misspelled (short, utf8, λ tree s. accepts (meant tree) (record { short = short; utf8 = utf8; means = record { tree = tree; spelled = s; stands_for = record { is_meant = refl } } }))
+      | inr n ↦
+          let none = no_utf8 bytes n in
+          let front = valid_up_to bytes none in
+          fails (NotUtf8 front.0) (short, none, front.1)
+    ])
+    (λ long. fails TooLong (omega (arith, long)))
+    (cases_lt (length bytes) (2 ^ 32))
+
 pub one_verdict : OneVerdict
 one_verdict = record {
   one_condition = one_condition;
   none_where_accepted = none_where_accepted;
   one_module = λ bytes m n x y. one_meaning bytes m n x.means y.means;
+  some_verdict = λ bytes none. some_verdict bytes none.0 none.1;
 }

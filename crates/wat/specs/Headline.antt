@@ -1,4 +1,8 @@
 -- What an input is worth: the first condition that it fails, or the module that it means; and which answer that is.
+-- More of the text format will add cases here: conditions, that a module isn't well formed, that a name or a type use doesn't
+-- stand for what it must, and that a form isn't written to binaries, each with its place, and their lines in `Deserves`; to
+-- `Accepts` the bytes that a `binary` module spells, by which no module is meant, and whose binary they are; and to
+-- `Assembles` the case of a custom section with a reserved name, of whose binary `Lays` alone is promised and not `Reads`.
 use Rattle.std.specs.Prelude.{ℕ, ◌≡◌, ◌<◌, ◌≤◌, ◌^◌, List, length}
 use Rattle.std.specs.Str.{IsUtf8, IsValidUpTo}
 use Rattle.wat_profile.specs.Tree.{Module}
@@ -51,8 +55,10 @@ Deserves bytes (faults.Unmet error) = ⊥
 Deserves bytes (faults.Uncovered span form) = ⊥
 Deserves bytes (faults.Write written) = ⊥
 
--- Of the conditions at most one is the first that fails; none is where the bytes mean a module; and they mean one at most.
+-- Of the conditions at most one is the first that fails; none is where the bytes mean a module; they mean one at most; and it
+-- can't be that no condition fails and no module is meant.
 pub record OneVerdict : Type 0 where
   pub one_condition : (bytes : List ℕ) (c d : Condition) → Fails bytes c → Fails bytes d → c ≡ d
   pub none_where_accepted : (bytes : List ℕ) (c : Condition) (m : AbstractModule (List ℕ)) → Fails bytes c → ¬ (Accepts bytes m)
   pub one_module : (bytes : List ℕ) (m n : AbstractModule (List ℕ)) → Accepts bytes m → Accepts bytes n → m ≡ n
+  pub some_verdict : (bytes : List ℕ) → ¬ (((c : Condition) → ¬ (Fails bytes c)) × ((m : AbstractModule (List ℕ)) → ¬ (Accepts bytes m)))

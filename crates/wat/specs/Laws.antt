@@ -2,7 +2,7 @@
 use Rattle.std.specs.Prelude.{ℕ, ◌≡◌, ◌↔◌, List}
 use Rattle.wasm_encoder_base.specs.Unique.{Unique, Any}
 use Rattle.wast_lexer.specs.Strings.{IsString}
-use Rattle.wat_profile.specs.Tokens.{Tok, string_value}
+use Rattle.wat_profile.specs.Tokens.{SignificantToken, string_value}
 use Rattle.wat_profile.specs.Tree.{Module}
 use Rattle.wat_profile.specs.Syntax.{module_syntax}
 use Rattle.wat_profile.specs.AbstractModule.{AbstractModule}
@@ -16,7 +16,7 @@ StringValue = (text bytes : List ℕ) → IsString text bytes → string_value t
 
 -- No tokens spell two modules, places included.
 abbrev pub OneTree : Type 0
-OneTree = (ts : List (Tok (List ℕ) ℕ)) (a b : Module (List ℕ) ℕ) → module_syntax.spells a ts → module_syntax.spells b ts → a ≡ b
+OneTree = (ts : List (SignificantToken (List ℕ) ℕ)) (a b : Module (List ℕ) ℕ) → module_syntax.spells a ts → module_syntax.spells b ts → a ≡ b
 
 -- No text means two modules.
 abbrev pub OneMeaning : Type 0

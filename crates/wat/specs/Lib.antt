@@ -1,6 +1,6 @@
-pub mod Answering
 pub mod Headline
 pub mod Laws
+pub mod NoText
 pub mod Program
 pub mod Render
 pub mod Run
@@ -8,11 +8,11 @@ pub use Rattle.wat_io.specs.Counted
 pub use Rattle.wat_profile.specs.AbstractModule
 pub use Rattle.wat_profile.specs.Complaint
 pub use Rattle.wat_profile.specs.Grammar
+pub use Rattle.wat_profile.specs.KnownMnemonics
 pub use Rattle.wat_profile.specs.Layout
-pub use Rattle.wat_profile.specs.Meaning
 pub use Rattle.wat_profile.specs.Means
 pub use Rattle.wat_profile.specs.Parts
-pub use Rattle.wat_profile.specs.Profile
+pub use Rattle.wat_profile.specs.StandsFor
 pub use Rattle.wat_profile.specs.Syntax
 pub use Rattle.wat_profile.specs.Tokens
 pub use Rattle.wat_profile.specs.Tree

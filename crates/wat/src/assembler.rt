@@ -3,12 +3,12 @@
 ghost use Rattle.std.specs.Prelude.{◌≡◌, ◌<◌, ◌^◌, ℕ, length, Err, MatchResult};
 ghost use Rattle.std.specs.Str.{IsUtf8};
 ghost use Rattle.wat.specs.Headline.{Assembles, Deserves, Fails, TooLong, NotUtf8};
-ghost use Rattle.wat.specs.Answering.{IsNoText};
+ghost use Rattle.wat.specs.NoText.{IsNoText};
 
 use crate::fault::Fault;
 use std::alloc::Global;
 use wasm_encoder_base::EncodeError;
-use wat_profile::{TextFault, encode, module_of};
+use wat_profile::{TextFault, encode, parse_text};
 
 /// The binary of the module that a text spells.
 ///
@@ -25,7 +25,7 @@ pub fn assemble(alloc: Global, input: &[u8]) -> Result<Vec<u8>, Fault>
         Ok(text) => text,
         Err(fault) => return Err(fault),
     };
-    let module = match module_of(alloc, text) {
+    let module = match parse_text(alloc, text) {
         Ok(module) => module,
         Err(TextFault::Misspelled(error)) => return Err(Fault::Spelling(error)),
         Err(TextFault::Memory) => return Err(Fault::Memory),

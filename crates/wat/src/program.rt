@@ -1,6 +1,6 @@
 //! The program, over any reader, writer and error writer.
 
-ghost use Rattle.std.specs.Prelude.{◌≡◌, ◌≤◌, ◌++◌, ◌∷◌, [], ℕ, List, Result, length, take};
+ghost use Rattle.std.specs.Prelude.{◌≡◌, ◌++◌, ◌∷◌, [], ℕ, List, Result, take};
 ghost use Rattle.std.specs.Io.KnownBytes.{Appends};
 ghost use Rattle.wat.specs.Program.{Exits, IsReport};
 ghost use Rattle.wat.specs.Run.{Runs, reader_failures, writer_failures};

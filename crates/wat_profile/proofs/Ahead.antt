@@ -10,7 +10,7 @@ use Rattle.wast_lexer.specs.declared.token.TokenKind.{TokenKind}
 use Rattle.wast_lexer.specs.declared.token.TokenKind.TheVariants as kinds
 use Rattle.wast_lexer.specs.Readers.{IsOf, text_of}
 use Rattle.wat_profile.specs.Tokens.{token_of}
-use Rattle.wat_profile.specs.Reading.{State, ahead, is_trivia, significant_of, IsNext}
+use Rattle.wat_profile.specs.ParserState.{State, ahead, is_trivia, significant_of, IsNext}
 
 cell : {X : Type 0} (xs : List X) (i : ℕ) (x : X) → slice_get xs i ≡ Some x → drop i xs ≡ x ∷ drop (i + 1) xs
 cell xs i x h =
@@ -42,8 +42,8 @@ ahead_trivia s i t h k = ahead_more s i t h ∙ ap (λ y. y ++ ahead (record s {
 pub ahead_none : (s : State) (i : ℕ) → slice_get s.tokens i ≡ None → ahead (record s { at = i }) ≡ []
 ahead_none s i h = ap (significant_of s.text) (past s.tokens i h)
 
-pub own_token : (s : State) (i : ℕ) (t : Token) → All (IsOf s.text) s.tokens → slice_get s.tokens i ≡ Some t → IsOf s.text t
-own_token s i t all h = subst (IsOf s.text) (get_or_from_slice_get s.tokens i t t h) (all i t (slice_get_within s.tokens i t h))
+pub token_of_text : (s : State) (i : ℕ) (t : Token) → All (IsOf s.text) s.tokens → slice_get s.tokens i ≡ Some t → IsOf s.text t
+token_of_text s i t all h = subst (IsOf s.text) (get_or_from_slice_get s.tokens i t t h) (all i t (slice_get_within s.tokens i t h))
 
 pub next_is : (s : State) (from i : ℕ) (t : Token) → All (IsOf s.text) s.tokens → ahead (record s { at = i }) ≡ ahead (record s { at = from }) → slice_get s.tokens i ≡ Some t → is_trivia t.kind ≡ false → IsNext (record s { at = from }) t (i + 1)
-next_is s from i t all same h k = record { found = sym same ∙ ahead_more s i t h; shown = k; own = own_token s i t all h }
+next_is s from i t all same h k = record { found = sym same ∙ ahead_more s i t h; not_trivia = k; of_text = token_of_text s i t all h }

@@ -10,10 +10,11 @@ use Rattle.wasm_encoder_base.specs.EncodeError.{EncodeError}
 use Rattle.wasm_encoder_base.specs.EncodeError.TheVariants.{TooLarge}
 use Rattle.std.specs.List.{flat_map}
 use Rattle.wasm_encoder_base.specs.Bytes.{counted, sized}
+use Rattle.wasm_encoder_base.specs.Types.{func_bytes}
 use Rattle.wasm_encoder_base.specs.Unique.{Any}
 use Rattle.wat_profile.specs.AbstractModule.{AbstractModule}
 use Rattle.wat_profile.specs.Parts.{part_if, present, if_any}
-use Rattle.wat_profile.specs.Layout.{func_type, FuncTypeFits, type_index, export_item, ExportFits, code_item, FunctionFits, SectionKind, Types, Functions, Exports, Codes, section_id, section, order, body_of, SizeFits, header, layout, Fits}
+use Rattle.wat_profile.specs.Layout.{FuncTypeFits, type_index, export_item, ExportFits, code_item, FunctionFits, SectionKind, Types, Functions, Exports, Codes, section_id, section, order, section_body, SizeFits, header, layout, Fits}
 use Rattle.wat_profile.specs.Encoding.{slot, SectionFits}
 use Rattle.wat_profile.proofs.CountedLists.{counted-map}
 
@@ -86,7 +87,7 @@ unfolding slots
 ended f end = sym (append-nil end)
 
 -- what fits, section by section
-pub type_section : {N : Type 0} (m : AbstractModule N) → Fits m → SectionFits FuncTypeFits func_type m.types
+pub type_section : {N : Type 0} (m : AbstractModule N) → Fits m → SectionFits FuncTypeFits func_bytes m.types
 type_section m f = record { count = f.type_count; each = f.types; size = f.sizes Types }
 
 pub function_section : {N : Type 0} (m : AbstractModule N) → Fits m → SectionFits Any type_index m.functions
@@ -98,13 +99,13 @@ export_section m f = record { count = f.export_count; each = f.exports; size = f
 pub code_section : {N : Type 0} (m : AbstractModule N) → Fits m → SectionFits FunctionFits code_item m.functions
 code_section m f = record { count = f.function_count; each = f.functions; size = f.sizes Codes }
 
-sizes_of : {N : Type 0} (m : AbstractModule N) → SectionFits FuncTypeFits func_type m.types → SectionFits Any type_index m.functions → SectionFits ExportFits export_item m.exports → SectionFits FunctionFits code_item m.functions → (k : SectionKind) → SizeFits (body_of m k)
+sizes_of : {N : Type 0} (m : AbstractModule N) → SectionFits FuncTypeFits func_bytes m.types → SectionFits Any type_index m.functions → SectionFits ExportFits export_item m.exports → SectionFits FunctionFits code_item m.functions → (k : SectionKind) → SizeFits (section_body m k)
 sizes_of m types functions exports codes Types = types.size
 sizes_of m types functions exports codes Functions = functions.size
 sizes_of m types functions exports codes Exports = exports.size
 sizes_of m types functions exports codes Codes = codes.size
 
-pub fits_of : {N : Type 0} (m : AbstractModule N) → SectionFits FuncTypeFits func_type m.types → SectionFits Any type_index m.functions → SectionFits ExportFits export_item m.exports → SectionFits FunctionFits code_item m.functions → Fits m
+pub fits_of : {N : Type 0} (m : AbstractModule N) → SectionFits FuncTypeFits func_bytes m.types → SectionFits Any type_index m.functions → SectionFits ExportFits export_item m.exports → SectionFits FunctionFits code_item m.functions → Fits m
 fits_of m types functions exports codes = record {
   type_count = types.count;
   types = types.each;
@@ -118,13 +119,13 @@ fits_of m types functions exports codes = record {
 -- the header and four sections, appended one after another
 pub bytes_of : {N : Type 0} (m : AbstractModule N) (start first second third fourth : List ℕ)
     → start ≡ header
-    → first ≡ start ++ slot 1 (body_of m Types)
-    → second ≡ first ++ slot 3 (body_of m Functions)
-    → third ≡ second ++ slot 7 (body_of m Exports)
-    → fourth ≡ third ++ slot 10 (body_of m Codes)
+    → first ≡ start ++ slot 1 (section_body m Types)
+    → second ≡ first ++ slot 3 (section_body m Functions)
+    → third ≡ second ++ slot 7 (section_body m Exports)
+    → fourth ≡ third ++ slot 10 (section_body m Codes)
     → fourth ≡ layout m
 bytes_of m start first second third fourth e0 e1 e2 e3 e4 = (
-    let f = body_of m in
+    let f = section_body m in
     followed f Types _ _ _ _ e1 (followed f Functions _ _ _ _ e2 (followed f Exports _ _ _ _ e3 (followed f Codes _ _ _ _ e4 (ended f fourth))))
     ∙ ap (λ v. v ++ slots f order) e0
     ∙ ap (λ v. header ++ v) (sym (slots-are f order)))

@@ -6,8 +6,8 @@ use Rattle.wat_profile.specs.Tree.{Func}
 use Rattle.wat_profile.specs.declared.tree.Func.{Func as CodeFunc}
 use Rattle.wat_profile.specs.declared.tree.Export.{Export as CodeExport}
 use Rattle.wat_profile.specs.AbstractModule.{Export}
-use Rattle.wat_profile.specs.Meaning.{export_of, exports_from}
-use Rattle.wat_profile.specs.Trees.{export_tree, func_tree}
+use Rattle.wat_profile.specs.StandsFor.{export_of, exports_from}
+use Rattle.wat_profile.specs.TreeViews.{export_tree, func_tree}
 
 exports-append : {N P : Type 0} (n : ℕ) (xs ys : List (Func N P)) → exports_from n (xs ++ ys) ≡ exports_from n xs ++ exports_from (n + length xs) ys
 exports-append n [] ys = let z : n ≡ n + 0 = omega arith in ap (λ k. exports_from k ys) z

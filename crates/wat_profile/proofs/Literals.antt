@@ -12,7 +12,7 @@ use Rattle.wast_lexer.specs.Numbers.{IsNumber, sign_text, base_text}
 use Rattle.wast_lexer.specs.Readings.{IsIntegerOf}
 use Rattle.wast_lexer.proofs.NumberLaws.{number_scanned}
 use Rattle.wat_profile.specs.Tokens.{Literal, with_digit, number_after, number, is_minus, base_of, digits_of, literal}
-use Rattle.wat_profile.specs.Reading.{literal_of}
+use Rattle.wat_profile.specs.ParserState.{literal_of}
 
 -- it is not below the number that the digits before say
 digit_grows : (base n c : ℕ) → 1 ≤ base → n ≤ with_digit base n c
@@ -31,9 +31,6 @@ grows base n (d ∷ ds) b = let h = grows base (with_digit base n d) ds b in let
 
 pub one_digit : (base n i : ℕ) (ds : List ℕ) → i < length ds → number_after base n (drop i ds) ≡ number_after base (with_digit base n (get_or ds i 0)) (drop (i + 1) ds)
 one_digit base n i ds h = ap (number_after base n) (drop-cons ds i 0 h) ∙ ap (λ k. number_after base (with_digit base n (get_or ds i 0)) (drop k ds)) (sym (add-one i))
-
-pub no_digit : (base n i : ℕ) (ds : List ℕ) → length ds ≤ i → number_after base n (drop i ds) ≡ n
-no_digit base n i ds h = ap (number_after base n) (drop_of_length-le ds h)
 
 -- a digit's number has a byte
 pub digit_small : (c : ℕ) → c < 256 → hex_value c < 256

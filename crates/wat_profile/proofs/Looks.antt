@@ -1,12 +1,10 @@
 -- What tests say of looks.
-use Rattle.std.proofs.Common.{◌≡◌, ℕ, Bool, true, false, List, [], ◌∷◌, Option, Some, None, inl, inr, refl, sym, ◌∙◌, ap, cond, ◌&&◌, ◌||◌, not, nat_eq}
-use Rattle.std.specs.Prelude.{is_some}
-use Rattle.std.proofs.lemmas.Bool.{cases_Bool, eqb-true, eq-eqb}
+use Rattle.std.proofs.Common.{◌≡◌, ℕ, Bool, true, false, List, [], ◌∷◌, Option, Some, None, inl, inr, refl, sym, ◌∙◌, ap, subst, cond, ◌&&◌}
+use Rattle.std.proofs.lemmas.Bool.{cases_Bool}
 use Rattle.std.specs.Cmp.Lexicographic.{bytes_decides}
-use Rattle.wasm_encoder_base.specs.Table.{Entry, find, same_text}
-use Rattle.wat_profile.specs.Profile.{profile}
-use Rattle.wat_profile.specs.Tokens.{Tok}
-use Rattle.wat_profile.specs.Grammar.{◌>>=◌, an_open, same, ends, Look, under, Texts, This, Mnemonic, Begun, Any, holds, meet, is_mnemonic, any_starts, starts_with, Test, On, NotEnd, fits, clash, any_fits, at, any_clash, apart, join, faults, ask, under_test, unders, covers_text, covers, any_covers, sub}
+use Rattle.wasm_encoder_base.specs.Table.{same_text}
+use Rattle.wat_profile.specs.Tokens.{SignificantToken}
+use Rattle.wat_profile.specs.Grammar.{◌>>=◌, same, Shape, AnEnd, AnOpen, AWord, AMark, AnId, AnInteger, AString, AnOther, AFault, same_shape, Look, behind_open, Texts, This, Mnemonic, Any, holds, meet, Test, on, fits, clash, any_fits, at, any_clash, apart, join, faults, ask, test_behind_open, tests_behind_open, covers_text, covers, any_covers, sub}
 
 pub bind_ok : {A B : Type 0} (r : Option A) (f : A → Option B) (y : B) → (r >>= f) ≡ Some y → (x : A) × (r ≡ Some x) × (f x ≡ Some y)
 bind_ok None f y e = cc
@@ -17,9 +15,6 @@ some_one a b e = cc
 
 pub alike : (a b : List ℕ) → same_text a b ≡ true → a ≡ b
 alike a b e = (bytes_decides a b).0 e
-
-pub same_self : (a : List ℕ) → same_text a a ≡ true
-same_self a = (bytes_decides a a).1 refl
 
 pub absurd_of : {X : Type 0} (b : Bool) → b ≡ true → b ≡ false → X
 absurd_of b p q = cc
@@ -34,60 +29,21 @@ two false q e f = cc
 two true false e f = cc
 
 -- what tests of texts leave out
-no_entry : (p w : List ℕ) (es : List Entry) → any_starts p es ≡ false → starts_with p w ≡ true → is_some (find w es) ≡ false
-no_entry p w [] n s = refl
-no_entry p w (e ∷ es) n s = elim (cases_Bool (same_text w e.mnemonic)) [
-  | inl y ↦ (let q : starts_with p e.mnemonic ≡ true = ap (λ v. starts_with p v) (sym (alike w e.mnemonic y)) ∙ s in absurd_of (starts_with p e.mnemonic || any_starts p es) (ap (λ b. b || any_starts p es) q) n)
-  | inr z ↦ ap is_some (ap (λ b. cond b (Some e) (find w es)) z) ∙ no_entry p w es (or_no (starts_with p e.mnemonic) (any_starts p es) n) s
-]
-  where
-    or_no : (a b : Bool) → (a || b) ≡ false → b ≡ false
-    or_no true b e = cc
-    or_no false b e = e
-
-no_both : (a b : Bool) → a ≡ false → (a && b) ≡ false
-no_both true b e = cc
-no_both false b e = refl
-
 meet_this : (v : List ℕ) (u : Texts) (w : List ℕ) → holds u v ≡ false → same_text v w ≡ true → holds u w ≡ false
 meet_this v u w n s = ap (λ z. holds u z) (sym (alike v w s)) ∙ n
 
 meet_that : (u : Texts) (v : List ℕ) (w : List ℕ) → holds u v ≡ false → holds u w ≡ true → same_text v w ≡ false
 meet_that u v w n h = elim (cases_Bool (same_text v w)) [ inl y ↦ absurd_of (holds u w) h (meet_this v u w n y) | inr z ↦ z ]
 
-comparable : (p q w : List ℕ) → starts_with p w ≡ true → starts_with q w ≡ true → (starts_with p q || starts_with q p) ≡ true
-comparable [] q w h k = refl
-comparable (c ∷ p) [] w h k = refl
-comparable (c ∷ p) (d ∷ q) [] h k = cc
-comparable (c ∷ p) (d ∷ q) (b ∷ w) h k =
-    let x = both (nat_eq c b) (starts_with p w) h in
-    let y = both (nat_eq d b) (starts_with q w) k in
-    let cb : c ≡ b = eqb-true c b x.0 in
-    let db : d ≡ b = eqb-true d b y.0 in
-    let r = comparable p q w x.1 y.1 in
-    rw (eq-eqb c d (cb ∙ sym db), eq-eqb d c (db ∙ sym cb)) r
-
 meet_law : (t u : Texts) (w : List ℕ) → meet t u ≡ false → holds t w ≡ true → holds u w ≡ false
 meet_law (This v) u w n h = meet_this v u w n h
-meet_law (Mnemonic but) (This v) w n h = meet_that (Mnemonic but) v w n h
-meet_law (Begun p) (This v) w n h = meet_that (Begun p) v w n h
+meet_law Mnemonic (This v) w n h = meet_that Mnemonic v w n h
 meet_law Any (This v) w n h = meet_that Any v w n h
-meet_law (Begun p) (Mnemonic but) w n h = no_both (is_mnemonic w) _ (no_entry p w profile n h)
-meet_law (Mnemonic but) (Begun p) w n h = elim (cases_Bool (starts_with p w)) [ inl y ↦ absurd_of (is_mnemonic w) (both (is_mnemonic w) _ h).0 (no_entry p w profile n y) | inr z ↦ z ]
-meet_law (Begun p) (Begun q) w n h = elim (cases_Bool (starts_with q w)) [ inl y ↦ absurd_of _ (comparable p q w h y) n | inr z ↦ z ]
 meet_law _ _ w n h = cc
 
 no_two : (p q : Bool) → (p ≡ true → q ≡ false) → (p && q) ≡ false
 no_two true q f = f refl
 no_two false q f = refl
-
-not_true : (b : Bool) → not b ≡ true → b ≡ false
-not_true true e = cc
-not_true false e = refl
-
-not_false : (b : Bool) → not b ≡ false → b ≡ true
-not_false true e = refl
-not_false false e = cc
 
 second : (p q : Bool) → (p && q) ≡ false → p ≡ true → q ≡ false
 second true q e f = e
@@ -103,25 +59,56 @@ pub same_refl : (a : Bool) → same a a ≡ true
 same_refl true = refl
 same_refl false = refl
 
--- two tests that fit one look have its shape
+shape_is : (r s : Shape) → same_shape r s ≡ true → r ≡ s
+shape_is AnEnd AnEnd e = refl
+shape_is AnOpen AnOpen e = refl
+shape_is AWord AWord e = refl
+shape_is AMark AMark e = refl
+shape_is AnId AnId e = refl
+shape_is AnInteger AnInteger e = refl
+shape_is AString AString e = refl
+shape_is AnOther AnOther e = refl
+shape_is AFault AFault e = refl
+shape_is _ _ e = cc
+
+shape_refl : (s : Shape) → same_shape s s ≡ true
+shape_refl AnEnd = refl
+shape_refl AnOpen = refl
+shape_refl AWord = refl
+shape_refl AMark = refl
+shape_refl AnId = refl
+shape_refl AnInteger = refl
+shape_refl AString = refl
+shape_refl AnOther = refl
+shape_refl AFault = refl
+
+-- what a look has that is as a test asks
+record Fitting (t : Test) (x : Look) : Type 0 where
+  deep : t.deep ≡ x.deep
+  shape : t.shape ≡ x.shape
+  text : holds t.text x.text ≡ true
+
+fitting : (t : Test) (x : Look) → fits t x ≡ true → Fitting t x
+fitting t x h =
+    let a = both (same t.deep x.deep) _ h in
+    let b = both (same_shape t.shape x.shape) (holds t.text x.text) a.1 in
+    record { deep = same_is t.deep x.deep a.0; shape = shape_is t.shape x.shape b.0; text = b.1 }
+
+fits_so : (t : Test) (x : Look) → Fitting t x → fits t x ≡ true
+fits_so t x f =
+    two (same t.deep x.deep) _ (subst (λ d. same t.deep d ≡ true) f.deep (same_refl t.deep))
+    (two (same_shape t.shape x.shape) _ (subst (λ s. same_shape t.shape s ≡ true) f.shape (shape_refl t.shape)) f.text)
+
+-- two tests that fit one look clash
 pub clash_law : (t u : Test) (x : Look) → clash t u ≡ false → fits t x ≡ true → fits u x ≡ false
-clash_law (On d s t) (On c r u) x n h =
-    let a = both (same d x.deep) _ h in
-    let b = both (nat_eq s x.shape) (holds t x.text) a.1 in
-    no_two (same c x.deep) _ (λ f. no_two (nat_eq r x.shape) (holds u x.text) (λ e.
-    meet_law t u x.text (second (nat_eq s r) (meet t u) (second (same d c) _ n (rw (same_is d x.deep a.0, same_is c x.deep f) (same_refl x.deep))) (eq-eqb s r (eqb-true s x.shape b.0 ∙ sym (eqb-true r x.shape e)))) b.1))
-clash_law (On d s t) NotEnd x n h =
-    let a = both (same d x.deep) _ h in
-    let b = both (nat_eq s x.shape) (holds t x.text) a.1 in
-    ap (λ z. not (ends z x.shape)) (sym (same_is d x.deep a.0)) ∙ ap (λ z. not (ends d z)) (sym (eqb-true s x.shape b.0)) ∙ n
-clash_law NotEnd (On d s t) x n h = elim (cases_Bool (fits (On d s t) x)) [
-  | inl y ↦ (
-      let a = both (same d x.deep) _ y in
-      let b = both (nat_eq s x.shape) (holds t x.text) a.1 in
-      absurd_of (not (ends x.deep x.shape)) h (ap (λ z. not (ends z x.shape)) (sym (same_is d x.deep a.0)) ∙ ap (λ z. not (ends d z)) (sym (eqb-true s x.shape b.0)) ∙ n))
-  | inr z ↦ z
-]
-clash_law NotEnd NotEnd x n h = cc
+clash_law t u x n h =
+    let a = fitting t x h in
+    no_two (same u.deep x.deep) _ (λ d. no_two (same_shape u.shape x.shape) (holds u.text x.text) (λ s.
+    meet_law t.text u.text x.text
+    (second (same_shape t.shape u.shape) (meet t.text u.text)
+    (second (same t.deep u.deep) _ n (subst (λ v. same t.deep v ≡ true) (a.deep ∙ sym (same_is u.deep x.deep d)) (same_refl t.deep)))
+    (subst (λ v. same_shape t.shape v ≡ true) (a.shape ∙ sym (shape_is u.shape x.shape s)) (shape_refl t.shape)))
+    a.text))
 
 pub in_join : (x : Look) (a b : List Test) → any_fits (join a b) x ≡ cond (any_fits a x) true (any_fits b x)
 in_join x [] b = refl
@@ -163,50 +150,47 @@ pub apart_no2 : (x : Look) (ts us : List Test) → apart ts us ≡ true → any_
 apart_no2 x ts us e h = elim (cases_Bool (any_fits ts x)) [ inl y ↦ absurd_of _ h (apart_no x ts us e y) | inr n ↦ n ]
 
 -- a look that meets no fault answers
-pub asked : {N P : Type 0} → (tests : List Test) (ts : List (Tok N P)) (b : Bool) → at (faults tests) ts ≡ false → at tests ts ≡ b → ask tests ts ≡ Some b
+pub asked : {N P : Type 0} → (tests : List Test) (ts : List (SignificantToken N P)) (b : Bool) → at (faults tests) ts ≡ false → at tests ts ≡ b → ask tests ts ≡ Some b
 asked tests ts b n e = ap (λ v. cond v None (Some (at tests ts))) n ∙ ap (λ v. Some v) e
 
-under_true : (d : Bool) (s : ℕ) (t : Texts) (x : Look) → same d x.deep ≡ true → (nat_eq s x.shape && holds t x.text) ≡ true → fits (under_test (On d s t)) (under x) ≡ true
-under_true true s t x a b = ap (λ v. fits (On true an_open Any) (cond v (record { deep = true; shape = an_open; text = [] }) (record { deep = true; shape = x.shape; text = x.text }))) (sym (same_is true x.deep a))
-under_true false s t x a b = ap (λ v. fits (On true s t) (cond v (record { deep = true; shape = an_open; text = [] }) (record { deep = true; shape = x.shape; text = x.text }))) (sym (same_is false x.deep a)) ∙ b
+behind_deep : (t : Test) (x : Look) → Fitting t x → (b : Bool)
+    → fits (cond b (on true AnOpen Any) (on true t.shape t.text)) (cond b (record { deep = true; shape = AnOpen; text = [] }) (record { deep = true; shape = x.shape; text = x.text })) ≡ true
+behind_deep t x f true = refl
+behind_deep t x f false = fits_so (on true t.shape t.text) (record { deep = true; shape = x.shape; text = x.text }) (record { deep = refl; shape = f.shape; text = f.text })
 
-opened : (d : Bool) (s : ℕ) (w : List ℕ) → not (ends (under (record { deep = d; shape = s; text = w })).deep (under (record { deep = d; shape = s; text = w })).shape) ≡ true
-opened true s w = refl
-opened false s w = refl
+behind_fits : (t : Test) (x : Look) → fits t x ≡ true → fits (test_behind_open t) (behind_open x) ≡ true
+behind_fits t x h =
+    let f = fitting t x h in
+    let open_test = (λ (b : Bool). cond b (on true AnOpen Any) (on true t.shape t.text)) in
+    ap (λ b. fits (open_test b) (behind_open x)) f.deep ∙ behind_deep t x f x.deep
 
-under_fits : (t : Test) (x : Look) → fits t x ≡ true → fits (under_test t) (under x) ≡ true
-under_fits (On d s t) x h = let a = both (same d x.deep) _ h in under_true d s t x a.0 a.1
-under_fits NotEnd x h = opened x.deep x.shape x.text
-
-pub under_in : (x : Look) (ts : List Test) → any_fits ts x ≡ true → any_fits (unders ts) (under x) ≡ true
-under_in x [] h = h
-under_in x (t ∷ ts) h = elim (cases_Bool (fits t x)) [
-  | inl y ↦ ap (λ v. cond v true (any_fits (unders ts) (under x))) (under_fits t x y)
+pub behind_in : (x : Look) (ts : List Test) → any_fits ts x ≡ true → any_fits (tests_behind_open ts) (behind_open x) ≡ true
+behind_in x [] h = h
+behind_in x (t ∷ ts) h = elim (cases_Bool (fits t x)) [
+  | inl y ↦ ap (λ v. cond v true (any_fits (tests_behind_open ts) (behind_open x))) (behind_fits t x y)
   | inr n ↦ (
-      let k = under_in x ts (ap (λ v. cond v true (any_fits ts x)) (sym n) ∙ h) in
-      join_right _ (under_test t ∷ []) (unders ts) k)
+      let k = behind_in x ts (ap (λ v. cond v true (any_fits ts x)) (sym n) ∙ h) in
+      join_right _ (test_behind_open t ∷ []) (tests_behind_open ts) k)
 ]
 
 -- computed bounds
 covers_text_law : (t u : Texts) (w : List ℕ) → covers_text t u ≡ true → holds t w ≡ true → holds u w ≡ true
 covers_text_law (This v) u w c h = ap (λ z. holds u z) (sym (alike v w h)) ∙ c
-covers_text_law (Mnemonic but) (Mnemonic []) w c h = two (is_mnemonic w) true (both (is_mnemonic w) _ h).0 refl
-covers_text_law (Begun p) (Begun q) w c h = ap (λ z. starts_with z w) (sym (alike p q c)) ∙ h
-covers_text_law (Mnemonic but) Any w c h = refl
-covers_text_law (Begun p) Any w c h = refl
+covers_text_law Mnemonic Mnemonic w c h = h
+covers_text_law Mnemonic Any w c h = refl
 covers_text_law Any Any w c h = refl
 covers_text_law _ _ w c h = cc
 
 covers_law : (t u : Test) (x : Look) → covers t u ≡ true → fits t x ≡ true → fits u x ≡ true
-covers_law (On d s t) (On c r u) x k h =
-    let a = both (same d c) _ k in
-    let b = both (nat_eq s r) (covers_text t u) a.1 in
-    let f = both (same d x.deep) _ h in
-    let i = both (nat_eq s x.shape) (holds t x.text) f.1 in
-    two (same c x.deep) _ (ap (λ z. same z x.deep) (sym (same_is d c a.0)) ∙ f.0) (two (nat_eq r x.shape) (holds u x.text) (ap (λ z. nat_eq z x.shape) (sym (eqb-true s r b.0)) ∙ i.0) (covers_text_law t u x.text b.1 i.1))
-covers_law NotEnd NotEnd x c h = h
-covers_law (On d s t) NotEnd x c h = cc
-covers_law NotEnd (On d s t) x c h = cc
+covers_law t u x k h =
+    let a = both (same t.deep u.deep) _ k in
+    let b = both (same_shape t.shape u.shape) (covers_text t.text u.text) a.1 in
+    let f = fitting t x h in
+    fits_so u x (record {
+      deep = sym (same_is t.deep u.deep a.0) ∙ f.deep;
+      shape = sym (shape_is t.shape u.shape b.0) ∙ f.shape;
+      text = covers_text_law t.text u.text x.text b.1 f.text;
+    })
 
 any_covers_law : (t : Test) (us : List Test) (x : Look) → any_covers t us ≡ true → fits t x ≡ true → any_fits us x ≡ true
 any_covers_law t [] x c h = cc

@@ -17,14 +17,5 @@ all_more P xs i d l h p = subst (λ v. All P v) (sym (take_more xs i d l)) (All-
 pub all_end : {A : Type 0} (P : A → Type 0) (xs : List A) (i : ℕ) → length xs ≤ i → All P (take i xs) → All P xs
 all_end P xs i l h = subst (λ v. All P v) (take_all i xs l) h
 
--- the same at an item that was read
-pub spelled_item : {A : Type 0} (f : A → List ℕ) (xs : List A) (i : ℕ) (x : A) (old sink more : List ℕ) → i < length xs → x ≡ get_or xs i x → sink ≡ old ++ flat_map f (take i xs) → more ≡ sink ++ f x → more ≡ old ++ flat_map f (take (i + 1) xs)
-spelled_item f xs i x old sink more l is e h = spelled_more f xs i x old sink more l e (h ∙ ap (λ v. sink ++ f v) is)
-
 pub all_item : {A : Type 0} (P : A → Type 0) (xs : List A) (i : ℕ) (x : A) → i < length xs → x ≡ get_or xs i x → All P (take i xs) → P x → All P (take (i + 1) xs)
 all_item P xs i x l is h p = all_more P xs i x l h (subst P is p)
-
--- the same, a count before the items
-pub counted_item : {A : Type 0} (f : A → List ℕ) (xs : List A) (i : ℕ) (x : A) (old count sink more : List ℕ) → i < length xs → x ≡ get_or xs i x → sink ≡ old ++ (count ++ flat_map f (take i xs)) → more ≡ sink ++ f x → more ≡ old ++ (count ++ flat_map f (take (i + 1) xs))
-counted_item f xs i x old count sink more l is e h =
-    spelled_item f xs i x (old ++ count) sink more l is (e ∙ sym (append_assoc old count (flat_map f (take i xs)))) h ∙ append_assoc old count (flat_map f (take (i + 1) xs))

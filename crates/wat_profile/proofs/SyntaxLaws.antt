@@ -2,7 +2,7 @@
 use Rattle.std.proofs.Common.{◌≡◌, ℕ, true, List, [], length, ◌<◌, Some, refl}
 use Rattle.wasm_encoder_base.specs.Table.{OperandSyntax}
 use Rattle.wasm_encoder_base.specs.Table as rows
-use Rattle.wat_profile.specs.Tokens.{Tok}
+use Rattle.wat_profile.specs.Tokens.{SignificantToken}
 use Rattle.wat_profile.specs.Tree.{Func, Instruction}
 use Rattle.wat_profile.specs.Grammar.{wide, op}
 use Rattle.wat_profile.specs.Syntax.{i32_literal, operands, instruction, row_starts, row_stops, name, export, func, module_syntax}
@@ -22,7 +22,7 @@ module _ {N P : Type 0} where
   bounded_laws r = bound_laws _ _ _ (operands_laws r) refl refl
 
   pub instruction_laws : Lawful (instruction {N = N} {P = P})
-  instruction_laws = seen_laws _ _ (next_laws (op []) (λ e. operands e.0.operands) row_starts true row_stops (op_laws []) (λ e. bounded_laws e.0.operands) refl)
+  instruction_laws = seen_laws _ _ (next_laws op (λ e. operands e.0.operands) row_starts true row_stops op_laws (λ e. bounded_laws e.0.operands) refl)
 
   name_laws : Lawful (name {N = N} {P = P})
   name_laws = only_laws _ _ string_laws
@@ -37,11 +37,11 @@ module _ {N P : Type 0} where
   module_laws = paren_laws _ (seen_laws _ _ (seq_laws _ _ (word_laws _) (many_laws _ _ func_laws refl refl refl refl refl) refl)) refl refl
 
   -- what a repeat repeats takes a token
-  pub instruction_shrinks : (ts : List (Tok N P)) (x : Instruction N P × List (Tok N P)) → instruction.reads ts ≡ Some x → length x.1 < length ts
+  pub instruction_shrinks : (ts : List (SignificantToken N P)) (x : Instruction N P × List (SignificantToken N P)) → instruction.reads ts ≡ Some x → length x.1 < length ts
   instruction_shrinks = shrinks instruction instruction_laws refl refl
 
-  pub export_shrinks : (ts : List (Tok N P)) (x : List ℕ × List (Tok N P)) → export.reads ts ≡ Some x → length x.1 < length ts
+  pub export_shrinks : (ts : List (SignificantToken N P)) (x : List ℕ × List (SignificantToken N P)) → export.reads ts ≡ Some x → length x.1 < length ts
   export_shrinks = shrinks export export_laws refl refl
 
-  pub func_shrinks : (ts : List (Tok N P)) (x : Func N P × List (Tok N P)) → func.reads ts ≡ Some x → length x.1 < length ts
+  pub func_shrinks : (ts : List (SignificantToken N P)) (x : Func N P × List (SignificantToken N P)) → func.reads ts ≡ Some x → length x.1 < length ts
   func_shrinks = shrinks func func_laws refl refl

@@ -1,13 +1,7 @@
 -- A module without names for indices (WebAssembly 3.0, 2.5). N is the type of the names that name maps hold.
 use Rattle.std.specs.Prelude.{ℕ, List}
+use Rattle.wasm_encoder_base.specs.Types.{ValType, FuncType}
 use Rattle.wasm_encoder_base.specs.Instr.{Instr}
-
-pub data ValType : Type 0 where
-  I32 : ValType
-
-pub record FuncType : Type 0 where
-  pub params : List ValType
-  pub results : List ValType
 
 pub record Function : Type 0 where
   pub type_index : ℕ

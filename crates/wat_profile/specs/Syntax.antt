@@ -4,7 +4,7 @@ use Rattle.std.specs.Str.{is_utf8}
 use Rattle.wasm_encoder_base.specs.Table.{Entry, OperandSyntax}
 use Rattle.wasm_encoder_base.specs.Table as rows
 use Rattle.wat_profile.specs.Tokens.{Literal}
-use Rattle.wat_profile.specs.Grammar.{Syntax, Test, On, Mnemonic, Any, an_integer, a_word, this_group, op, word, integer, string, nothing, next, seq, seen, only, many, group, paren}
+use Rattle.wat_profile.specs.Grammar.{Syntax, Test, on, Mnemonic, Any, AnInteger, AWord, this_group, op, word, integer, string, nothing, next, seq, seen, only, many, group, paren}
 use Rattle.wat_profile.specs.Tree.{Operands, NoOperands, I32, Instruction, Func, Module}
 
 -- LITERALS of 32 bits lie between -2^31 and 2^32 - 1 (6.3.1).
@@ -27,19 +27,19 @@ module _ {N P : Type 0} where
   operands rows.I32 = seen I32 i32_literal
   operands _ = seen (λ _. NoOperands) nothing
 
-  abbrev pub instruction_of : (Entry × P) × Operands N P → Instruction N P
-  instruction_of i = record { place = i.0.1; entry = i.0.0; operands = i.1 }
+  abbrev pub as_instruction : (Entry × P) × Operands N P → Instruction N P
+  as_instruction i = record { place = i.0.1; entry = i.0.0; operands = i.1 }
 
 -- what the operands of all rows begin with, and what may not follow them
 abbrev pub row_starts : List Test
-row_starts = On false an_integer Any ∷ []
+row_starts = on false AnInteger Any ∷ []
 
 abbrev pub row_stops : List Test
 row_stops = []
 
 -- what instructions, exports and functions begin with
 abbrev pub instruction_starts : List Test
-instruction_starts = On false a_word (Mnemonic []) ∷ []
+instruction_starts = on false AWord Mnemonic ∷ []
 
 abbrev pub export_starts : List Test
 export_starts = this_group (codes "export") ∷ []
@@ -49,7 +49,7 @@ func_starts = this_group (codes "func") ∷ []
 
 module _ {N P : Type 0} where
   abbrev pub instruction : Syntax N P (Instruction N P)
-  instruction = seen instruction_of (next (op []) (λ e. operands e.0.operands) row_starts true row_stops)
+  instruction = seen as_instruction (next op (λ e. operands e.0.operands) row_starts true row_stops)
 
   -- NAMES (6.3.4): strings that are UTF-8
   abbrev pub name : Syntax N P (List ℕ)
@@ -59,21 +59,21 @@ module _ {N P : Type 0} where
   abbrev pub export : Syntax N P (List ℕ)
   export = group (codes "export") name
 
-  abbrev pub func_of : P × (List (List ℕ) × List (Instruction N P)) → Func N P
-  func_of f = record { place = f.0; exports = f.1.0; body = f.1.1 }
+  abbrev pub as_func : P × (List (List ℕ) × List (Instruction N P)) → Func N P
+  as_func f = record { place = f.0; exports = f.1.0; body = f.1.1 }
 
   abbrev pub func_body : Syntax N P (Func N P)
-  func_body = seen func_of (seq (word (codes "func")) (seq (many export_starts export) (many instruction_starts instruction)))
+  func_body = seen as_func (seq (word (codes "func")) (seq (many export_starts export) (many instruction_starts instruction)))
 
   abbrev pub func : Syntax N P (Func N P)
   func = paren func_body
 
   -- MODULES (6.6): (module func*)
-  abbrev pub module_of : P × List (Func N P) → Module N P
-  module_of m = record { place = m.0; funcs = m.1 }
+  abbrev pub as_module : P × List (Func N P) → Module N P
+  as_module m = record { place = m.0; funcs = m.1 }
 
   abbrev pub module_body : Syntax N P (Module N P)
-  module_body = seen module_of (seq (word (codes "module")) (many func_starts func))
+  module_body = seen as_module (seq (word (codes "module")) (many func_starts func))
 
   abbrev pub module_syntax : Syntax N P (Module N P)
   module_syntax = paren module_body

@@ -17,23 +17,23 @@ pub record Literal : Type 0 where
   pub size : ℕ
 
 -- A token. Identifiers are of any type N and places of any type P: no definition over them tells one from another.
-pub data Tok (N P : Type 0) : Type 0 where
+pub data SignificantToken (N P : Type 0) : Type 0 where
   -- the parentheses
-  Open : P → Tok N P
-  Close : P → Tok N P
+  Open : P → SignificantToken N P
+  Close : P → SignificantToken N P
   -- an identifier
-  Id : N → P → Tok N P
+  Id : N → P → SignificantToken N P
   -- a keyword
-  Word : List ℕ → P → Tok N P
+  Word : List ℕ → P → SignificantToken N P
   -- the name of an annotation
-  Mark : List ℕ → P → Tok N P
-  Integer : Literal → P → Tok N P
+  Mark : List ℕ → P → SignificantToken N P
+  Integer : Literal → P → SignificantToken N P
   -- a string, as the bytes that it stands for
-  Text : List ℕ → P → Tok N P
+  Text : List ℕ → P → SignificantToken N P
   -- a token that no production takes
-  Other : P → Tok N P
+  Other : P → SignificantToken N P
   -- where the text can be read no further
-  Broken : Tok N P
+  Broken : SignificantToken N P
 
 -- The number that one more digit makes of a number; `_` is none (6.3.1).
 abbrev pub with_digit : ℕ → ℕ → ℕ → ℕ
@@ -67,12 +67,13 @@ abbrev pub read_value : Option Read → List ℕ
 read_value None = []
 read_value (Some r) = r.bytes
 
--- The bytes that a string stands for, read behind its first quote. `Strings` of proofs/ ties them to `IsString` (6.3.3).
+-- The bytes that a string stands for (6.3.3), read behind its first quote. The law `string_value` of `wat` ties them to
+-- `IsString`.
 abbrev pub string_value : List ℕ → List ℕ
 string_value text = read_value (read Within (drop 1 text))
 
 -- The significant token that a lexeme is: white space and comments are none (6.2.3, 6.2.4).
-abbrev pub token_of : TokenKind → List ℕ → ℕ → List (Tok (List ℕ) ℕ)
+abbrev pub token_of : TokenKind → List ℕ → ℕ → List (SignificantToken (List ℕ) ℕ)
 token_of kinds.Whitespace text place = []
 token_of kinds.LineComment text place = []
 token_of kinds.BlockComment text place = []
@@ -87,6 +88,6 @@ token_of (kinds.Float kind) text place = Other place ∷ []
 token_of kinds.Reserved text place = Other place ∷ []
 
 -- the significant tokens of lexemes
-abbrev pub significant : List Lexeme → List (Tok (List ℕ) ℕ)
+abbrev pub significant : List Lexeme → List (SignificantToken (List ℕ) ℕ)
 significant [] = []
 significant (l ∷ ls) = token_of l.kind l.text l.place ++ significant ls

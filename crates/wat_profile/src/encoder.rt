@@ -1,25 +1,27 @@
 //! The encoder: the binary of a tree.
 
-ghost use Rattle.std.specs.Prelude.{◌≡◌, ℕ, ◌<◌, ◌^◌, ◌++◌, [], ◌∷◌, List, length, map, IfOk, OnOk, All, IsErrOf};
-ghost use Rattle.std.specs.List.{flat_map};
+ghost use Rattle.std.specs.Prelude.{◌≡◌, ℕ, ◌<◌, ◌^◌, ◌++◌, ◌∷◌, List, length, map, IfOk, OnOk, All, IsErrOf};
 ghost use Rattle.wasm_encoder_base.specs.Bytes.{counted, sized};
 ghost use Rattle.wasm_encoder_base.specs.Instr.{instr_bytes, IsInstr};
+ghost use Rattle.wasm_encoder_base.specs.Types.{func_bytes};
 ghost use Rattle.wasm_encoder_base.specs.Unique.{Any};
+ghost use Rattle.wasm_encoder_base.specs.Views.{func_view};
+ghost use Rattle.wasm_encoder_code.specs.Body.{IsBody, body_bytes};
+ghost use Rattle.wasm_encoder_code.specs.Instruction.{can_encode_instr, fits_instr};
+ghost use Rattle.wasm_encoder_code.specs.Instruction as code;
 ghost use Rattle.wat_profile.specs.Parts.{if_any};
-ghost use Rattle.wat_profile.specs.Layout.{func_type, FuncTypeFits, type_index, export_item, ExportFits, code_body, code_item, FunctionFits, IsFunction, Fits, Lays};
-ghost use Rattle.wat_profile.specs.Meaning.{no_params, implied_by, export_of, exports_from, meant};
-ghost use Rattle.wat_profile.specs.Trees.{export_tree, func_tree, module_tree};
-ghost use Rattle.wat_profile.specs.Encoding.{instr_view, function_view, export_view, module_of, slot, SectionFits};
+ghost use Rattle.wat_profile.specs.Layout.{FuncTypeFits, type_index, export_item, ExportFits, code_of, code_item, FunctionFits, Fits, Lays};
+ghost use Rattle.wat_profile.specs.StandsFor.{implied_by, export_of, exports_from, meant};
+ghost use Rattle.wat_profile.specs.TreeViews.{export_tree, func_tree, module_tree};
+ghost use Rattle.wat_profile.specs.Encoding.{instr_view, body_view, export_view, module_meant, slot, SectionFits};
 
-use crate::tree::{self, Func, Instr, Instruction, Module};
+use crate::tree::{self, Func, Instruction, Module};
 use std::alloc::{AllocError, Global};
-use wasm_encoder_base::{Encode, EncodeError};
+use wasm_encoder_base::{Encode, EncodeError, FuncType};
+use wasm_encoder_code::{Function, Instruction as CodeInstruction};
 
 /// The magic number and the version of a binary.
 const HEADER: [u8; 8] = [0x00, 0x61, 0x73, 0x6d, 0x01, 0x00, 0x00, 0x00];
-
-/// The byte that ends the instructions of a function.
-const END: u8 = 0x0b;
 
 /// The id of the section of types.
 const TYPES: u8 = 1;
@@ -91,42 +93,30 @@ fn put_sized(sink: &mut Vec<u8>, bytes: &[u8]) -> Result<(), EncodeError>
 
 /// Appends the section of the types that the functions imply.
 fn put_type_section(alloc: Global, sink: &mut Vec<u8>, tree: &Module) -> Result<(), EncodeError>
-    ensures spelled { OnOk result (sink.new.items ≡ sink.old.items ++ slot 1 (if_any (counted func_type) (module_of tree.now).types)) }
-    ensures fits { OnOk result (SectionFits FuncTypeFits func_type (module_of tree.now).types) }
-    ensures too_large { IsErrOf result EncodeError.TooLarge → ¬ Fits (module_of tree.now) }
+    ensures spelled { OnOk result (sink.new.items ≡ sink.old.items ++ slot 1 (if_any (counted func_bytes) (module_meant tree.now).types)) }
+    ensures fits { OnOk result (SectionFits FuncTypeFits func_bytes (module_meant tree.now).types) }
+    ensures too_large { IsErrOf result EncodeError.TooLarge → ¬ Fits (module_meant tree.now) }
 {
-    put_list(alloc, sink, TYPES, implied_types(&tree.funcs))
-}
-
-/// The type of a function without parameters and results.
-struct NoParams;
-
-impl Encode for NoParams {
-    ghost can_encode = { λ _. Unit {0} };
-
-    ghost fits = { λ _. FuncTypeFits no_params };
-
-    ghost spelling = { λ _. func_type no_params };
-
-    #[tactic(auto, using(crate::proofs::Sound::no_params_bytes))]
-    fn encode(&self, sink: &mut Vec<u8>) -> Result<(), EncodeError> {
-        sink.extend_from_slice(&[0x60, 0, 0])?;
-        Ok(())
-    }
+    let types = implied_types(alloc, &tree.funcs)?;
+    put_list(alloc, sink, TYPES, &types)
 }
 
 /// The types that the functions imply.
-fn implied_types(funcs: &[Func]) -> &'static [NoParams]
-    ensures { map (λ _. no_params) result.now ≡ implied_by (map func_tree funcs.now) }
+fn implied_types(alloc: Global, funcs: &[Func]) -> Result<Vec<FuncType>, AllocError>
+    ensures { IfOk result (λ v. map func_view v.items ≡ implied_by (map func_tree funcs.now)) }
 {
-    if funcs.is_empty() { &[] } else { &[NoParams] }
+    let mut types = Vec::new(alloc);
+    if !funcs.is_empty() {
+        types.push(FuncType::new(alloc, &[], &[])?)?;
+    }
+    Ok(types)
 }
 
 /// Appends the section of the functions' type indices.
 fn put_function_section(alloc: Global, sink: &mut Vec<u8>, tree: &Module) -> Result<(), EncodeError>
-    ensures spelled { OnOk result (sink.new.items ≡ sink.old.items ++ slot 3 (if_any (counted type_index) (module_of tree.now).functions)) }
-    ensures fits { OnOk result (SectionFits Any type_index (module_of tree.now).functions) }
-    ensures too_large { IsErrOf result EncodeError.TooLarge → ¬ Fits (module_of tree.now) }
+    ensures spelled { OnOk result (sink.new.items ≡ sink.old.items ++ slot 3 (if_any (counted type_index) (module_meant tree.now).functions)) }
+    ensures fits { OnOk result (SectionFits Any type_index (module_meant tree.now).functions) }
+    ensures too_large { IsErrOf result EncodeError.TooLarge → ¬ Fits (module_meant tree.now) }
 {
     let indices = type_indices(alloc, &tree.funcs)?;
     put_list(alloc, sink, FUNCTIONS, &indices)
@@ -141,9 +131,9 @@ fn type_indices(alloc: Global, funcs: &[Func]) -> Result<Vec<u32>, AllocError>
 
 /// Appends the section of the exports.
 fn put_export_section(alloc: Global, sink: &mut Vec<u8>, tree: &Module) -> Result<(), EncodeError>
-    ensures spelled { OnOk result (sink.new.items ≡ sink.old.items ++ slot 7 (if_any (counted export_item) (module_of tree.now).exports)) }
-    ensures fits { OnOk result (SectionFits ExportFits export_item (module_of tree.now).exports) }
-    ensures too_large { IsErrOf result EncodeError.TooLarge → ¬ Fits (module_of tree.now) }
+    ensures spelled { OnOk result (sink.new.items ≡ sink.old.items ++ slot 7 (if_any (counted export_item) (module_meant tree.now).exports)) }
+    ensures fits { OnOk result (SectionFits ExportFits export_item (module_meant tree.now).exports) }
+    ensures too_large { IsErrOf result EncodeError.TooLarge → ¬ Fits (module_meant tree.now) }
 {
     let exports = exports_of(alloc, &tree.funcs)?;
     put_list(alloc, sink, EXPORTS, &exports)
@@ -217,94 +207,64 @@ fn push_exports<'t>(
 
 /// Appends the section of the functions' code.
 fn put_code_section(alloc: Global, sink: &mut Vec<u8>, tree: &Module) -> Result<(), EncodeError>
-    ensures spelled { OnOk result (sink.new.items ≡ sink.old.items ++ slot 10 (if_any (counted code_item) (module_of tree.now).functions)) }
-    ensures sound { OnOk result (All IsFunction (module_of tree.now).functions) }
-    ensures fits { OnOk result (SectionFits FunctionFits code_item (module_of tree.now).functions) }
-    ensures too_large { IsErrOf result EncodeError.TooLarge → ¬ Fits (module_of tree.now) }
+    ensures spelled { OnOk result (sink.new.items ≡ sink.old.items ++ slot 10 (if_any (counted code_item) (module_meant tree.now).functions)) }
+    ensures sound { OnOk result (All (λ f. IsBody (code_of f)) (module_meant tree.now).functions) }
+    ensures fits { OnOk result (SectionFits FunctionFits code_item (module_meant tree.now).functions) }
+    ensures too_large { IsErrOf result EncodeError.TooLarge → ¬ Fits (module_meant tree.now) }
 {
-    put_code_list(alloc, sink, &tree.funcs)
+    let bodies = bodies_of(alloc, &tree.funcs)?;
+    put_list(alloc, sink, CODES, &bodies)
 }
 
-/// The same, said of the functions as they stand in the tree.
-fn put_code_list(alloc: Global, sink: &mut Vec<u8>, funcs: &[Func]) -> Result<(), EncodeError>
-    ensures spelled { OnOk result (sink.new.items ≡ sink.old.items ++ slot 10 (if_any (counted (λ f. code_item (function_view f))) funcs.now)) }
-    ensures sound { OnOk result (All (λ f. IsFunction (function_view f)) funcs.now) }
-    ensures fits { OnOk result (SectionFits (λ f. FunctionFits (function_view f)) (λ f. code_item (function_view f)) funcs.now) }
-    ensures too_large { IsErrOf result EncodeError.TooLarge → ¬ SectionFits (λ f. FunctionFits (function_view f)) (λ f. code_item (function_view f)) funcs.now }
+/// The bodies of the functions.
+fn bodies_of(alloc: Global, funcs: &[Func]) -> Result<Vec<Function>, EncodeError>
+    ensures spelled { IfOk result (λ v. v.items ≡ map (λ f. body_bytes (body_view f)) funcs.now) }
+    ensures sound { OnOk result (All (λ f. IsBody (body_view f)) funcs.now) }
+    ensures memory { ¬ IsErrOf result EncodeError.TooLarge }
 {
-    if funcs.is_empty() {
-        return Ok(());
-    }
-    let mut body = Vec::new(alloc);
-    put_codes(alloc, &mut body, funcs)?;
-    put_section(sink, CODES, &body)
-}
-
-/// Appends how many functions there are, and the code of each.
-fn put_codes(alloc: Global, sink: &mut Vec<u8>, funcs: &[Func]) -> Result<(), EncodeError>
-    ensures spelled { OnOk result (sink.new.items ≡ sink.old.items ++ counted (λ f. code_item (function_view f)) funcs.now) }
-    ensures sound { OnOk result (All (λ f. IsFunction (function_view f)) funcs.now) }
-    ensures fits { OnOk result ((length funcs.now < 2 ^ 32) × All (λ f. FunctionFits (function_view f)) funcs.now) }
-    ensures too_large { IsErrOf result EncodeError.TooLarge → (length funcs.now < 2 ^ 32) → ¬ All (λ f. FunctionFits (function_view f)) funcs.now }
-{
-    funcs.len().encode(sink)?;
+    let mut bodies = Vec::new(alloc);
     for func in funcs {
-        put_code(alloc, sink, func)?;
+        bodies.push(body_of(alloc, func)?)?;
     }
-    Ok(())
+    Ok(bodies)
 }
 
-/// Appends the code of a function, after its size.
-#[tactic(auto, using(crate::proofs::Codes::fits_of_size))]
-fn put_code(alloc: Global, sink: &mut Vec<u8>, func: &Func) -> Result<(), EncodeError>
-    ensures spelled { OnOk result (sink.new.items ≡ sink.old.items ++ code_item (function_view func.now)) }
-    ensures sound { OnOk result (IsFunction (function_view func.now)) }
-    ensures fits { OnOk result (FunctionFits (function_view func.now)) }
-    ensures too_large { IsErrOf result EncodeError.TooLarge → ¬ FunctionFits (function_view func.now) }
-{
-    let mut code = Vec::new(alloc);
-    put_code_body(&mut code, func)?;
-    put_sized(sink, &code)
-}
-
-/// Appends the locals of a function, of which there are none, and its instructions.
-#[tactic(auto, using(crate::proofs::Codes::code_body_is, crate::proofs::Codes::function_sound))]
-fn put_code_body(sink: &mut Vec<u8>, func: &Func) -> Result<(), EncodeError>
-    ensures spelled { OnOk result (sink.new.items ≡ sink.old.items ++ code_body (function_view func.now)) }
-    ensures sound { OnOk result (IsFunction (function_view func.now)) }
+/// The body of a function, without locals.
+fn body_of(alloc: Global, func: &Func) -> Result<Function, EncodeError>
+    ensures spelled { IfOk result (λ body. body ≡ body_bytes (body_view func.now)) }
+    ensures sound { OnOk result (IsBody (body_view func.now)) }
     ensures memory { ¬ IsErrOf result EncodeError.TooLarge }
 {
-    sink.push(0)?;
-    put_expr(sink, &func.body)
-}
-
-/// Appends instructions and the end.
-fn put_expr(sink: &mut Vec<u8>, instrs: &[Instr]) -> Result<(), EncodeError>
-    ensures spelled { OnOk result (sink.new.items ≡ sink.old.items ++ (flat_map (λ i. instr_bytes (instr_view i)) instrs.now ++ 0x0b ∷ [])) }
-    ensures sound { OnOk result (All (λ i. IsInstr (instr_view i)) instrs.now) }
-    ensures memory { ¬ IsErrOf result EncodeError.TooLarge }
-{
-    for instr in instrs {
-        put_instruction(sink, instr)?;
+    let mut body = Function::new(alloc, &[])?;
+    for instr in &func.body {
+        push(&mut body, &code_instruction(instr.kind))?;
     }
-    sink.push(END)?;
-    Ok(())
+    push(&mut body, &CodeInstruction::End)?;
+    Ok(body)
 }
 
 /// Appends an instruction.
-#[tactic(auto, using(crate::proofs::Sound::sound_at), unfolding(crate::specs::Encoding::instr_view))]
-fn put_instruction(sink: &mut Vec<u8>, instr: &Instr) -> Result<(), EncodeError>
-    ensures spelled { OnOk result (sink.new.items ≡ sink.old.items ++ instr_bytes (instr_view instr.now)) }
-    ensures sound { OnOk result (IsInstr (instr_view instr.now)) }
+fn push(body: &mut Function, instruction: &CodeInstruction) -> Result<(), EncodeError>
+    requires can_encode { can_encode_instr instruction.now }
+    requires fits { fits_instr instruction.now }
+    ensures spelled { OnOk result (body.new ≡ body.old ++ instr_bytes (code.instr_view instruction.now)) }
     ensures memory { ¬ IsErrOf result EncodeError.TooLarge }
 {
-    match instr.kind {
-        Instruction::Nop => sink.push(0x01)?,
-        Instruction::Drop => sink.push(0x1a)?,
-        Instruction::I32Const(value) => {
-            sink.push(0x41)?;
-            value.encode(sink)?;
-        }
-    }
+    body.instruction(instruction)?;
     Ok(())
+}
+
+/// The instruction of the encoder.
+#[tactic(auto, using(crate::proofs::Sound::kind_sound, crate::proofs::Sound::nop_view, crate::proofs::Sound::drop_view, crate::proofs::Sound::const_view))]
+fn code_instruction(instruction: Instruction) -> CodeInstruction<'static>
+    ensures same { code.instr_view result ≡ instr_view instruction }
+    ensures sound { IsInstr (instr_view instruction) }
+    ensures can_encode { can_encode_instr result }
+    ensures fits { fits_instr result }
+{
+    match instruction {
+        Instruction::Nop => CodeInstruction::Nop,
+        Instruction::Drop => CodeInstruction::Drop,
+        Instruction::I32Const(value) => CodeInstruction::I32Const(value),
+    }
 }

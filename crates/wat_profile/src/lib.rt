@@ -1,6 +1,11 @@
-//! Today's profile of the text format: from a text to a tree, and from a tree to its binary. A part of the crate `wat`.
+//! What is read of the text format today: from a text to a tree, and from a tree to its binary. A part of the crate `wat`.
 //!
-//! [`module_of`] reads the module that a text spells, and [`encode`] gives the binary of such a module.
+//! [`parse_text`] reads the module that a text spells, and [`encode`] gives the binary of such a module. So of
+//! `(module (func nop drop))` the tree has one function without exports, whose two instructions are `nop` and `drop`; its
+//! binary is a row of `wat_rows`.
+//!
+//! The laws over its definitions, that tokens spell one tree at most and a binary is that of one module, are functions of
+//! `wat::laws`.
 #![tactic(auto)]
 
 mod encoder;
@@ -18,6 +23,6 @@ mod tree;
 
 pub use encoder::encode;
 pub use error::Error;
-pub use text::module_of;
+pub use text::parse_text;
 pub use text_fault::TextFault;
 pub use tree::{Export, Func, Instr, Instruction, Module};

@@ -1,8 +1,8 @@
 //! Literals of numbers.
-ghost use Rattle.std.specs.Prelude.{◌≡◌, ◌<◌, ◌^◌, ℤ, Option, Some, None, SomeIff, if◌then◌else◌, nat_le, nat_lt, pos, ◌-ℤ◌};
+ghost use Rattle.std.specs.Prelude.{◌≡◌, ◌<◌, ℤ, Option, Some, None, SomeIff, if◌then◌else◌, nat_le, nat_lt, pos, ◌-ℤ◌};
 ghost use Rattle.wast_lexer.specs.Strings.{hex_value};
 ghost use Rattle.wat_profile.specs.Tokens.{number, is_minus};
-ghost use Rattle.wat_profile.specs.Reading.{literal_of};
+ghost use Rattle.wat_profile.specs.ParserState.{literal_of};
 ghost use Rattle.wat_profile.specs.Syntax.{is_i32, i32_value};
 
 use wast_lexer::{Integer, SignToken};

@@ -1,8 +1,8 @@
 //! The mnemonics of instructions.
 ghost use Rattle.std.specs.Prelude.{◌≡◌, map, option_map};
 ghost use Rattle.wasm_encoder_base.specs.Table.{find};
-ghost use Rattle.wat_profile.specs.Profile.{profile};
-ghost use Rattle.wat_profile.specs.Trees.{entry_of, mnemonic_text};
+ghost use Rattle.wat_profile.specs.KnownMnemonics.{known_entries};
+ghost use Rattle.wat_profile.specs.TreeViews.{entry_of, mnemonic_text};
 
 #[derive(Clone, Copy, Debug, PartialEq, Eq)]
 pub enum Mnemonic {
@@ -11,13 +11,13 @@ pub enum Mnemonic {
     I32Const,
 }
 
-/// The mnemonics in the order of the profile.
+/// The mnemonics in the order of the table.
 const MNEMONICS: [Mnemonic; 3] = [Mnemonic::Nop, Mnemonic::Drop, Mnemonic::I32Const];
 
 impl Mnemonic {
     /// The mnemonic that is written so.
     pub fn of(text: &[u8]) -> Option<Mnemonic>
-        ensures { option_map entry_of result ≡ find text.now profile }
+        ensures { option_map entry_of result ≡ find text.now known_entries }
     {
         find_among(&MNEMONICS, text)
     }

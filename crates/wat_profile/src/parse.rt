@@ -1,13 +1,13 @@
 //! What is read by the grammar, and repeats of it.
 ghost use Rattle.std.specs.Prelude.{◌≡◌, ℕ, List, Some, map};
-ghost use Rattle.wat_profile.specs.Reading.{ahead, Keeps, Gives};
+ghost use Rattle.wat_profile.specs.ParserState.{ahead, Keeps, Gives};
 ghost use Rattle.wat_profile.specs.Grammar.{Syntax, Test, ask, many, Shrinks};
 
 use crate::parse_fault::ParseFault;
 use crate::parser::Parser;
 
-/// What the grammar says of a type.
-pub trait Meaning: Sized + Drop {
+/// A type that is spelled: what the grammar says of it.
+pub trait Production: Sized + Drop {
     /// What the grammar sees of a value.
     ghost Tree: { Type 0 };
 
@@ -17,7 +17,7 @@ pub trait Meaning: Sized + Drop {
     ghost syntax: { Syntax (List ℕ) ℕ Tree };
 }
 
-pub trait Parse<'a>: Meaning {
+pub trait Parse<'a>: Production {
     /// Reads one, as the grammar says.
     fn parse(parser: &mut Parser<'a, '_>) -> Result<Self, ParseFault>
         ensures read { Gives Self.tree result parser.new (Self.syntax.reads (ahead parser.old)) }
@@ -25,7 +25,7 @@ pub trait Parse<'a>: Meaning {
 }
 
 /// What may be repeated.
-pub trait Item: Meaning {
+pub trait Item: Production {
     /// What one begins with.
     ghost starts: { List Test };
 

@@ -1,15 +1,14 @@
 //! A parser: the tokens of a text, and how many of them are taken.
-ghost use Rattle.std.specs.Prelude.{◌≡◌, ◌+◌, List, [], ◌∷◌, Some, slice_range, IfSome, IfNone, IfOk, IfErr};
+ghost use Rattle.std.specs.Prelude.{◌≡◌, ◌+◌, [], ◌∷◌, Some, IfSome, IfNone, IfOk, IfErr};
 ghost use Rattle.std.specs.Cow.{cow_str_bytes};
 ghost use Rattle.std.specs.List.{All};
-ghost use Rattle.std.specs.Str.{is_utf8};
 ghost use Rattle.wast_lexer.specs.declared.token.TokenKind.TheVariants as kinds;
 ghost use Rattle.wast_lexer.specs.Readers.{IsOf, text_of};
 ghost use Rattle.wat_profile.specs.Tokens.{literal, string_value};
-ghost use Rattle.wat_profile.specs.Reading.{State, IsNext, IsTextOf, ahead, place_ahead, is_nil, is_trivia, literal_of, Keeps, Tells, Gives};
+ghost use Rattle.wat_profile.specs.ParserState.{State, IsNext, IsTextOf, ahead, is_nil, is_trivia, literal_of, Keeps, Tells, Gives};
 ghost use Rattle.wat_profile.specs.Grammar.{ask, word, op, one_of, that_open, that_close, this_group};
 ghost use Rattle.wat_profile.specs.Syntax.{instruction_starts, i32_literal, name};
-ghost use Rattle.wat_profile.specs.Trees.{entry_of};
+ghost use Rattle.wat_profile.specs.TreeViews.{entry_of};
 
 use crate::literal::i32_of;
 use crate::mnemonic::Mnemonic;
@@ -61,9 +60,7 @@ impl<'a, 't> Parser<'a, 't> {
     }
 
     /// Where the next significant token begins, or where the text ends.
-    pub fn offset(&self) -> usize
-        ensures { result ≡ place_ahead self.now }
-    {
+    pub fn offset(&self) -> usize {
         match self.next() {
             Some((token, _)) => token.offset,
             None => self.text.len(),
@@ -150,7 +147,7 @@ impl<'a, 't> Parser<'a, 't> {
 
     /// Takes a mnemonic.
     pub fn mnemonic(&mut self) -> Result<(Mnemonic, Span), ParseFault>
-        ensures read { Gives (λ m. (entry_of m.0, m.1.offset)) result self.new ((op []).reads (ahead self.old)) }
+        ensures read { Gives (λ m. (entry_of m.0, m.1.offset)) result self.new (op.reads (ahead self.old)) }
         ensures keeps { Keeps self.old self.new }
     {
         if let Some((token, after)) = self.next()
@@ -219,7 +216,7 @@ impl<'a, 't> Parser<'a, 't> {
 
     /// The parts of an integer.
     fn integer(&self, token: Token, kind: IntegerKind) -> Integer<'a>
-        requires own { IsOf self.now.text token }
+        requires of_text { IsOf self.now.text token }
         requires kind { token.kind ≡ kinds.Integer kind }
         ensures { literal_of result ≡ literal kind (text_of self.now.text token) }
     {
@@ -228,7 +225,7 @@ impl<'a, 't> Parser<'a, 't> {
 
     /// The text that a string stands for, where it is one; borrowed where nothing is escaped.
     fn text_of(&self, token: Token) -> Result<Option<CowStr<'a, Global>>, AllocError>
-        requires own { IsOf self.now.text token }
+        requires of_text { IsOf self.now.text token }
         requires kind { token.kind ≡ kinds.String }
         ensures { IfOk result (IsTextOf (string_value (text_of self.now.text token))) }
     {

@@ -1,15 +1,15 @@
 //! The productions.
-ghost use Rattle.std.specs.Prelude.{◌≡◌, ℕ, List, codes, IfOk, IfErr};
+ghost use Rattle.std.specs.Prelude.{◌≡◌, ℕ, List, IfOk, IfErr};
 ghost use Rattle.std.specs.List.{All};
 ghost use Rattle.wast_lexer.specs.Readers.{IsOf};
-ghost use Rattle.wat_profile.specs.Reading.{State, ahead, Keeps, Gives, NoneSpelled, significant_of};
-ghost use Rattle.wat_profile.specs.Grammar.{Syntax, Test, ask, Shrinks};
+ghost use Rattle.wat_profile.specs.ParserState.{ahead, Keeps, Gives, NoneSpelled, significant_of};
+ghost use Rattle.wat_profile.specs.Grammar.{ask, Shrinks};
 ghost use Rattle.wat_profile.specs.Syntax.{instruction_starts, export_starts, func_starts, operands, instruction, export, func, module_syntax};
-ghost use Rattle.wat_profile.specs.Trees.{entry_of, mnemonic_of, operands_tree, instruction_tree, export_tree, func_tree, module_tree};
+ghost use Rattle.wat_profile.specs.TreeViews.{entry_of, mnemonic_of, operands_tree, instruction_tree, export_tree, func_tree, module_tree};
 ghost use Rattle.wat_profile.specs.Tree as spec;
 
 use crate::mnemonic::Mnemonic;
-use crate::parse::{Item, Meaning, Parse, list_of};
+use crate::parse::{Item, Parse, Production, list_of};
 use crate::parse_fault::{Expected, ParseFault};
 use crate::parser::Parser;
 use crate::tree::{Export, Func, Instr, Instruction, Module};
@@ -17,7 +17,7 @@ use std::alloc::Global;
 use wast_lexer::TokenTable;
 
 /// The module that the tokens of a text spell, all of them.
-pub fn parse_module<'a>(
+pub fn parse_tokens<'a>(
     alloc: Global,
     text: &'a str,
     table: &TokenTable,
@@ -37,7 +37,7 @@ pub fn parse_module<'a>(
     Ok(module)
 }
 
-impl<'a> Meaning for Module<'a> {
+impl<'a> Production for Module<'a> {
     ghost Tree = { spec.Module (List ℕ) ℕ };
 
     ghost tree = { module_tree };
@@ -55,7 +55,7 @@ impl<'a> Parse<'a> for Module<'a> {
     }
 }
 
-impl<'a> Meaning for Func<'a> {
+impl<'a> Production for Func<'a> {
     ghost Tree = { spec.Func (List ℕ) ℕ };
 
     ghost tree = { func_tree };
@@ -92,7 +92,7 @@ impl<'a> Item for Func<'a> {
     {}
 }
 
-impl<'a> Meaning for Export<'a> {
+impl<'a> Production for Export<'a> {
     ghost Tree = { List ℕ };
 
     ghost tree = { export_tree };
@@ -124,7 +124,7 @@ impl<'a> Item for Export<'a> {
     {}
 }
 
-impl Meaning for Instr {
+impl Production for Instr {
     ghost Tree = { spec.Instruction (List ℕ) ℕ };
 
     ghost tree = { instruction_tree };

@@ -1,14 +1,14 @@
 //! From a text to the module that it spells.
 
-ghost use Rattle.std.specs.Prelude.{◌≡◌, ◌<◌, ◌^◌, length, MatchResult};
-ghost use Rattle.wat_profile.specs.Answering.{IsErrorOf, IsUnspelled};
+ghost use Rattle.std.specs.Prelude.{◌<◌, ◌^◌, length, MatchResult};
+ghost use Rattle.wat_profile.specs.Unspelled.{IsErrorOf, IsUnspelled};
 ghost use Rattle.wat_profile.specs.Means.{Spells};
-ghost use Rattle.wat_profile.specs.Trees.{module_tree};
+ghost use Rattle.wat_profile.specs.TreeViews.{module_tree};
 
 use crate::error::Error;
 use crate::lex_error::text_of;
 use crate::parse_fault::ParseFault;
-use crate::syntax::parse_module;
+use crate::syntax::parse_tokens;
 use crate::text_fault::TextFault;
 use crate::tree::Module;
 use std::alloc::Global;
@@ -17,8 +17,8 @@ use wast_lexer::{LexFault, Lexer, Span, TokenTable};
 /// The module that a text spells, which is one at most.
 ///
 /// Answers [`TextFault::Misspelled`] exactly where, memory found, the text spells none, and [`TextFault::Memory`] where
-/// a growth found no memory. The error's place is one of the text that its tokens reach, end to end.
-pub fn module_of(alloc: Global, text: &str) -> Result<Module<'_>, TextFault>
+/// a growth found no memory.
+pub fn parse_text(alloc: Global, text: &str) -> Result<Module<'_>, TextFault>
     requires { length text.now < 2 ^ 32 }
     ensures { MatchResult result (λ m. Spells text.now (module_tree m)) (λ fault. IsUnspelled text.now fault) }
 {
@@ -33,7 +33,7 @@ pub fn module_of(alloc: Global, text: &str) -> Result<Module<'_>, TextFault>
             return Err(misspelled(alloc, span.offset(), text_of(*error)));
         }
     }
-    match parse_module(alloc, text, &table) {
+    match parse_tokens(alloc, text, &table) {
         Ok(module) => Ok(module),
         Err(ParseFault::Memory) => Err(TextFault::Memory),
         Err(ParseFault::Refused { offset, expected }) => Err(misspelled(

@@ -1,6 +1,6 @@
 use Rattle.std.proofs.Common.{◌≡◌, ◌++◌, map, take}
-use Rattle.wat_profile.specs.Meaning.{export_of}
-use Rattle.wat_profile.specs.Trees.{export_tree}
+use Rattle.wat_profile.specs.StandsFor.{export_of}
+use Rattle.wat_profile.specs.TreeViews.{export_tree}
 use Rattle.wat_profile.specs.Encoding.{export_view}
 use Rattle.wat_profile.proofs.encoder.push_exports.Given as goal
 

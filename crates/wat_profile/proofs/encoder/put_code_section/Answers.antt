@@ -1,18 +1,25 @@
-use Rattle.std.proofs.Common.{map, ap, ◌∙◌, subst, All}
+use Rattle.std.proofs.Common.{◌<◌, ◌^◌, map, length, ap, sym, ◌∙◌, subst, All, List}
+use Rattle.std.specs.Prelude.{OnOk}
 use Rattle.std.proofs.lemmas.Result.{on_ok_weaker}
-use Rattle.wat_profile.specs.Layout.{code_item, FunctionFits, IsFunction}
-use Rattle.wat_profile.specs.Encoding.{function_view, functions_of, module_of}
-use Rattle.wat_profile.proofs.Assembly.{of_views, code_section}
-use Rattle.wat_profile.proofs.Functions.{functions_are, all_sound}
+use Rattle.wasm_encoder_base.specs.Bytes.{sized}
+use Rattle.wasm_encoder_code.specs.Body.{IsBody, body_bytes}
+use Rattle.wat_profile.specs.Layout.{FunctionFits, code_of}
+use Rattle.wat_profile.specs.StandsFor.{function_of}
+use Rattle.wat_profile.specs.TreeViews.{func_tree}
+use Rattle.wat_profile.specs.Encoding.{body_view, functions_of, module_meant}
+use Rattle.wat_profile.proofs.Assembly.{of_items, code_section}
+use Rattle.wat_profile.proofs.Functions.{all_sound, code_fits, size_fits, codes_appended}
 use Rattle.wat_profile.proofs.encoder.put_code_section.Goals as goal
 
 pub returns : goal.returns
 returns c =
-    let same = ap (map function_view) c.deref.ensures.value ∙ functions_are c.args.tree.now.funcs.items in
-    let a = of_views FunctionFits code_item function_view (module_of c.args.tree.now).functions same (λ f h. h) (λ f h. h) (record { spelled = c.put_code_list.ensures.spelled; fits = c.put_code_list.ensures.fits; too_large = c.put_code_list.ensures.too_large }) in
+    let funcs = c.args.tree.now.funcs.items in
+    let same = ap (map (λ f. body_bytes (body_view f))) (sym c.deref.ensures.value) ∙ sym c.in_ok-bodies.ensures.spelled ∙ sym c.deref-2.ensures.value in
+    let a = codes_appended funcs (of_items (λ f. FunctionFits (function_of (func_tree f))) (λ (b : List _). length b < 2 ^ 32) sized (λ f. body_bytes (body_view f)) funcs same size_fits code_fits (record { spelled = c.put_list.ensures.spelled; fits = c.put_list.ensures.fits; too_large = c.put_list.ensures.too_large })) in
+    let sound = all_sound funcs (subst (λ v. All (λ f. IsBody (body_view f)) v) c.deref.ensures.value c.in_ok-bodies.ensures.sound) in
     record {
       spelled = a.spelled;
-      sound = on_ok_weaker c.put_code_list.result (λ h. subst (λ v. All IsFunction (functions_of v)) c.deref.ensures.value (all_sound c.deref.result.now h)) c.put_code_list.ensures.sound;
+      sound = on_ok_weaker c.put_list.result (λ _. sound) c.put_list.ensures.spelled;
       fits = a.fits;
-      too_large = λ e f. a.too_large e (code_section (module_of c.args.tree.now) f);
+      too_large = λ e f. a.too_large e (code_section (module_meant c.args.tree.now) f);
     }

@@ -1,7 +1,7 @@
 use Rattle.std.proofs.Common.{map, ap, ◌∙◌, sym}
 use Rattle.wasm_encoder_base.specs.Leb.{uleb}
 use Rattle.wasm_encoder_base.specs.Unique.{Any}
-use Rattle.wat_profile.specs.Encoding.{module_of}
+use Rattle.wat_profile.specs.Encoding.{module_meant}
 use Rattle.wat_profile.proofs.Assembly.{of_items, function_section}
 use Rattle.wat_profile.proofs.Functions.{indices_are}
 use Rattle.wat_profile.proofs.encoder.put_function_section.Goals as goal
@@ -9,5 +9,5 @@ use Rattle.wat_profile.proofs.encoder.put_function_section.Goals as goal
 pub returns : goal.returns
 returns c =
     let same = indices_are c.args.tree.now.funcs.items ∙ ap (map (λ _. 0)) (sym c.deref.ensures.value) ∙ sym c.in_ok-indices.ensures ∙ sym c.deref-2.ensures.value in
-    let a = of_items Any Any uleb (λ f. f.type_index) (module_of c.args.tree.now).functions same (λ f h. h) (λ f h. h) (record { spelled = c.put_list.ensures.spelled; fits = c.put_list.ensures.fits; too_large = c.put_list.ensures.too_large }) in
-    record { spelled = a.spelled; fits = a.fits; too_large = λ e f. a.too_large e (function_section (module_of c.args.tree.now) f) }
+    let a = of_items Any Any uleb (λ f. f.type_index) (module_meant c.args.tree.now).functions same (λ f h. h) (λ f h. h) (record { spelled = c.put_list.ensures.spelled; fits = c.put_list.ensures.fits; too_large = c.put_list.ensures.too_large }) in
+    record { spelled = a.spelled; fits = a.fits; too_large = λ e f. a.too_large e (function_section (module_meant c.args.tree.now) f) }

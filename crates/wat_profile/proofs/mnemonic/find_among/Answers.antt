@@ -1,7 +1,7 @@
 use Rattle.std.proofs.Common.{◌≡◌, sym, ◌∙◌, ap, cond, map, drop, get_or, Some, ◌+◌, false, true}
 use Rattle.wasm_encoder_base.specs.Table.{find, same_text}
 use Rattle.wat_profile.specs.declared.mnemonic.Mnemonic.TheVariants.{Nop}
-use Rattle.wat_profile.specs.Trees.{entry_of}
+use Rattle.wat_profile.specs.TreeViews.{entry_of}
 use Rattle.wat_profile.proofs.Mnemonics.{find_here}
 use Rattle.wat_profile.proofs.mnemonic.find_among.Goals as goal
 

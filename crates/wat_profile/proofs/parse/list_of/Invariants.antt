@@ -1,11 +1,11 @@
 use Rattle.std.proofs.Common.{◌≡◌, map, length}
-use Rattle.wat_profile.specs.Reading.{ahead, Keeps}
+use Rattle.wat_profile.specs.ParserState.{ahead, Keeps}
 use Rattle.wat_profile.specs.Grammar.{many_reads}
 use Rattle.wat_profile.proofs.Repeats.{with_front}
 use Rattle.wat_profile.proofs.parse.list_of.Given as goal
 
 abbrev pub invariant-loop-items : goal.invariant-loop-items
-invariant-loop-items g l = let t = g.T.Meaning in let p = g.T.Item in record {
+invariant-loop-items g l = let t = g.T.Production in let p = g.T.Item in record {
   keeps : Keeps l.fn.parser l.parser;
   same : with_front (map t.tree l.items.items) (many_reads p.starts t.syntax.reads (length (ahead l.parser)) (ahead l.parser)) ≡ many_reads p.starts t.syntax.reads (length (ahead l.fn.parser)) (ahead l.fn.parser);
 }

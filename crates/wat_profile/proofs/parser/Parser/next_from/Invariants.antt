@@ -1,5 +1,5 @@
 use Rattle.std.proofs.Common.{◌≡◌, ◌-◌, length}
-use Rattle.wat_profile.specs.Reading.{ahead}
+use Rattle.wat_profile.specs.ParserState.{ahead}
 use Rattle.wat_profile.proofs.parser.Parser.next_from.Given as goal
 
 abbrev pub invariant-loop-token : goal.invariant-loop-token

@@ -7,7 +7,7 @@ use Rattle.wat_profile.specs.Tokens.{significant}
 use Rattle.wat_profile.specs.Tree.{Module}
 use Rattle.wat_profile.specs.Syntax.{module_syntax}
 use Rattle.wat_profile.specs.Means.{Spells}
-use Rattle.wat_profile.specs.Answering.{Reaches, IsErrorOf, IsUnspelled}
+use Rattle.wat_profile.specs.Unspelled.{IsErrorOf, IsUnspelled}
 use Rattle.wat_profile.specs.declared.text_fault.TextFault.{TextFault}
 use Rattle.wat_profile.specs.declared.text_fault.TextFault.TheVariants as faults
 use Rattle.wat_profile.proofs.GrammarLaws.{one_value}
@@ -23,10 +23,7 @@ pub spelled_by_none : (text : List ℕ) (ts : List Lexeme) → Tiles false false
 spelled_by_none text ts tiles none tree s =
     none tree (subst (λ us. module_syntax.spells tree (significant us)) (tile_once false false 0 text s.tokens ts s.tiled tiles) s.spelled)
 
-pub spelled_by_tiles : (text : List ℕ) (ts : List Lexeme) (tree : Module (List ℕ) ℕ) → Tiles false false 0 text ts → module_syntax.spells tree (significant ts) → Spells text tree
-spelled_by_tiles text ts tree tiles s = record { tokens = ts; tiled = tiles; spelled = s }
-
--- an error at a place that is reached, of a text that spells no tree
-pub unspelled : (place : ℕ) (message text : List ℕ) (f : TextFault) → IsErrorOf place message f → ((tree : Module (List ℕ) ℕ) → ¬ (Spells text tree)) → Reaches false false 0 text place → IsUnspelled text f
-unspelled place message text (faults.Misspelled error) is none reached = (none, subst (λ p. Reaches false false 0 text p) (sym is.0) reached)
-unspelled place message text faults.Memory is none reached = tt
+-- an error of a text that spells no tree
+pub unspelled : (place : ℕ) (message text : List ℕ) (f : TextFault) → IsErrorOf place message f → ((tree : Module (List ℕ) ℕ) → ¬ (Spells text tree)) → IsUnspelled text f
+unspelled place message text (faults.Misspelled error) is none = none
+unspelled place message text faults.Memory is none = tt

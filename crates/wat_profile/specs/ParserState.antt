@@ -12,7 +12,7 @@ use Rattle.wat_profile.specs.declared.parse_fault.Expected.{Expected}
 use Rattle.wat_profile.specs.declared.parse_fault.ParseFault.{ParseFault}
 use Rattle.wat_profile.specs.declared.parse_fault.ParseFault.TheVariants as faults
 use Rattle.wast_lexer.specs.Lexeme.{lexeme_of}
-use Rattle.wat_profile.specs.Tokens.{Tok, Open, Close, Id, Word, Mark, Integer, Text, Other, Broken, Literal, token_of, significant, number, base_of, is_minus}
+use Rattle.wat_profile.specs.Tokens.{SignificantToken, Open, Close, Id, Word, Mark, Integer, Text, Other, Broken, Literal, token_of, significant, number, base_of, is_minus}
 use Rattle.wat_profile.specs.Grammar.{Syntax}
 
 -- white space and comments
@@ -32,7 +32,7 @@ IsTextOf bytes None = is_utf8 bytes ≡ false
 IsTextOf bytes (Some t) = (is_utf8 bytes ≡ true) × (cow_str_bytes t ≡ bytes)
 
 -- the significant tokens of a text
-abbrev pub significant_of : List ℕ → List Token → List (Tok (List ℕ) ℕ)
+abbrev pub significant_of : List ℕ → List Token → List (SignificantToken (List ℕ) ℕ)
 significant_of text tokens = significant (map (lexeme_of text) tokens)
 
 -- A parser stands before one of the tokens of a text.
@@ -42,14 +42,14 @@ pub record State : Type 0 where
   pub at : ℕ
 
 -- the significant tokens before it
-abbrev pub ahead : State → List (Tok (List ℕ) ℕ)
+abbrev pub ahead : State → List (SignificantToken (List ℕ) ℕ)
 ahead s = significant_of s.text (drop s.at s.tokens)
 
 -- The significant tokens before a parser begin with this one, and go on as they do after so many.
 pub record IsNext (s : State) (t : Token) (after : ℕ) : Type 0 where
   pub found : ahead s ≡ token_of t.kind (slice_range s.text t.offset (t.offset + t.len)) t.offset ++ ahead (record s { at = after })
-  pub shown : is_trivia t.kind ≡ false
-  pub own : IsOf s.text t
+  pub not_trivia : is_trivia t.kind ≡ false
+  pub of_text : IsOf s.text t
 
 -- whether nothing is there
 abbrev pub is_nil : {A : Type 0} → List A → Bool
@@ -61,27 +61,10 @@ pub record Keeps (old new : State) : Type 0 where
   pub text : new.text ≡ old.text
   pub tokens : new.tokens ≡ old.tokens
 
--- Where tokens begin, of a text that ends there: at the first of them.
-abbrev pub front : ℕ → List (Tok (List ℕ) ℕ) → ℕ
-front end [] = end
-front end (Open p ∷ ts) = p
-front end (Close p ∷ ts) = p
-front end (Id n p ∷ ts) = p
-front end (Word w p ∷ ts) = p
-front end (Mark w p ∷ ts) = p
-front end (Integer n p ∷ ts) = p
-front end (Text s p ∷ ts) = p
-front end (Other p ∷ ts) = p
-front end (Broken ∷ ts) = end
-
--- where the next significant token begins, or the text ends
-abbrev pub place_ahead : State → ℕ
-place_ahead s = front (length s.text) (ahead s)
-
--- A fault is want of memory, or what reading refuses, at the place that the parser has reached.
-abbrev pub Refuses : {Y : Type 0} → ParseFault → State → Option Y → Type 0
-Refuses faults.Memory s read = Unit {0}
-Refuses (faults.Refused offset expected) s read = (read ≡ None) × (offset ≡ place_ahead s)
+-- A fault is want of memory, or what reading refuses.
+abbrev pub Refuses : {Y : Type 0} → ParseFault → Option Y → Type 0
+Refuses faults.Memory read = Unit {0}
+Refuses (faults.Refused offset expected) read = read ≡ None
 
 -- a refusal that tells what could stand there
 abbrev pub Tells : Expected → ParseFault → Type 0
@@ -89,13 +72,11 @@ Tells expected faults.Memory = ⊥
 Tells expected (faults.Refused offset told) = told ≡ expected
 
 -- What is returned, seen by view, with the tokens before the parser, is what reading gives.
-abbrev pub Gives : {X Y : Type 0} → (X → Y) → Result X ParseFault → State → Option (Y × List (Tok (List ℕ) ℕ)) → Type 0
+abbrev pub Gives : {X Y : Type 0} → (X → Y) → Result X ParseFault → State → Option (Y × List (SignificantToken (List ℕ) ℕ)) → Type 0
 Gives view (Ok x) s read = read ≡ Some (view x, ahead s)
-Gives view (Err e) s read = Refuses e s read
+Gives view (Err e) s read = Refuses e read
 
--- A fault that tokens are refused with stands where one of them begins or the text ends, and no value is spelled by them.
+-- A fault is want of memory, or no value is spelled by the tokens.
 abbrev pub NoneSpelled : {A : Type 0} → Syntax (List ℕ) ℕ A → List ℕ → List Token → ParseFault → Type 0
 NoneSpelled g text tokens faults.Memory = Unit {0}
-NoneSpelled {A} g text tokens (faults.Refused offset expected) =
-    ((a : A) → ¬ g.spells a (significant_of text tokens))
-    × ((at : ℕ) × (offset ≡ place_ahead (record { text = text; tokens = tokens; at = at })))
+NoneSpelled {A} g text tokens (faults.Refused offset expected) = (a : A) → ¬ g.spells a (significant_of text tokens)

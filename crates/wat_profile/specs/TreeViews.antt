@@ -1,8 +1,8 @@
 -- What the grammar sees of the code's trees.
-use Rattle.std.specs.Prelude.{ℕ, List, map}
+use Rattle.std.specs.Prelude.{ℕ, List, [], map, codes, unwrap_or}
 use Rattle.std.specs.Cow.{cow_str_bytes}
-use Rattle.wasm_encoder_base.specs.Table.{Entry}
-use Rattle.wat_profile.specs.Profile.{nop_entry, drop_entry, i32_const_entry}
+use Rattle.wasm_encoder_base.specs.Table.{Entry, Plain, entry, find}
+use Rattle.wat_profile.specs.KnownMnemonics.{known_entries}
 use Rattle.wat_profile.specs.Tree.{Operands, NoOperands, I32}
 use Rattle.wat_profile.specs.Tree as spec
 use Rattle.wat_profile.specs.declared.mnemonic.Mnemonic.{Mnemonic}
@@ -14,15 +14,18 @@ use Rattle.wat_profile.specs.declared.tree.Export.{Export}
 use Rattle.wat_profile.specs.declared.tree.Func.{Func}
 use Rattle.wat_profile.specs.declared.tree.Module.{Module}
 
--- the table's entry of a mnemonic
-abbrev pub entry_of : Mnemonic → Entry
-entry_of mnemonics.Nop = nop_entry
-entry_of mnemonics.Drop = drop_entry
-entry_of mnemonics.I32Const = i32_const_entry
-
--- how it is written
+-- how a mnemonic is written
 abbrev pub mnemonic_text : Mnemonic → List ℕ
-mnemonic_text m = (entry_of m).mnemonic
+mnemonic_text mnemonics.Nop = codes "nop"
+mnemonic_text mnemonics.Drop = codes "drop"
+mnemonic_text mnemonics.I32Const = codes "i32.const"
+
+-- the known entry of a mnemonic, one without an opcode where there is none
+unfoldable pub entry_named : List ℕ → Entry
+entry_named w = unwrap_or (find w known_entries) (entry w Plain [])
+
+abbrev pub entry_of : Mnemonic → Entry
+entry_of m = entry_named (mnemonic_text m)
 
 -- the mnemonic and the operands of an instruction
 abbrev pub mnemonic_of : Instruction → Mnemonic

@@ -2,7 +2,8 @@
 use Rattle.std.specs.Prelude.{ℕ, ◌≡◌, ◌+◌, List, [], ◌∷◌, ◌++◌, map}
 use Rattle.wasm_encoder_base.specs.Instr.{Instr, Operands, NoOperands, I32}
 use Rattle.wat_profile.specs.Tree.{Module, Func as TreeFunc, Instruction, Operands as TreeOperands, NoOperands as tree_NoOperands, I32 as tree_I32}
-use Rattle.wat_profile.specs.AbstractModule.{AbstractModule, FuncType, Function, Func, Export}
+use Rattle.wasm_encoder_base.specs.Types.{FuncType}
+use Rattle.wat_profile.specs.AbstractModule.{AbstractModule, Function, Func, Export}
 
 abbrev pub operands_of : {N P : Type 0} → TreeOperands N P → Operands
 operands_of tree_NoOperands = NoOperands
@@ -38,5 +39,5 @@ abbrev pub meant : {N P : Type 0} → Module N P → AbstractModule N
 meant t = record { types = implied t; functions = map function_of t.funcs; exports = exports_from 0 t.funcs }
 
 -- The tree stands for m.
-pub record Meaning {N P : Type 0} (t : Module N P) (m : AbstractModule N) : Type 0 where
+pub record StandsFor {N P : Type 0} (t : Module N P) (m : AbstractModule N) : Type 0 where
   pub is_meant : m ≡ meant t
