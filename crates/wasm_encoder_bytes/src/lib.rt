@@ -40,6 +40,3 @@ pub use leb::encoding_size;
 pub use list::EncodedList;
 pub use part::{Measure, Part, RawBytes};
 pub use reading::{read_s33, read_u32};
-
-#[cfg(test)]
-mod tests;

@@ -16,10 +16,3 @@ pub use wasm_encoder_instr::{
     Instruction, Lane, MemArg, MemArgOrdering, MemArgTarget, NumericOp, Ordering, VectorArgOp,
     VectorFloatOp, VectorNarrowOp, VectorOp, VectorWideOp,
 };
-
-#[cfg(test)]
-mod const_expr_tests;
-#[cfg(test)]
-mod sink_tests;
-#[cfg(test)]
-mod tests;

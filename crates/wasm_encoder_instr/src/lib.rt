@@ -32,8 +32,3 @@ pub use wasm_encoder_opcodes::{
     AccessOp, AtomicOp, AtomicRmwOp, CompareOp, ConvertOp, NumericOp, VectorFloatOp,
     VectorNarrowOp, VectorOp, VectorWideOp,
 };
-
-#[cfg(test)]
-mod opcodes;
-#[cfg(test)]
-mod tests;

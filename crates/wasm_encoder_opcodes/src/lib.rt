@@ -40,6 +40,3 @@ pub use vector::VectorOp;
 pub use vector_float::VectorFloatOp;
 pub use vector_narrow::VectorNarrowOp;
 pub use vector_wide::VectorWideOp;
-
-#[cfg(test)]
-mod tests;

@@ -1,0 +1,83 @@
+//! `encode`.
+
+use std::alloc::Global;
+use std::test::Fail;
+use wasm_encoder_base::{Encode, EncodeError, Items};
+use wasm_encoder_code::{ConstExpr, Function, Instruction, VectorFloatOp};
+
+/// Whether the value is encoded.
+fn is_encoded<T: Encode>(alloc: Global, value: &T) -> bool
+    requires { T.can_encode value.now }
+{
+    let mut sink = Vec::new(alloc);
+    value.encode(&mut sink).is_ok()
+}
+
+#[test]
+fn ample_encode(rt: HostRuntime) {
+    let numbers = [1u32, 2];
+    assert!(rt; is_encoded(rt.alloc(), &numbers.as_slice()));
+}
+
+#[test]
+fn ample_encode_of_instructions(rt: HostRuntime) {
+    assert!(rt; is_encoded(rt.alloc(), &Instruction::Nop));
+}
+
+#[test]
+fn ample_encode_of_expressions(rt: HostRuntime) {
+    assert!(rt; is_encoded(rt.alloc(), &ConstExpr::empty(rt.alloc())));
+}
+
+#[test]
+fn ample_encode_of_bodies(rt: HostRuntime) -> Result<(), Fail> {
+    let function = Function::new(rt.alloc(), &[])?;
+    assert!(rt; is_encoded(rt.alloc(), &function));
+    Ok(())
+}
+
+#[test]
+fn ample_clone_of_instructions(rt: HostRuntime) {
+    assert!(rt; Instruction::Nop.clone(rt.alloc()).is_ok());
+}
+
+/// A list of names: the third and the fourth grow the sink once more.
+#[test]
+fn refused_growths_of_lists(rt: HostRuntime) -> Result<(), Fail> {
+    let mut sink = Vec::new(rt.alloc());
+    let long = "0123456789012345678901234567890123456789";
+    let names = [long, "a", long, long];
+    if let Err(error) = names.as_slice().encode(&mut sink) {
+        assert_eq!(rt; error, EncodeError::Memory);
+        assert!(rt; sink.is_empty());
+        return Err(error.into());
+    }
+    assert_eq!(rt; sink.len(), 126);
+    Ok(())
+}
+
+/// The prefix finds room, so that its number is what is refused.
+#[test]
+fn refused_growths_of_opcodes(rt: HostRuntime) -> Result<(), Fail> {
+    let mut sink = Vec::with_capacity(rt.alloc(), 1)?;
+    if let Err(error) = VectorFloatOp::F32x4RelaxedMadd.encode(&mut sink) {
+        assert_eq!(rt; error, EncodeError::Memory);
+        assert!(rt; sink.is_empty());
+        return Err(error.into());
+    }
+    assert_eq!(rt; sink.len(), 3);
+    Ok(())
+}
+
+#[test]
+fn refused_growths_of_instructions(rt: HostRuntime) -> Result<(), Fail> {
+    let mut sink = Vec::new(rt.alloc());
+    let labels = [0; 100];
+    if let Err(error) = Instruction::BrTable(Items::borrowed(&labels), 0).encode(&mut sink) {
+        assert_eq!(rt; error, EncodeError::Memory);
+        assert!(rt; sink.is_empty());
+        return Err(error.into());
+    }
+    assert_eq!(rt; sink.len(), 103);
+    Ok(())
+}
