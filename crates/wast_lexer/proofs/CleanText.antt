@@ -6,7 +6,7 @@ use Rattle.std.specs.Prelude.{◌==◌, nat_lt}
 use Rattle.std.specs.List.{list_all, list_any}
 use Rattle.std.proofs.lemmas.Bool.{cases_Bool, or_cases}
 use Rattle.std.proofs.lemmas.Bool.Decides.{nat_tests}
-use Rattle.wast_lexer.specs.Kinds.{is_clean, starts_refused, is_refused}
+use Rattle.wast_lexer.specs.Kinds.{is_clean, is_refused}
 use Rattle.wast_lexer.specs.Laws.{confusing}
 use Rattle.wast_lexer.proofs.Basics.{and_true, eq_of}
 use Rattle.wast_lexer.proofs.Refused.{not_refused}

@@ -15,7 +15,8 @@ pub mod ByteTable
 pub mod Cuts
 pub mod Ends
 pub mod TokenTextLaws
-pub mod LevelLaws
+pub mod ParenEndLaws
+pub mod EntryLaws
 pub mod TableLaws
 pub mod NameLaws
 pub use Rattle.wast_lexer_numbers.proofs.NumberLaws

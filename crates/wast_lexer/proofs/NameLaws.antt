@@ -1,17 +1,15 @@
 -- Runs of identifier characters alone.
-use Rattle.std.proofs.Common.{◌≡◌, ℕ, ◌-◌, ◌<◌, ◌≤◌, Bool, true, false, not, ◌&&◌, ◌||◌, List, [], ◌∷◌, Option, Some, None, length, take, drop, get_or, refl, sym, ◌∙◌, ap, arith, length-append}
-use Rattle.std.specs.Prelude.{◌==◌, if◌then◌else◌, nat_lt, slice_range}
+use Rattle.std.proofs.Common.{◌≡◌, ℕ, ◌-◌, ◌<◌, ◌≤◌, Bool, true, false, not, ◌||◌, List, [], ◌∷◌, Some, None, length, take, drop, get_or, refl, sym, ◌∙◌, ap, arith, length-append}
+use Rattle.std.specs.Prelude.{if◌then◌else◌, nat_lt, slice_range}
 use Rattle.std.specs.List.{list_all}
 use Rattle.std.proofs.Math.Seq.{take-append_seam}
 use Rattle.std.proofs.lemmas.Bool.Decides.{nat_tests}
 use Rattle.std.proofs.lemmas.List.{length-drop}
 use Rattle.wast_lexer_strings.specs.Strings.{is_quote}
 use Rattle.wast_lexer_strings.specs.StringScan.{is_empty}
-use Rattle.wast_lexer_numbers.specs.NumberScan.{number}
-use Rattle.wast_lexer.specs.declared.token.TokenKind.{TokenKind}
-use Rattle.wast_lexer.specs.declared.token.TokenKind.TheVariants.{Id, Keyword, Annotation, Reserved}
-use Rattle.wast_lexer.specs.Kinds.{starts, is_idchar, is_lower, is_name}
-use Rattle.wast_lexer.specs.Scan.{skip, kind_of, plain_kind, other_kind, number_or, is_string, is_text_string}
+use Rattle.wast_lexer.specs.declared.token.TokenKind.TheVariants.{Id, Annotation, Reserved}
+use Rattle.wast_lexer.specs.Kinds.{starts, is_idchar, is_name}
+use Rattle.wast_lexer.specs.Scan.{skip, kind_of, plain_kind, is_string, is_text_string}
 use Rattle.std.specs.Bool.{then_some}
 use Rattle.std.specs.Prelude.{option_map}
 use Rattle.wast_lexer.specs.Tiling.{goes_on}

@@ -6,7 +6,7 @@ use Rattle.std.proofs.lemmas.List.{drop_all, length-drop, drop-drop}
 use Rattle.std.proofs.lemmas.Bool.{cases_Bool}
 use Rattle.std.proofs.lemmas.Bool.Decides.{nat_tests}
 use Rattle.wast_lexer_strings.specs.Strings.{is_quote}
-use Rattle.wast_lexer_strings.specs.StringScan.{Read, read, is_empty, is_text}
+use Rattle.wast_lexer_strings.specs.StringScan.{Read, read, is_empty}
 use Rattle.wast_lexer_strings.specs.StringScan.State.{Within}
 use Rattle.wast_lexer.specs.Kinds.{starts, is_idchar, is_name, may_stand}
 use Rattle.wast_lexer.specs.Tiling.{goes_on}

@@ -3,8 +3,8 @@ use Rattle.std.specs.Prelude.{◌≡◌, ℕ, ◌+◌, List, [], ◌∷◌, ◌+
 use Rattle.wast_lexer.specs.declared.token.TokenKind.{TokenKind}
 use Rattle.wast_lexer.specs.declared.token.TokenKind.TheVariants.{LParen, RParen}
 use Rattle.wast_lexer.specs.declared.token.Token.{Token}
-use Rattle.wast_lexer.specs.declared.level.Paren.{Paren}
-use Rattle.wast_lexer.specs.declared.level.Paren.TheVariants.{Opens, Closes, Other}
+use Rattle.wast_lexer.specs.declared.paren.Paren.{Paren}
+use Rattle.wast_lexer.specs.declared.paren.Paren.TheVariants.{Opens, Closes, Other}
 
 abbrev pub paren_of : TokenKind → Paren
 paren_of LParen = Opens

@@ -10,7 +10,8 @@ pub mod Tokens
 pub mod Groups
 pub mod Table
 pub mod Scan
-pub mod Levels
+pub mod ParenEnds
+pub mod Entries
 pub use Rattle.wast_lexer_strings.specs.Strings
 pub use Rattle.wast_lexer_strings.specs.StringScan
 pub use Rattle.wast_lexer_strings.specs.declared.error.LexError

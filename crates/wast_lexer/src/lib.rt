@@ -5,19 +5,21 @@
 #![tactic(auto)]
 
 mod comment;
+mod entry;
 mod fault;
 pub mod laws;
-mod level;
 mod lexer;
+mod paren;
+mod paren_ends;
 mod parse;
 mod read;
-mod word;
 mod scan;
 mod skip;
 mod span;
 mod table;
 mod token;
 mod tokens;
+mod word;
 
 pub use fault::LexFault;
 pub use lexer::{Lexer, Tokens};

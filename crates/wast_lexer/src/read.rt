@@ -11,9 +11,9 @@ ghost use Rattle.wast_lexer.specs.Kinds.{is_name, IsNameOf, IsIdOf, IsAnnotation
 ghost use Rattle.wast_lexer.specs.TokenText.{IsOf, text_of, is_plain, IsIdFault, IsRefusal};
 
 use crate::fault::LexFault;
-use crate::word::is_quote_at;
 use crate::span::Span;
 use crate::token::Token;
+use crate::word::is_quote_at;
 use std::alloc::{AllocError, Global};
 use std::borrow::CowStr;
 use wasm_encoder_base::Bytes;

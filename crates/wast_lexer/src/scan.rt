@@ -5,9 +5,9 @@ ghost use Rattle.wast_lexer.specs.Scan.{FindsToken, next};
 ghost use Rattle.wast_lexer.specs.Kinds.{is_space, is_mark};
 
 use crate::comment::{block_end, comment, is_semicolon_at};
-use crate::word::{goes_on, scan_word};
 use crate::skip::{find_either, space_end};
 use crate::token::TokenKind;
+use crate::word::{goes_on, scan_word};
 use wast_lexer_strings::LexError;
 
 /// The kind of the token at a place, and where it ends.

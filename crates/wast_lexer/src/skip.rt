@@ -4,8 +4,8 @@ ghost use Rattle.std.specs.Prelude.{◌≡◌, ◌≤◌, ℕ, length, drop};
 ghost use Rattle.wast_lexer.specs.Kinds.{is_space, is_idchar};
 ghost use Rattle.wast_lexer.specs.Scan.{skip, is_neither};
 
-use crate::word::is_idchar;
 use crate::scan::is_space;
+use crate::word::is_idchar;
 use memchr::memchr2;
 
 /// Where the run of spaces ends.

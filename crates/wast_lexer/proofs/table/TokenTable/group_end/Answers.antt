@@ -1,51 +1,35 @@
-use Rattle.std.proofs.Common.{◌≡◌, ◌<◌, ◌+◌, sym, ◌∙◌, ap, arith, length, drop, true}
-use Rattle.std.specs.Prelude.{slice_index}
-use Rattle.wast_lexer.specs.declared.level.Paren.TheVariants.{Opens}
+use Rattle.std.proofs.Common.{◌≡◌, ◌<◌, ◌+◌, sym, ◌∙◌, ap, subst, arith, length, drop, get_or}
+use Rattle.wast_lexer.specs.declared.paren.Paren.TheVariants.{Opens}
+use Rattle.wast_lexer.specs.Entries.{parens_of}
 use Rattle.wast_lexer.specs.Groups.{parens, paren_of}
-use Rattle.wast_lexer.specs.Levels.{is_opening, place, closing}
-use Rattle.wast_lexer.proofs.Basics.{apart}
-use Rattle.wast_lexer.proofs.LevelLaws.{parens_length, paren_at, group_at, at_group, opening_is, any_default}
-use Rattle.wast_lexer.proofs.table.TokenTable.group_end.Goals.{then-len-index-via-then-len-index, then-len-index-via-else-len-index+then-not-is_opening}
+use Rattle.wast_lexer.specs.ParenEnds.{closing, index_of}
+use Rattle.wast_lexer.specs.Table.{Tabled}
+use Rattle.wast_lexer.proofs.EntryLaws.{same_parens, paren_kept, paren_found, parens_length}
+use Rattle.wast_lexer.proofs.ParenEndLaws.{EndOf, no_group, end_of}
 use Rattle.wast_lexer.proofs.table.TokenTable.group_end.Goals as goal
 
 pub returns-then-len-index : goal.returns-then-len-index
 returns-then-len-index c =
-    let items = c.args.self.now.tokens.items in
-    let index = c.args.index in
-    let n = parens_length items in
-    λ end g. (let found = at_group (parens items) index end g in
-    elim c.then-len-index.branch [
-      | then-len-index-via-then-len-index w ↦ omega (arith, found.0, n, w.if-len-index.true, c.len.ensures)
-      | then-len-index-via-else-len-index+then-not-is_opening w ↦
-          let inside : index < length items = omega (arith, found.0, n) in
-          let is = paren_at items index w.index.result.now (paren_of w.index.result.now.kind) inside (ap (λ t. paren_of t.kind) w.index.ensures) in
-          let opens : is_opening (paren_of w.index.result.now.kind) ≡ true = ap is_opening (sym is ∙ found.1) in
-          apart (sym w.if-not-is_opening.ensures) opens
-    ])
+    let es = c.self.inside.entries.items in
+    let same : parens_of es ≡ parens c.args.self.now.tokens = sym (same_parens 0 es) ∙ ap (λ (t : Tabled). parens t.tokens) c.self.view_is in
+    no_group (parens c.args.self.now.tokens) c.args.index (λ inside _. omega (arith, inside, ap length same, parens_length es, c.len.ensures, c.if-len-index.true))
 
-pub returns-then-end : goal.returns-then-end
-returns-then-end c =
-    let items = c.args.self.now.tokens.items in
-    let ends = c.args.self.now.ends.items in
+pub returns-in-Opens : goal.returns-in-Opens
+returns-in-Opens c =
+    let es = c.self.inside.entries.items in
     let index = c.args.index in
-    let n = parens_length items in
-    λ end g. (let found = at_group (parens items) index end g in
-    let known = c.args.self.now.levels (index + 1) (omega arith) (omega (arith, found.0)) in
-    let inside : index + 1 < length ends = omega (arith, found.0, n, c.args.self.now.len) in
-    let none : slice_index ends (index + 1) ≡ 4294967295 = any_default ends (index + 1) 0 c.index-end.result.now inside ∙ sym c.index-end.ensures ∙ c.if-end.true in
-    let at : end ≡ 4294967295 = found.2 ∙ sym known ∙ none in
-    omega (arith, at, found.3, n, c.args.self.now.fits))
+    let same : parens_of es ≡ parens c.args.self.now.tokens = sym (same_parens 0 es) ∙ ap (λ (t : Tabled). parens t.tokens) c.self.view_is in
+    let inside : index < length es = omega (arith, c.if-len-index.false, c.len.ensures) in
+    let is = paren_kept es index c.index.result.now Opens inside (c.in-Opens.ensures ∙ ap (λ e. paren_of e.kind) c.index.ensures) in
+    let answer = c.closing.ensures ∙ ap (λ y. index_of (index + 1) (closing 0 (drop (index + 1) (parens_of y)))) c.deref.ensures.value in
+    subst (λ ps. EndOf ps index c.closing.result) same (end_of (parens_of es) index c.closing.result (omega (arith, inside, parens_length es)) is answer)
 
-pub returns : goal.returns
-returns c =
-    let items = c.args.self.now.tokens.items in
-    let ends = c.args.self.now.ends.items in
+pub returns-in_default : goal.returns-in_default
+returns-in_default c =
+    let es = c.self.inside.entries.items in
     let index = c.args.index in
-    let n = parens_length items in
-    let inside : index < length items = omega (arith, c.if-len-index.false, c.len.ensures) in
-    let opens = opening_is (paren_of c.index.result.now.kind) (sym c.if-not-is_opening.ensures) in
-    let is = paren_at items index c.index.result.now Opens inside (sym opens ∙ ap (λ t. paren_of t.kind) c.index.ensures) in
-    let known = c.args.self.now.levels (index + 1) (omega arith) (omega (arith, inside, n)) in
-    let within : index + 1 < length ends = omega (arith, inside, c.args.self.now.len) in
-    let end : c.index-end.result.now ≡ place (index + 1) (closing 0 (drop (index + 1) (parens items))) = c.index-end.ensures ∙ any_default ends (index + 1) c.index-end.result.now 0 within ∙ known in
-    group_at (parens items) index c.index-end.result.now (omega (arith, inside, n)) is end c.if-end.false
+    let same : parens_of es ≡ parens c.args.self.now.tokens = sym (same_parens 0 es) ∙ ap (λ (t : Tabled). parens t.tokens) c.self.view_is in
+    let inside : index < length es = omega (arith, c.if-len-index.false, c.len.ensures) in
+    let found = paren_found es index c.index.result.now inside in
+    let here = c.paren_of.ensures ∙ ap (λ e. paren_of e.kind) c.index.ensures in
+    no_group (parens c.args.self.now.tokens) index (λ _ opens. c.in_default.not-Opens (here ∙ sym found ∙ ap (λ y. get_or y index Opens) same ∙ opens))
