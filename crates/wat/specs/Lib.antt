@@ -12,6 +12,7 @@ pub use Rattle.wat_profile.specs.KnownMnemonics
 pub use Rattle.wat_profile.specs.Layout
 pub use Rattle.wat_profile.specs.Means
 pub use Rattle.wat_profile.specs.Parts
+pub use Rattle.wat_profile.specs.Spelling
 pub use Rattle.wat_profile.specs.StandsFor
 pub use Rattle.wat_profile.specs.Syntax
 pub use Rattle.wat_profile.specs.Tokens

@@ -5,7 +5,8 @@ use Rattle.std.proofs.lemmas.Bool.{cases_Bool}
 use Rattle.wasm_encoder_base.specs.Table.{Entry, find, same_text}
 use Rattle.wat_profile.specs.KnownMnemonics.{known_entries}
 use Rattle.wat_profile.specs.Tokens.{SignificantToken, Open, Close, Id, Word, Mark, Integer, Text, Other, Broken, Literal}
-use Rattle.wat_profile.specs.Grammar.{AnOpen, AWord, AnInteger, AString, first, Reader, ◌>>=◌, look, behind_open, Texts, Mnemonic, Any, holds, the_end, Test, on, any_fits, at, apart, join, faults, ask, Syntax, one_of, token, that_word, words, that_one, word, op, that_integer, integer, that_text, string, nothing, next, seq, wide, seen, only, many_reads, many_spells, many, that_open, that_close, paren_reads, tests_behind_open, paren, led, group, sub, this_word}
+use Rattle.wat_profile.specs.Grammar.{AnOpen, AWord, AnInteger, AString, first, Reader, look, behind_open, Texts, Mnemonic, Any, holds, the_end, Test, on, any_fits, at, apart, join, faults, ask, Syntax, one_of, token, words, word, op, integer, string, nothing, next, seq, wide, seen, only, many_reads, many, paren_reads, tests_behind_open, paren, led, group, sub, this_word}
+use Rattle.wat_profile.specs.Spelling.{◌>>=◌, that_word, that_one, that_integer, that_text, many_spells, that_open, that_close}
 use Rattle.wat_profile.proofs.Looks.{bind_ok, some_one, absurd_of, join_no, join_left, join_right, in_join, apart_no2, asked, behind_in, sub_law, within, within_self}
 
 -- the tokens are the taken ones, which spell the value, and the rest

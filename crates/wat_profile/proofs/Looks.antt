@@ -4,7 +4,8 @@ use Rattle.std.proofs.lemmas.Bool.{cases_Bool}
 use Rattle.std.specs.Cmp.Lexicographic.{bytes_decides}
 use Rattle.wasm_encoder_base.specs.Table.{same_text}
 use Rattle.wat_profile.specs.Tokens.{SignificantToken}
-use Rattle.wat_profile.specs.Grammar.{◌>>=◌, same, Shape, AnEnd, AnOpen, AWord, AMark, AnId, AnInteger, AString, AnOther, AFault, same_shape, Look, behind_open, Texts, This, Mnemonic, Any, holds, meet, Test, on, fits, clash, any_fits, at, any_clash, apart, join, faults, ask, test_behind_open, tests_behind_open, covers_text, covers, any_covers, sub}
+use Rattle.wat_profile.specs.Grammar.{same, Shape, AnEnd, AnOpen, AWord, AMark, AnId, AnInteger, AString, AnOther, AFault, same_shape, Look, behind_open, Texts, This, Mnemonic, Any, holds, meet, Test, on, fits, clash, any_fits, at, any_clash, apart, join, faults, ask, test_behind_open, tests_behind_open, covers_text, covers, any_covers, sub}
+use Rattle.wat_profile.specs.Spelling.{◌>>=◌}
 
 pub bind_ok : {A B : Type 0} (r : Option A) (f : A → Option B) (y : B) → (r >>= f) ≡ Some y → (x : A) × (r ≡ Some x) × (f x ≡ Some y)
 bind_ok None f y e = cc

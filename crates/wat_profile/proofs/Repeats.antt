@@ -1,7 +1,8 @@
 -- A repeat takes as many steps as it needs.
 use Rattle.std.proofs.Common.{◌≡◌, ℕ, zero, suc, ◌≤◌, ◌<◌, true, false, List, [], ◌∷◌, ◌++◌, length, Option, Some, None, refl, sym, ◌∙◌, ap, arith, append_assoc, cond}
 use Rattle.wat_profile.specs.Tokens.{SignificantToken}
-use Rattle.wat_profile.specs.Grammar.{Reader, ◌>>=◌, Test, ask, many_reads}
+use Rattle.wat_profile.specs.Grammar.{Reader, Test, ask, many_reads}
+use Rattle.wat_profile.specs.Spelling.{◌>>=◌}
 
 -- what is read, behind what was read before
 abbrev pub with_front : {A R : Type 0} → List A → Option (List A × R) → Option (List A × R)

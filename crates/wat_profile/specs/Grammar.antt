@@ -1,19 +1,15 @@
 -- A small language of grammars. Each production says which tokens spell a value, and how it is read.
--- What is promised of a text cites `spells` alone: looks, tests and `reads` say how a reader decides, and the laws join the two.
+-- What is promised of a text cites `spells` alone, which each way to put productions together takes from `Spelling`; looks,
+-- tests and `reads` say how a reader decides, and the laws join the two.
 use Rattle.std.specs.Prelude.{◌≡◌, ℕ, zero, suc, Bool, true, false, if◌then◌else◌, List, [], ◌∷◌, ◌++◌, length, Option, Some, None, is_some, ◌&&◌, not, ◌<◌}
 use Rattle.wasm_encoder_base.specs.Table.{Entry, find, same_text}
 use Rattle.wat_profile.specs.KnownMnemonics.{known_entries}
 use Rattle.wat_profile.specs.Tokens.{SignificantToken, Open, Close, Id, Word, Mark, Integer, Text, Other, Broken, Literal}
+use Rattle.wat_profile.specs.Spelling.{Spells, ◌>>=◌, that_word, that_one, that_integer, that_text, that_open, that_close, token_spells, nothing_spells, next_spells, seen_spells, only_spells, many_spells, paren_spells}
 
 -- a value and the tokens after it, or nothing
 abbrev pub Reader : Type 0 → Type 0 → Type 0 → Type 0
 Reader N P A = List (SignificantToken N P) → Option (A × List (SignificantToken N P))
-
--- the first, and then the second by its value
-infixl 10 ◌>>=◌
-abbrev pub ◌>>=◌ : {A B : Type 0} → Option A → (A → Option B) → Option B
-(Some x) >>= f = f x
-None >>= f = None
 
 -- LOOKS
 -- what a token is by its kind alone; a parenthesis that closes is an end
@@ -169,7 +165,7 @@ ask tests ts = if at (faults tests) ts then None else Some (at tests ts)
 -- PRODUCTIONS: which tokens spell a value, and all that reading and its laws need.
 pub record Syntax (N P A : Type 0) : Type 1 where
   -- which tokens spell a value
-  pub spells : A → List (SignificantToken N P) → Type 0
+  pub spells : Spells N P A
   -- how it is read
   pub reads : Reader N P A
   -- what it begins with, and whether it may be nothing
@@ -188,8 +184,8 @@ one_of f [] = None
 one_of f (t ∷ ts) = f t >>= λ a. Some (a, ts)
 
 abbrev pub token : {N P A : Type 0} → (SignificantToken N P → Option A) → List Test → Syntax N P A
-token {N} {P} f starts = record {
-  spells = λ a ts. (t : SignificantToken N P) × (ts ≡ t ∷ []) × (f t ≡ Some a);
+token f starts = record {
+  spells = token_spells f;
   reads = one_of f;
   starts = starts;
   empty = false;
@@ -197,18 +193,10 @@ token {N} {P} f starts = record {
 }
 
 -- a word that means something, and its place
-abbrev pub that_word : {N P A : Type 0} → (List ℕ → Option A) → SignificantToken N P → Option (A × P)
-that_word f (Word w p) = f w >>= λ a. Some (a, p)
-that_word f _ = None
-
 abbrev pub words : {N P A : Type 0} → (List ℕ → Option A) → Texts → Syntax N P (A × P)
 words f t = token (that_word f) (on false AWord t ∷ [])
 
 -- one word, of which the place is left
-abbrev pub that_one : {N P : Type 0} → List ℕ → SignificantToken N P → Option P
-that_one v (Word w p) = if same_text v w then Some p else None
-that_one v _ = None
-
 abbrev pub word : {N P : Type 0} → List ℕ → Syntax N P P
 word v = token (that_one v) (this_word v ∷ [])
 
@@ -217,25 +205,17 @@ abbrev pub op : {N P : Type 0} → Syntax N P (Entry × P)
 op = words (λ w. find w known_entries) Mnemonic
 
 -- an integer
-abbrev pub that_integer : {N P : Type 0} → SignificantToken N P → Option (Literal × P)
-that_integer (Integer n p) = Some (n, p)
-that_integer _ = None
-
 abbrev pub integer : {N P : Type 0} → Syntax N P (Literal × P)
 integer = token that_integer (on false AnInteger Any ∷ [])
 
 -- a string
-abbrev pub that_text : {N P : Type 0} → SignificantToken N P → Option (List ℕ)
-that_text (Text s p) = Some s
-that_text _ = None
-
 abbrev pub string : {N P : Type 0} → Syntax N P (List ℕ)
 string = token that_text (on false AString Any ∷ [])
 
 -- no token
 abbrev pub nothing : {N P : Type 0} → Syntax N P (Unit {0})
 nothing = record {
-  spells = λ a ts. ts ≡ [];
+  spells = nothing_spells;
   reads = λ ts. Some (tt, ts);
   starts = [];
   empty = true;
@@ -248,8 +228,8 @@ seq_reads ra rb ts = ra ts >>= λ a. rb a.0 a.1 >>= λ b. Some ((a.0, b.0), b.1)
 
 -- What comes second depends on the first; its bounds (starts, empty, stops) do not.
 abbrev pub next : {N P A B : Type 0} → Syntax N P A → (A → Syntax N P B) → List Test → Bool → List Test → Syntax N P (A × B)
-next {N} {P} g h starts empty stops = record {
-  spells = λ p ts. (us vs : List (SignificantToken N P)) × (ts ≡ us ++ vs) × g.spells p.0 us × (h p.0).spells p.1 vs;
+next g h starts empty stops = record {
+  spells = next_spells g.spells (λ a. (h a).spells);
   reads = seq_reads g.reads (λ a. (h a).reads);
   starts = join g.starts (if g.empty then starts else []);
   empty = g.empty && empty;
@@ -269,7 +249,7 @@ map_reads f r ts = r ts >>= λ a. Some (f a.0, a.1)
 
 abbrev pub seen : {N P A B : Type 0} → (A → B) → Syntax N P A → Syntax N P B
 seen f g = record {
-  spells = λ b ts. (a : _) × (f a ≡ b) × g.spells a ts;
+  spells = seen_spells f g.spells;
   reads = map_reads f g.reads;
   starts = g.starts;
   empty = g.empty;
@@ -282,7 +262,7 @@ only_reads p r ts = r ts >>= λ a. if p a.0 then Some a else None
 
 abbrev pub only : {N P A : Type 0} → (A → Bool) → Syntax N P A → Syntax N P A
 only p g = record {
-  spells = λ a ts. (p a ≡ true) × g.spells a ts;
+  spells = only_spells p g.spells;
   reads = only_reads p g.reads;
   starts = g.starts;
   empty = g.empty;
@@ -293,10 +273,6 @@ only p g = record {
 abbrev pub many_reads : {N P A : Type 0} → List Test → Reader N P A → ℕ → Reader N P (List A)
 many_reads starts r zero ts = ask starts ts >>= λ b. if b then None else Some ([], ts)
 many_reads starts r (suc n) ts = ask starts ts >>= λ b. if b then (r ts >>= λ a. many_reads starts r n a.1 >>= λ rest. Some (a.0 ∷ rest.0, rest.1)) else Some ([], ts)
-
-abbrev pub many_spells : {N P A : Type 0} → (A → List (SignificantToken N P) → Type 0) → List A → List (SignificantToken N P) → Type 0
-many_spells s [] ts = ts ≡ []
-many_spells {N} {P} s (a ∷ more) ts = (us vs : List (SignificantToken N P)) × (ts ≡ us ++ vs) × s a us × many_spells s more vs
 
 abbrev pub many : {N P A : Type 0} → List Test → Syntax N P A → Syntax N P (List A)
 many starts g = record {
@@ -309,14 +285,6 @@ many starts g = record {
 }
 
 -- ( .. )
-abbrev pub that_open : {N P : Type 0} → SignificantToken N P → Option P
-that_open (Open p) = Some p
-that_open _ = None
-
-abbrev pub that_close : {N P : Type 0} → SignificantToken N P → Option P
-that_close (Close p) = Some p
-that_close _ = None
-
 abbrev pub paren_reads : {N P A : Type 0} → Reader N P A → Reader N P A
 paren_reads r ts = one_of that_open ts >>= λ o. r o.1 >>= λ a. one_of that_close a.1 >>= λ c. Some (a.0, c.1)
 
@@ -329,8 +297,8 @@ tests_behind_open [] = []
 tests_behind_open (t ∷ ts) = test_behind_open t ∷ tests_behind_open ts
 
 abbrev pub paren : {N P A : Type 0} → Syntax N P A → Syntax N P A
-paren {N} {P} g = record {
-  spells = λ a ts. (us : List (SignificantToken N P)) × (p q : P) × (ts ≡ Open p ∷ us ++ Close q ∷ []) × g.spells a us;
+paren g = record {
+  spells = paren_spells g.spells;
   reads = paren_reads g.reads;
   starts = tests_behind_open g.starts;
   empty = false;

@@ -7,6 +7,7 @@ pub mod Layout
 pub mod Means
 pub mod ParserState
 pub mod Parts
+pub mod Spelling
 pub mod StandsFor
 pub mod Syntax
 pub mod Tokens

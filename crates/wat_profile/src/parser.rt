@@ -6,7 +6,8 @@ ghost use Rattle.wast_lexer.specs.declared.token.TokenKind.TheVariants as kinds;
 ghost use Rattle.wast_lexer.specs.Readers.{IsOf, text_of};
 ghost use Rattle.wat_profile.specs.Tokens.{literal, string_value};
 ghost use Rattle.wat_profile.specs.ParserState.{State, IsNext, IsTextOf, ahead, is_nil, is_trivia, literal_of, Keeps, Tells, Gives};
-ghost use Rattle.wat_profile.specs.Grammar.{ask, word, op, one_of, that_open, that_close, this_group};
+ghost use Rattle.wat_profile.specs.Grammar.{ask, word, op, one_of, this_group};
+ghost use Rattle.wat_profile.specs.Spelling.{that_open, that_close};
 ghost use Rattle.wat_profile.specs.Syntax.{instruction_starts, i32_literal, name};
 ghost use Rattle.wat_profile.specs.TreeViews.{entry_of};
 
