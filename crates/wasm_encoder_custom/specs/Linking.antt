@@ -1,10 +1,14 @@
 -- The linking section (tool conventions of WebAssembly): a version, and subsections, of which a symbol table is one.
 -- Which parts of a symbol there are is said by its flags, and left to who writes it.
-use Rattle.std.specs.Prelude.{ℕ, List, [], ◌∷◌, ◌++◌}
+use Rattle.std.specs.Prelude.{ℕ, List, [], ◌∷◌, ◌++◌, codes}
 use Rattle.wasm_encoder_base.specs.Bytes.{sized}
 use Rattle.wasm_encoder_base.specs.Leb.{uleb}
-use Rattle.wasm_encoder_custom.specs.Custom.{subsection}
+use Rattle.wasm_encoder_custom.specs.Custom.{Custom, custom, subsection}
 use Rattle.wasm_encoder_custom.specs.declared.symbols.DataSymbolDefinition.{DataSymbolDefinition}
+
+-- the section by its data, which is the version and the subsections
+abbrev pub linking_section : List ℕ → Custom
+linking_section contents = custom (codes "linking") contents
 
 abbrev pub version : List ℕ
 version = 2 ∷ []

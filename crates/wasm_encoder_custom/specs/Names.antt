@@ -1,8 +1,12 @@
 -- The name section (WebAssembly 3.0, the appendix on custom sections): subsections, each with its number.
-use Rattle.std.specs.Prelude.{ℕ, List, ◌++◌}
+use Rattle.std.specs.Prelude.{ℕ, List, ◌++◌, codes}
 use Rattle.wasm_encoder_base.specs.Bytes.{counted, sized}
 use Rattle.wasm_encoder_base.specs.Leb.{uleb}
-use Rattle.wasm_encoder_custom.specs.Custom.{subsection}
+use Rattle.wasm_encoder_custom.specs.Custom.{Custom, custom, subsection}
+
+-- the section by its data, which is its subsections
+abbrev pub name_section : List ℕ → Custom
+name_section subsections = custom (codes "name") subsections
 
 -- an index and its name
 pub record Naming : Type 0 where

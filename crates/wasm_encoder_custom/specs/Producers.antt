@@ -1,6 +1,11 @@
 -- The producers section (tool conventions of WebAssembly): fields, each a name and a list of values.
-use Rattle.std.specs.Prelude.{ℕ, List, ◌++◌}
+use Rattle.std.specs.Prelude.{ℕ, List, ◌++◌, codes}
 use Rattle.wasm_encoder_base.specs.Bytes.{counted, sized}
+use Rattle.wasm_encoder_base.specs.Lists.{Listed, list_bytes}
+use Rattle.wasm_encoder_custom.specs.Custom.{Custom, custom}
+
+abbrev pub producers_section : Listed → Custom
+producers_section fields = custom (codes "producers") (list_bytes fields)
 
 -- a producer and its version
 pub record Producer : Type 0 where

@@ -4,8 +4,8 @@ ghost use Rattle.std.specs.Prelude.{◌≡◌, ◌+◌, ◌<◌, ◌^◌, length
 ghost use Rattle.std.specs.Borrow.{sem};
 ghost use Rattle.wasm_encoder_base.specs.Adds.{Adds, KeptIfRefused};
 ghost use Rattle.wasm_encoder_base.specs.Lists.{no_items, with_item, list_bytes, HasRoom};
-ghost use Rattle.wasm_encoder_custom.specs.BranchHints.{hint_bytes, function_hints_bytes};
-ghost use Rattle.wasm_encoder_custom.specs.Custom.{custom, custom_bytes, CustomFits};
+ghost use Rattle.wasm_encoder_custom.specs.BranchHints.{hints_section, hint_bytes, function_hints_bytes};
+ghost use Rattle.wasm_encoder_custom.specs.Custom.{custom_bytes, CustomFits};
 ghost use Rattle.wasm_encoder_custom.specs.contracts.branch_hints.BranchHints.{the_row};
 
 use crate::custom::encode_custom;
@@ -71,9 +71,9 @@ impl BranchHints {
 impl Encode for BranchHints {
     ghost can_encode = { λ _. Unit {0} };
 
-    ghost fits = { λ section. CustomFits (custom (codes "metadata.code.branch_hint") (list_bytes section)) };
+    ghost fits = { λ section. CustomFits (hints_section section) };
 
-    ghost spelling = { λ section. custom_bytes (custom (codes "metadata.code.branch_hint") (list_bytes section)) };
+    ghost spelling = { λ section. custom_bytes (hints_section section) };
 
     fn encode(&self, sink: &mut Vec<u8>) -> Result<(), EncodeError> {
         encode_custom("metadata.code.branch_hint", &self.functions, sink)

@@ -6,8 +6,8 @@ ghost use Rattle.std.specs.Cow.{cow_str_bytes};
 ghost use Rattle.wasm_encoder_base.specs.Bytes.{sized};
 ghost use Rattle.wasm_encoder_base.specs.Adds.{Adds, KeptIfRefused};
 ghost use Rattle.wasm_encoder_base.specs.Lists.{no_items, with_item, list_bytes, HasRoom};
-ghost use Rattle.wasm_encoder_custom.specs.CoreDump.{value_bytes, named_bytes, instance_bytes, frame_bytes, with_frame, thread_bytes};
-ghost use Rattle.wasm_encoder_custom.specs.Custom.{custom, custom_bytes, CustomFits};
+ghost use Rattle.wasm_encoder_custom.specs.CoreDump.{value_bytes, named_bytes, instance_bytes, frame_bytes, with_frame, process_section, modules_section, instances_section, stack_section};
+ghost use Rattle.wasm_encoder_custom.specs.Custom.{custom_bytes, CustomFits};
 ghost use Rattle.wasm_encoder_custom.specs.contracts.dump.CoreDumpModulesSection.{the_row as modules_row};
 ghost use Rattle.wasm_encoder_custom.specs.contracts.dump.CoreDumpInstancesSection.{the_row as instances_row};
 ghost use Rattle.wasm_encoder_custom.specs.contracts.dump.CoreDumpStackSection.{the_row as stack_row};
@@ -57,9 +57,9 @@ impl CoreDumpSection {
 impl Encode for CoreDumpSection {
     ghost can_encode = { λ _. Unit {0} };
 
-    ghost fits = { λ section. CustomFits (custom (codes "core") (named_bytes section)) };
+    ghost fits = { λ section. CustomFits (process_section section) };
 
-    ghost spelling = { λ section. custom_bytes (custom (codes "core") (named_bytes section)) };
+    ghost spelling = { λ section. custom_bytes (process_section section) };
 
     fn encode(&self, sink: &mut Vec<u8>) -> Result<(), EncodeError> {
         encode_custom("core", &(0u8, self.name.as_str()), sink)
@@ -116,8 +116,8 @@ impl CoreDumpModulesSection {
 
     /// The section with its data in memory of its own.
     pub fn as_custom(&self) -> Result<CustomSection<'static>, EncodeError>
-        ensures name { IfOk result (λ section. cow_str_bytes section.name ≡ codes "coremodules") }
-        ensures bytes { IfOk result (λ section. section.bytes ≡ list_bytes self.now) }
+        ensures name { IfOk result (λ section. cow_str_bytes section.name ≡ (modules_section self.now).name) }
+        ensures bytes { IfOk result (λ section. section.bytes ≡ (modules_section self.now).contents) }
         ensures too_large { IsErrOf result EncodeError.TooLarge → ⊥ }
     {
         let bytes = spelled(self.modules.allocator(), &self.modules)?;
@@ -129,9 +129,9 @@ impl CoreDumpModulesSection {
 impl Encode for CoreDumpModulesSection {
     ghost can_encode = { λ _. Unit {0} };
 
-    ghost fits = { λ section. CustomFits (custom (codes "coremodules") (list_bytes section)) };
+    ghost fits = { λ section. CustomFits (modules_section section) };
 
-    ghost spelling = { λ section. custom_bytes (custom (codes "coremodules") (list_bytes section)) };
+    ghost spelling = { λ section. custom_bytes (modules_section section) };
 
     fn encode(&self, sink: &mut Vec<u8>) -> Result<(), EncodeError> {
         encode_custom("coremodules", &self.modules, sink)
@@ -194,8 +194,8 @@ impl CoreDumpInstancesSection {
 
     /// The section with its data in memory of its own.
     pub fn as_custom(&self) -> Result<CustomSection<'static>, EncodeError>
-        ensures name { IfOk result (λ section. cow_str_bytes section.name ≡ codes "coreinstances") }
-        ensures bytes { IfOk result (λ section. section.bytes ≡ list_bytes self.now) }
+        ensures name { IfOk result (λ section. cow_str_bytes section.name ≡ (instances_section self.now).name) }
+        ensures bytes { IfOk result (λ section. section.bytes ≡ (instances_section self.now).contents) }
         ensures too_large { IsErrOf result EncodeError.TooLarge → ⊥ }
     {
         let bytes = spelled(self.instances.allocator(), &self.instances)?;
@@ -207,9 +207,9 @@ impl CoreDumpInstancesSection {
 impl Encode for CoreDumpInstancesSection {
     ghost can_encode = { λ _. Unit {0} };
 
-    ghost fits = { λ section. CustomFits (custom (codes "coreinstances") (list_bytes section)) };
+    ghost fits = { λ section. CustomFits (instances_section section) };
 
-    ghost spelling = { λ section. custom_bytes (custom (codes "coreinstances") (list_bytes section)) };
+    ghost spelling = { λ section. custom_bytes (instances_section section) };
 
     fn encode(&self, sink: &mut Vec<u8>) -> Result<(), EncodeError> {
         encode_custom("coreinstances", &self.instances, sink)
@@ -272,8 +272,8 @@ impl CoreDumpStackSection {
 
     /// The section with its data in memory of its own.
     pub fn as_custom(&self) -> Result<CustomSection<'static>, EncodeError>
-        ensures name { IfOk result (λ section. cow_str_bytes section.name ≡ codes "corestack") }
-        ensures bytes { IfOk result (λ section. section.bytes ≡ thread_bytes self.now) }
+        ensures name { IfOk result (λ section. cow_str_bytes section.name ≡ (stack_section self.now).name) }
+        ensures bytes { IfOk result (λ section. section.bytes ≡ (stack_section self.now).contents) }
         ensures fits { OnOk result (length self.now.name < 2 ^ 32) }
         ensures too_large { IsErrOf result EncodeError.TooLarge → length self.now.name < 2 ^ 32 → ⊥ }
     {
@@ -296,9 +296,9 @@ impl CoreDumpStackSection {
 impl Encode for CoreDumpStackSection {
     ghost can_encode = { λ _. Unit {0} };
 
-    ghost fits = { λ section. CustomFits (custom (codes "corestack") (thread_bytes section)) };
+    ghost fits = { λ section. CustomFits (stack_section section) };
 
-    ghost spelling = { λ section. custom_bytes (custom (codes "corestack") (thread_bytes section)) };
+    ghost spelling = { λ section. custom_bytes (stack_section section) };
 
     fn encode(&self, sink: &mut Vec<u8>) -> Result<(), EncodeError> {
         let name = (0u8, self.name.as_str());

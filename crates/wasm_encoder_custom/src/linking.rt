@@ -5,7 +5,8 @@ ghost use Rattle.std.specs.Borrow.{sem};
 ghost use Rattle.wasm_encoder_base.specs.Bytes.{sized, optional};
 ghost use Rattle.wasm_encoder_base.specs.Adds.{Adds, KeptIfRefused};
 ghost use Rattle.wasm_encoder_base.specs.Lists.{no_items, with_item, list_bytes, HasRoom};
-ghost use Rattle.wasm_encoder_custom.specs.Custom.{custom, custom_bytes, CustomFits};
+ghost use Rattle.wasm_encoder_custom.specs.Custom.{custom_bytes, CustomFits};
+ghost use Rattle.wasm_encoder_custom.specs.Linking.{linking_section, version, symbol_table_bytes, target_arch_bytes};
 ghost use Rattle.wasm_encoder_custom.specs.contracts.linking.LinkingSection.{the_row};
 
 use crate::custom::encode_custom;
@@ -29,8 +30,6 @@ impl Model for LinkingSection {
 }
 
 impl LinkingSection {
-    ghost use Rattle.wasm_encoder_custom.specs.Linking.{version, symbol_table_bytes, target_arch_bytes};
-
     /// A section of version 2, without subsections.
     pub fn new(alloc: Global) -> Result<Self, AllocError>
         ensures { IfOk result (λ section. section ≡ version) }
@@ -71,9 +70,9 @@ impl LinkingSection {
 impl Encode for LinkingSection {
     ghost can_encode = { λ _. Unit {0} };
 
-    ghost fits = { λ section. CustomFits (custom (codes "linking") section) };
+    ghost fits = { λ section. CustomFits (linking_section section) };
 
-    ghost spelling = { λ section. custom_bytes (custom (codes "linking") section) };
+    ghost spelling = { λ section. custom_bytes (linking_section section) };
 
     fn encode(&self, sink: &mut Vec<u8>) -> Result<(), EncodeError> {
         encode_custom("linking", &RawBytes(self.bytes.as_slice()), sink)

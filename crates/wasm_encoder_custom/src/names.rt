@@ -1,14 +1,14 @@
 //! The name section (WebAssembly 3.0, the appendix on custom sections).
 
-ghost use Rattle.std.specs.Prelude.{◌≡◌, ◌+◌, ◌<◌, ◌^◌, ◌++◌, [], length, codes, nat_eq, IfOk};
+ghost use Rattle.std.specs.Prelude.{◌≡◌, ◌+◌, ◌<◌, ◌^◌, ◌++◌, [], length, IfOk};
 ghost use Rattle.std.specs.Borrow.{sem};
 ghost use Rattle.std.specs.Cow.{cow_str_bytes};
 ghost use Rattle.wasm_encoder_base.specs.Bytes.{sized};
 ghost use Rattle.wasm_encoder_base.specs.Adds.{Adds, KeptIfRefused};
 ghost use Rattle.wasm_encoder_base.specs.Leb.{uleb};
 ghost use Rattle.wasm_encoder_base.specs.Lists.{no_items, with_item, list_bytes, HasRoom};
-ghost use Rattle.wasm_encoder_custom.specs.Custom.{custom, custom_bytes, CustomFits, subsection};
-ghost use Rattle.wasm_encoder_custom.specs.Names.{number_of, inner_number_of, Functions, Types, Tables, Memories, Globals, Elements, DataSegments, Tags, Locals, Labels, Fields, Parameters, TagParameters};
+ghost use Rattle.wasm_encoder_custom.specs.Custom.{custom_bytes, CustomFits, subsection};
+ghost use Rattle.wasm_encoder_custom.specs.Names.{name_section, number_of, inner_number_of, Functions, Types, Tables, Memories, Globals, Elements, DataSegments, Tags, Locals, Labels, Fields, Parameters, TagParameters};
 ghost use Rattle.wasm_encoder_custom.specs.contracts.names.NameSection.{the_row};
 
 use crate::custom::{CustomSection, encode_custom};
@@ -197,8 +197,8 @@ impl NameSection {
 
     /// The section with its data borrowed.
     pub fn as_custom(&self) -> CustomSection<'_>
-        ensures name { cow_str_bytes result.name ≡ codes "name" }
-        ensures bytes { result.bytes ≡ self.now }
+        ensures name { cow_str_bytes result.name ≡ (name_section self.now).name }
+        ensures bytes { result.bytes ≡ (name_section self.now).contents }
     {
         CustomSection {
             name: CowStr::Borrowed("name"),
@@ -233,9 +233,9 @@ impl NameSection {
 impl Encode for NameSection {
     ghost can_encode = { λ _. Unit {0} };
 
-    ghost fits = { λ section. CustomFits (custom (codes "name") section) };
+    ghost fits = { λ section. CustomFits (name_section section) };
 
-    ghost spelling = { λ section. custom_bytes (custom (codes "name") section) };
+    ghost spelling = { λ section. custom_bytes (name_section section) };
 
     fn encode(&self, sink: &mut Vec<u8>) -> Result<(), EncodeError> {
         encode_custom("name", &RawBytes(self.bytes.as_slice()), sink)

@@ -5,8 +5,8 @@ ghost use Rattle.std.specs.Borrow.{sem};
 ghost use Rattle.wasm_encoder_base.specs.Bytes.{sized};
 ghost use Rattle.wasm_encoder_base.specs.Adds.{Adds, KeptIfRefused};
 ghost use Rattle.wasm_encoder_base.specs.Lists.{no_items, with_item, list_bytes, HasRoom};
-ghost use Rattle.wasm_encoder_custom.specs.Custom.{custom, custom_bytes, CustomFits};
-ghost use Rattle.wasm_encoder_custom.specs.Producers.{producer_bytes};
+ghost use Rattle.wasm_encoder_custom.specs.Custom.{custom_bytes, CustomFits};
+ghost use Rattle.wasm_encoder_custom.specs.Producers.{producers_section, producer_bytes};
 ghost use Rattle.wasm_encoder_custom.specs.contracts.producers.ProducersSection.{the_row};
 ghost use Rattle.wasm_encoder_custom.specs.contracts.producers.ProducersField.{the_row as field_row};
 
@@ -68,9 +68,9 @@ impl ProducersSection {
 impl Encode for ProducersSection {
     ghost can_encode = { λ _. Unit {0} };
 
-    ghost fits = { λ section. CustomFits (custom (codes "producers") (list_bytes section)) };
+    ghost fits = { λ section. CustomFits (producers_section section) };
 
-    ghost spelling = { λ section. custom_bytes (custom (codes "producers") (list_bytes section)) };
+    ghost spelling = { λ section. custom_bytes (producers_section section) };
 
     fn encode(&self, sink: &mut Vec<u8>) -> Result<(), EncodeError> {
         encode_custom("producers", &self.fields, sink)

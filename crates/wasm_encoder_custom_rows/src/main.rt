@@ -1,0 +1,42 @@
+//! Custom sections that are built by calls: the name of each row, and its bytes in hexadecimal, the section's number first.
+#![tactic(auto)]
+
+mod dump;
+mod names;
+mod tools;
+
+use std::alloc::Global;
+use std::io;
+use wasm_encoder_base::{EncodeError, Section};
+
+fn main(rt: HostRuntime) -> io::Result<()> {
+    names::print_rows(&rt)?;
+    tools::print_rows(&rt)?;
+    dump::print_rows(&rt)
+}
+
+/// Prints a row: its name, then the bytes, or why there are none.
+fn print_row(rt: &HostRuntime, name: &str, bytes: Result<Vec<u8>, EncodeError>) -> io::Result<()> {
+    print!(rt; "{name}:")?;
+    match bytes {
+        Ok(bytes) => print_bytes(rt, bytes.as_slice()),
+        Err(error) => println!(rt; " {error}"),
+    }
+}
+
+fn print_bytes(rt: &HostRuntime, bytes: &[u8]) -> io::Result<()> {
+    for byte in bytes {
+        print!(rt; " {byte:02x}")?;
+    }
+    println!(rt)
+}
+
+/// The number of the section, and what follows it.
+fn encoded<S: Section>(alloc: Global, section: &S) -> Result<Vec<u8>, EncodeError>
+    requires { S.Encode.can_encode section.now }
+{
+    let mut bytes = Vec::new(alloc);
+    bytes.push(section.id())?;
+    section.encode(&mut bytes)?;
+    Ok(bytes)
+}
