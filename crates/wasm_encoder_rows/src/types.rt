@@ -4,8 +4,8 @@ use crate::row::{print_values, spelled};
 use std::alloc::{AllocError, AllocGlobal, Global};
 use std::io::{self, Print};
 use wasm_encoder_base::{
-    AbstractHeapType, ArrayType, CompositeType, EncodeError, FieldType, FuncType, HeapType, Items,
-    RefType, SectionId, StorageType, StructType, SubType, ValType,
+    AbstractHeapType, ArrayType, CompositeType, EncodeError, FieldType, FuncType, HeapType,
+    OwnedItems, RefType, SectionId, StorageType, StructType, SubType, ValType,
 };
 use wasm_encoder_code::{Handle, MemArgOrdering, Ordering};
 
@@ -88,7 +88,7 @@ fn structure(alloc: Global) -> Result<StructType, AllocError> {
     };
     let fields = Vec::from_slice(alloc, &[field])?;
     Ok(StructType {
-        fields: Items::owned(fields),
+        fields: OwnedItems::new(fields),
     })
 }
 

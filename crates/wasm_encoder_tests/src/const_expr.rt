@@ -65,7 +65,11 @@ fn ample_with_global_get(rt: HostRuntime) {
 
 #[test]
 fn ample_with_ref_null(rt: HostRuntime) {
-    assert!(rt; ConstExpr::empty(rt.alloc()).with_ref_null(HeapType::Concrete(64)).is_ok());
+    assert!(rt;
+        ConstExpr::empty(rt.alloc())
+            .with_ref_null(HeapType::Concrete(64))
+            .is_ok()
+    );
 }
 
 #[test]
@@ -85,12 +89,20 @@ fn ample_with_i64_const(rt: HostRuntime) {
 
 #[test]
 fn ample_with_f32_const(rt: HostRuntime) {
-    assert!(rt; ConstExpr::empty(rt.alloc()).with_f32_const(Ieee32::new(0)).is_ok());
+    assert!(rt;
+        ConstExpr::empty(rt.alloc())
+            .with_f32_const(Ieee32::new(0))
+            .is_ok()
+    );
 }
 
 #[test]
 fn ample_with_f64_const(rt: HostRuntime) {
-    assert!(rt; ConstExpr::empty(rt.alloc()).with_f64_const(Ieee64::new(0)).is_ok());
+    assert!(rt;
+        ConstExpr::empty(rt.alloc())
+            .with_f64_const(Ieee64::new(0))
+            .is_ok()
+    );
 }
 
 #[test]

@@ -38,7 +38,7 @@ fn ample_encode_of_bodies(rt: HostRuntime) -> Result<(), Fail> {
 
 #[test]
 fn ample_clone_of_instructions(rt: HostRuntime) {
-    assert!(rt; Instruction::Nop.clone(rt.alloc()).is_ok());
+    assert!(rt; Instruction::Nop.clone().is_ok());
 }
 
 /// A list of names: the third and the fourth grow the sink once more.

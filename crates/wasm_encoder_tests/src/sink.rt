@@ -6,7 +6,11 @@ use wasm_encoder_code::{BlockType, Instruction, InstructionSink};
 #[test]
 fn ample_instruction(rt: HostRuntime) {
     let mut bytes = Vec::new(rt.alloc());
-    assert!(rt; InstructionSink::new(&mut bytes).instruction(&Instruction::End).is_ok());
+    assert!(rt;
+        InstructionSink::new(&mut bytes)
+            .instruction(&Instruction::End)
+            .is_ok()
+    );
 }
 
 #[test]
@@ -24,19 +28,31 @@ fn ample_nop(rt: HostRuntime) {
 #[test]
 fn ample_block(rt: HostRuntime) {
     let mut bytes = Vec::new(rt.alloc());
-    assert!(rt; InstructionSink::new(&mut bytes).block(BlockType::Empty).is_ok());
+    assert!(rt;
+        InstructionSink::new(&mut bytes)
+            .block(BlockType::Empty)
+            .is_ok()
+    );
 }
 
 #[test]
 fn ample_loop_(rt: HostRuntime) {
     let mut bytes = Vec::new(rt.alloc());
-    assert!(rt; InstructionSink::new(&mut bytes).loop_(BlockType::Empty).is_ok());
+    assert!(rt;
+        InstructionSink::new(&mut bytes)
+            .loop_(BlockType::Empty)
+            .is_ok()
+    );
 }
 
 #[test]
 fn ample_if_(rt: HostRuntime) {
     let mut bytes = Vec::new(rt.alloc());
-    assert!(rt; InstructionSink::new(&mut bytes).if_(BlockType::Empty).is_ok());
+    assert!(rt;
+        InstructionSink::new(&mut bytes)
+            .if_(BlockType::Empty)
+            .is_ok()
+    );
 }
 
 #[test]
@@ -120,7 +136,11 @@ fn ample_global_set(rt: HostRuntime) {
 #[test]
 fn ample_ref_null(rt: HostRuntime) {
     let mut bytes = Vec::new(rt.alloc());
-    assert!(rt; InstructionSink::new(&mut bytes).ref_null(HeapType::Concrete(9)).is_ok());
+    assert!(rt;
+        InstructionSink::new(&mut bytes)
+            .ref_null(HeapType::Concrete(9))
+            .is_ok()
+    );
 }
 
 #[test]
@@ -144,13 +164,21 @@ fn ample_i64_const(rt: HostRuntime) {
 #[test]
 fn ample_f32_const(rt: HostRuntime) {
     let mut bytes = Vec::new(rt.alloc());
-    assert!(rt; InstructionSink::new(&mut bytes).f32_const(Ieee32::new(0)).is_ok());
+    assert!(rt;
+        InstructionSink::new(&mut bytes)
+            .f32_const(Ieee32::new(0))
+            .is_ok()
+    );
 }
 
 #[test]
 fn ample_f64_const(rt: HostRuntime) {
     let mut bytes = Vec::new(rt.alloc());
-    assert!(rt; InstructionSink::new(&mut bytes).f64_const(Ieee64::new(0)).is_ok());
+    assert!(rt;
+        InstructionSink::new(&mut bytes)
+            .f64_const(Ieee64::new(0))
+            .is_ok()
+    );
 }
 
 #[test]
