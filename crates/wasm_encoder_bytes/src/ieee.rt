@@ -25,7 +25,8 @@ impl Ieee32 {
     pub const fn bits(self) -> u32
         ensures { result ≡ ieee32_bits self }
     {
-        self.bits
+        let Ieee32 { bits } = self;
+        bits
     }
 }
 
@@ -63,7 +64,8 @@ impl Ieee64 {
     pub const fn bits(self) -> u64
         ensures { result ≡ ieee64_bits self }
     {
-        self.bits
+        let Ieee64 { bits } = self;
+        bits
     }
 }
 

@@ -56,7 +56,8 @@ impl<'a, T> Items<'a, T> {
     pub fn into_cow(self) -> CowSlice<'a, T, Global>
         ensures { cow_slice_items result ≡ self.entry }
     {
-        self.items
+        let Items { items } = self;
+        items
     }
 
     /// The items.
@@ -111,7 +112,7 @@ impl<'a, T: PartialEq> PartialEq for Items<'a, T> {
 /// A list that owns its items. Contracts see the items.
 #[derive(Debug, Drop)]
 pub struct OwnedItems<T> {
-    items: Vec<T>,
+    vector: Vec<T>,
 }
 
 impl<T> Model for OwnedItems<T> {
@@ -119,7 +120,7 @@ impl<T> Model for OwnedItems<T> {
 
     ghost Value = { List T };
 
-    ghost view = { λ s. s.items.items };
+    ghost view = { λ s. s.vector.items };
 }
 
 impl<T> OwnedItems<T> {
@@ -127,14 +128,14 @@ impl<T> OwnedItems<T> {
     pub fn new(items: Vec<T>) -> Self
         ensures { result ≡ items.items }
     {
-        OwnedItems { items }
+        OwnedItems { vector: items }
     }
 
     /// The items.
     pub fn as_slice(&self) -> &[T]
         ensures { result.now ≡ self.now }
     {
-        self.items.as_slice()
+        self.vector.as_slice()
     }
 }
 
@@ -143,7 +144,7 @@ impl<T: Copy> Clone for OwnedItems<T> {
     ghost is_clone = { λ items copy. copy ≡ items };
 
     fn clone(&self) -> Result<Self, AllocError> {
-        let items = Vec::from_slice(*self.items.allocator(), self.as_slice())?;
+        let items = Vec::from_slice(*self.vector.allocator(), self.as_slice())?;
         Ok(OwnedItems::new(items))
     }
 }
