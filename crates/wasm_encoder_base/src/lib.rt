@@ -29,6 +29,6 @@ pub use types::{
     StorageType, StructType, SubType, ValType,
 };
 pub use wasm_encoder_bytes::{
-    Added, Bytes, Encode, EncodeError, EncodedList, Ieee32, Ieee64, Items, Measure, OwnedItems, Part,
-    RawBytes, encode_both, encode_sized, encoding_size, read_s33, read_u32, rolled_back,
+    Added, Bytes, Encode, EncodeError, EncodedList, Ieee32, Ieee64, Items, Measure, OwnedItems,
+    Part, RawBytes, encode_both, encode_sized, encoding_size, read_s33, read_u32, rolled_back,
 };

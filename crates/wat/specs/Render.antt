@@ -25,9 +25,9 @@ first_line (faults.Write written) = codes "cannot write the output after " ++ de
 -- the byte of the input that it speaks of
 abbrev pub place_of : Fault → Option ℕ
 place_of (faults.Spelling error) = Some error.place
-place_of (faults.NotWellFormed span) = Some span.offset
+place_of (faults.NotWellFormed span) = Some span
 place_of (faults.Unmet error) = Some error.place
-place_of (faults.Uncovered span form) = Some span.offset
+place_of (faults.Uncovered span form) = Some span
 place_of fault = None
 
 -- whether a character of the text begins at the offset, or the text ends there

@@ -8,7 +8,7 @@ use Rattle.std.proofs.lemmas.Option.{slice_get_within, slice_get_cases, get_or_f
 use Rattle.wast_lexer.specs.declared.token.Token.{Token}
 use Rattle.wast_lexer.specs.declared.token.TokenKind.{TokenKind}
 use Rattle.wast_lexer.specs.declared.token.TokenKind.TheVariants as kinds
-use Rattle.wast_lexer.specs.Readers.{IsOf, text_of}
+use Rattle.wast_lexer.specs.TokenText.{IsOf, text_of}
 use Rattle.wat_profile.specs.Tokens.{token_of}
 use Rattle.wat_profile.specs.ParserState.{State, ahead, is_trivia, significant_of, IsNext}
 

@@ -9,7 +9,7 @@ use Rattle.wast_lexer.specs.IntegerKind.{IntegerKind}
 use Rattle.wast_lexer.specs.NumberKind.TheVariants as number_kinds
 use Rattle.wast_lexer.specs.Integer.{Integer}
 use Rattle.wast_lexer.specs.Numbers.{IsNumber, sign_text, base_text}
-use Rattle.wast_lexer.specs.Readings.{IsIntegerOf}
+use Rattle.wast_lexer.specs.NumberParts.{IsIntegerOf}
 use Rattle.wast_lexer.proofs.NumberLaws.{number_scanned}
 use Rattle.wat_profile.specs.Tokens.{Literal, with_digit, number_after, number, is_minus, base_of, digits_of, literal}
 use Rattle.wat_profile.specs.ParserState.{literal_of}

@@ -4,9 +4,9 @@ use Rattle.std.specs.Str.{IsUtf8, is_utf8}
 use Rattle.std.proofs.lemmas.Bool.{cases_Bool}
 use Rattle.std.proofs.lemmas.Str.{IsUtf8-from_is_utf8, is_utf8-from_IsUtf8}
 use Rattle.wast_lexer.specs.Strings.{IsString}
-use Rattle.wast_lexer.proofs.StringReading.{whole_read}
+use Rattle.wast_lexer.proofs.StringScanLaws.{whole_read}
 use Rattle.wast_lexer.specs.declared.token.Token.{Token}
-use Rattle.wast_lexer.specs.Readers.{text_of}
+use Rattle.wast_lexer.specs.TokenText.{text_of}
 use Rattle.wat_profile.specs.Tokens.{read_value, string_value}
 
 pub string_value_is : (text bytes : List ℕ) → IsString text bytes → string_value text ≡ bytes

@@ -7,7 +7,7 @@ use Rattle.wast_lexer.specs.Integer.{Integer as IntegerParts}
 use Rattle.wast_lexer.specs.declared.token.TokenKind.{TokenKind}
 use Rattle.wast_lexer.specs.declared.token.TokenKind.TheVariants as kinds
 use Rattle.wast_lexer.specs.declared.token.Token.{Token}
-use Rattle.wast_lexer.specs.Readers.{IsOf}
+use Rattle.wast_lexer.specs.TokenText.{IsOf}
 use Rattle.wat_profile.specs.declared.parse_fault.Expected.{Expected}
 use Rattle.wat_profile.specs.declared.parse_fault.ParseFault.{ParseFault}
 use Rattle.wat_profile.specs.declared.parse_fault.ParseFault.TheVariants as faults

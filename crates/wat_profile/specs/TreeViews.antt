@@ -40,13 +40,13 @@ operands_tree (instructions.I32Const n) = I32 n
 
 -- the trees
 abbrev pub instruction_tree : Instr → spec.Instruction (List ℕ) ℕ
-instruction_tree i = record { place = i.span.offset; entry = entry_of (mnemonic_of i.kind); operands = operands_tree i.kind }
+instruction_tree i = record { place = i.span; entry = entry_of (mnemonic_of i.kind); operands = operands_tree i.kind }
 
 abbrev pub export_tree : Export → List ℕ
 export_tree e = cow_str_bytes e.name
 
 abbrev pub func_tree : Func → spec.Func (List ℕ) ℕ
-func_tree f = record { place = f.span.offset; exports = map export_tree f.exports.items; body = map instruction_tree f.body.items }
+func_tree f = record { place = f.span; exports = map export_tree f.exports.items; body = map instruction_tree f.body.items }
 
 abbrev pub module_tree : Module → spec.Module (List ℕ) ℕ
-module_tree m = record { place = m.span.offset; funcs = map func_tree m.funcs.items }
+module_tree m = record { place = m.span; funcs = map func_tree m.funcs.items }

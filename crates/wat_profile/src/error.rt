@@ -20,20 +20,20 @@ pub struct Error {
 impl Model for Error {
     ghost Value = { Complaint };
 
-    ghost view = { λ e. record { place = e.span.offset; message = string_bytes e.text } };
+    ghost view = { λ e. record { place = e.span; message = string_bytes e.text } };
 }
 
 impl Error {
     /// An error at a place, with this message.
     pub fn new(span: Span, text: String) -> Self
-        ensures { result ≡ record { place = span.offset; message = string_bytes text } }
+        ensures { result ≡ record { place = span; message = string_bytes text } }
     {
         Error { span, text }
     }
 
     /// Where the error is.
     pub fn span(&self) -> Span
-        ensures { result.offset ≡ self.now.place }
+        ensures { result ≡ self.now.place }
     {
         self.span
     }

@@ -3,7 +3,7 @@ ghost use Rattle.std.specs.Prelude.{◌≡◌, ◌+◌, [], ◌∷◌, Some, IfS
 ghost use Rattle.std.specs.Cow.{cow_str_bytes};
 ghost use Rattle.std.specs.List.{All};
 ghost use Rattle.wast_lexer.specs.declared.token.TokenKind.TheVariants as kinds;
-ghost use Rattle.wast_lexer.specs.Readers.{IsOf, text_of};
+ghost use Rattle.wast_lexer.specs.TokenText.{IsOf, text_of};
 ghost use Rattle.wat_profile.specs.Tokens.{literal, string_value};
 ghost use Rattle.wat_profile.specs.ParserState.{State, IsNext, IsTextOf, ahead, is_nil, is_trivia, literal_of, Keeps, Tells, Gives};
 ghost use Rattle.wat_profile.specs.Grammar.{ask, word, op, one_of, this_group};
@@ -30,16 +30,16 @@ pub struct Parser<'a, 't> {
 impl<'a, 't> Model for Parser<'a, 't> {
     ghost Value = { State };
 
-    ghost view = { λ p. record { text = p.text.now; tokens = p.table.now.tokens.items; at = p.at } };
+    ghost view = { λ p. record { text = p.text.now; tokens = p.table.now.tokens; at = p.at } };
 
-    ghost invariant = { λ p. All (IsOf p.text.now) p.table.now.tokens.items };
+    ghost invariant = { λ p. All (IsOf p.text.now) p.table.now.tokens };
 }
 
 impl<'a, 't> Parser<'a, 't> {
     /// Before the first token.
     pub fn new(alloc: Global, text: &'a str, table: &'t TokenTable) -> Parser<'a, 't>
-        requires { All (IsOf text.now) table.now.tokens.items }
-        ensures { result ≡ record { text = text.now; tokens = table.now.tokens.items; at = 0 } }
+        requires { All (IsOf text.now) table.now.tokens }
+        ensures { result ≡ record { text = text.now; tokens = table.now.tokens; at = 0 } }
     {
         Parser {
             alloc,
@@ -95,7 +95,7 @@ impl<'a, 't> Parser<'a, 't> {
 
     /// Takes a parenthesis that opens.
     pub fn open(&mut self) -> Result<Span, ParseFault>
-        ensures read { Gives (λ s. s.offset) result self.new (one_of that_open (ahead self.old)) }
+        ensures read { Gives (λ s. s) result self.new (one_of that_open (ahead self.old)) }
         ensures keeps { Keeps self.old self.new }
     {
         match self.next() {
@@ -112,7 +112,7 @@ impl<'a, 't> Parser<'a, 't> {
 
     /// Takes a parenthesis that closes.
     pub fn close(&mut self) -> Result<Span, ParseFault>
-        ensures read { Gives (λ s. s.offset) result self.new (one_of that_close (ahead self.old)) }
+        ensures read { Gives (λ s. s) result self.new (one_of that_close (ahead self.old)) }
         ensures keeps { Keeps self.old self.new }
     {
         match self.next() {
@@ -129,7 +129,7 @@ impl<'a, 't> Parser<'a, 't> {
 
     /// Takes this word, or tells what is expected.
     pub fn word(&mut self, name: &str, expected: Expected) -> Result<Span, ParseFault>
-        ensures read { Gives (λ s. s.offset) result self.new ((word name.now).reads (ahead self.old)) }
+        ensures read { Gives (λ s. s) result self.new ((word name.now).reads (ahead self.old)) }
         ensures told { IfErr result (Tells expected) }
         ensures keeps { Keeps self.old self.new }
     {
@@ -148,7 +148,7 @@ impl<'a, 't> Parser<'a, 't> {
 
     /// Takes a mnemonic.
     pub fn mnemonic(&mut self) -> Result<(Mnemonic, Span), ParseFault>
-        ensures read { Gives (λ m. (entry_of m.0, m.1.offset)) result self.new (op.reads (ahead self.old)) }
+        ensures read { Gives (λ m. (entry_of m.0, m.1)) result self.new (op.reads (ahead self.old)) }
         ensures keeps { Keeps self.old self.new }
     {
         if let Some((token, after)) = self.next()

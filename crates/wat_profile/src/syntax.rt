@@ -1,7 +1,7 @@
 //! The productions.
 ghost use Rattle.std.specs.Prelude.{◌≡◌, ℕ, List, IfOk, IfErr};
 ghost use Rattle.std.specs.List.{All};
-ghost use Rattle.wast_lexer.specs.Readers.{IsOf};
+ghost use Rattle.wast_lexer.specs.TokenText.{IsOf};
 ghost use Rattle.wat_profile.specs.ParserState.{ahead, Keeps, Gives, NoneSpelled, significant_of};
 ghost use Rattle.wat_profile.specs.Grammar.{ask, Shrinks};
 ghost use Rattle.wat_profile.specs.Syntax.{instruction_starts, export_starts, func_starts, operands, instruction, export, func, module_syntax};
@@ -22,9 +22,9 @@ pub fn parse_tokens<'a>(
     text: &'a str,
     table: &TokenTable,
 ) -> Result<Module<'a>, ParseFault>
-    requires { All (IsOf text.now) table.now.tokens.items }
-    ensures ok { IfOk result (λ m. module_syntax.spells (module_tree m) (significant_of text.now table.now.tokens.items)) }
-    ensures refused { IfErr result (λ e. NoneSpelled module_syntax text.now table.now.tokens.items e) }
+    requires { All (IsOf text.now) table.now.tokens }
+    ensures ok { IfOk result (λ m. module_syntax.spells (module_tree m) (significant_of text.now table.now.tokens)) }
+    ensures refused { IfErr result (λ e. NoneSpelled module_syntax text.now table.now.tokens e) }
 {
     let mut parser = Parser::new(alloc, text, table);
     let module = Module::parse(&mut parser)?;

@@ -6,13 +6,13 @@ use Rattle.wat.proofs.Shown.{excerpt_pieces}
 use Rattle.wat.proofs.renderer.push_excerpt.Goals as goal
 
 pub overflow_add-line : goal.overflow_add-line
-overflow_add-line c = omega (arith, c.linecol_in-line.ensures.line, line_of-le c.args.source.now c.from_offset.result.offset)
+overflow_add-line c = omega (arith, c.linecol_in-line.ensures.line, line_of-le c.args.source.now c.from_offset.result)
 
 pub overflow_add-column : goal.overflow_add-column
-overflow_add-column c = omega (arith, c.linecol_in-line.ensures.column, column_of-le c.args.source.now c.from_offset.result.offset)
+overflow_add-column c = omega (arith, c.linecol_in-line.ensures.column, column_of-le c.args.source.now c.from_offset.result)
 
 pub overflow_add-line-2 : goal.overflow_add-line-2
-overflow_add-line-2 c = omega (arith, c.linecol_in-line.ensures.line, line_of-le c.args.source.now c.from_offset.result.offset)
+overflow_add-line-2 c = omega (arith, c.linecol_in-line.ensures.line, line_of-le c.args.source.now c.from_offset.result)
 
 pub returns : goal.returns
 returns c =

@@ -1,7 +1,7 @@
 use Rattle.std.proofs.Common.{subst, ap}
-use Rattle.wast_lexer.specs.Readings.{IsIntegerOf}
+use Rattle.wast_lexer.specs.NumberParts.{IsIntegerOf}
 use Rattle.wast_lexer.specs.Kinds.{IsLexeme}
-use Rattle.wast_lexer.specs.Readers.{text_of}
+use Rattle.wast_lexer.specs.TokenText.{text_of}
 use Rattle.wat_profile.specs.ParserState.{State}
 use Rattle.wat_profile.proofs.Literals.{literal_is}
 use Rattle.wat_profile.proofs.parser.Parser.integer.Goals as goal

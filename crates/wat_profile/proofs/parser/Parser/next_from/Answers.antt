@@ -2,7 +2,7 @@ use Rattle.std.proofs.Common.{◌<◌, sym, ◌∙◌, ap, subst, length, arith}
 use Rattle.std.specs.Prelude.{slice_get}
 use Rattle.std.specs.List.{All}
 use Rattle.std.proofs.lemmas.Option.{slice_get_within}
-use Rattle.wast_lexer.specs.Readers.{IsOf}
+use Rattle.wast_lexer.specs.TokenText.{IsOf}
 use Rattle.wat_profile.specs.ParserState.{State}
 use Rattle.wat_profile.proofs.Ahead.{ahead_trivia, ahead_none, next_is}
 use Rattle.wat_profile.proofs.parser.Parser.next_from.Goals as goal

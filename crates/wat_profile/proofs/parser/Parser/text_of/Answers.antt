@@ -1,6 +1,6 @@
 use Rattle.std.proofs.Common.{◌≡◌, true, false, ◌∙◌, ap}
 use Rattle.std.proofs.lemmas.Str.{IsUtf8-string_bytes}
-use Rattle.wast_lexer.specs.Readers.{text_of}
+use Rattle.wast_lexer.specs.TokenText.{text_of}
 use Rattle.wat_profile.specs.ParserState.{State}
 use Rattle.wat_profile.proofs.Strings.{string_read, is_text, no_text}
 use Rattle.wat_profile.proofs.parser.Parser.text_of.Goals as goal
