@@ -26,7 +26,7 @@ stops : (allow opened : Bool) (from : ℕ) (text : List ℕ) (ts us : List Lexem
 stops allow opened from text [] [] opens to follows s some none t = some (sym s.2 ∙ t)
 stops allow opened from text [] (u ∷ us) opens to follows s some none t =
     none u.kind u.text t.0 (sym s.2 ∙ t.2) (subst (λ o. Begins allow o u.kind u.text t.0) s.1 t.3)
-stops allow opened from text (x ∷ ts) [] opens to follows s some none t = s.3.some (front_nil x.text s.0 (sym s.2 ∙ t))
+stops allow opened from text (x ∷ ts) [] opens to follows s some none t = s.3.nonempty (front_nil x.text s.0 (sym s.2 ∙ t))
 stops allow opened from text (x ∷ ts) (u ∷ us) opens to follows s some none t =
     let same = once allow opened x.kind u.kind x.text u.text s.0 t.0 s.3 t.3 (sym s.2 ∙ t.2) in
     stops allow (ends is_open x.text) (from + length x.text) s.0 ts us opens to follows s.4 some none (rw (same.1, same.2) t.4)

@@ -255,6 +255,8 @@ impl<'a, 't> Parser<'a, 't> {
         ensures found { IfSome result (λ found. IsNext (record self.now { at = from }) found.0 found.1) }
         ensures none { IfNone result (ahead (record self.now { at = from }) ≡ []) }
     {
+        // So that the count past a token fits: the number of all tokens does.
+        let _count = self.table.len();
         let mut after = from;
         while let Some(token) = self.table.get(after) {
             after += 1;

@@ -1,4 +1,4 @@
-use Rattle.std.proofs.Common.{◌<◌, sym, ◌∙◌, ap, subst, length, arith}
+use Rattle.std.proofs.Common.{◌≡◌, ◌<◌, sym, ◌∙◌, ap, subst, length, arith}
 use Rattle.std.specs.Prelude.{slice_get}
 use Rattle.std.specs.List.{All}
 use Rattle.std.proofs.lemmas.Option.{slice_get_within}
@@ -13,6 +13,13 @@ returns-then-not-is_trivia-clause-found c =
     let own = subst (λ (s : State). All (IsOf s.text) s.tokens) c.self.view_is c.self.invariant in
     let got = ap (λ (s : State). slice_get s.tokens c.loop-token.after) (sym c.self.view_is) ∙ sym c.in-Some.ensures in
     next_is s c.args.from c.loop-token.after c.in-Some.token own c.loop-token.invariant got (sym c.if-not-is_trivia.ensures)
+
+pub overflow_add-after : goal.overflow_add-after
+overflow_add-after c =
+    let got = ap (λ (s : State). slice_get s.tokens c.loop-token.after) (sym c.self.view_is) ∙ sym c.in-Some.ensures in
+    let l : c.loop-token.after < length c.args.self.now.tokens = slice_get_within _ _ _ got in
+    let count : c.len-count.result ≡ length c.args.self.now.tokens = c.len-count.ensures ∙ ap (λ (s : State). length s.tokens) c.self.view_is in
+    omega (arith, l, count, c.len-count.type_inv)
 
 pub loop-token-smaller : goal.loop-token-smaller
 loop-token-smaller c =
