@@ -1,10 +1,20 @@
-//! The instructions of WebAssembly as values, and their bytes (WebAssembly Core Specification 3.0, 5.4).
+//! The instructions of WebAssembly as values, and their bytes (WebAssembly Core Specification 3.0, 5.4). It is the lower
+//! part of `wasm_encoder_code`, which hands on all that is public here.
 //!
-//! Each instruction is an opcode of the one table of `wasm_encoder_base` with operands of its kind, and
-//! is encoded as that opcode and those operands.
+//! An [`Instruction`] is an opcode of the one table of `wasm_encoder_base` with operands of its kind, and is encoded as
+//! that opcode and those operands; refused, the vector of bytes is as it was. [`Instruction::can_encode`] is the test of
+//! what `encode` asks: the logarithm of a memory argument's alignment is below 16. Families of instructions without
+//! operands, or with a memory argument alone, are enums of the part `wasm_encoder_opcodes`, which are handed on.
 //!
-//! Families of instructions with no operands, or a memory argument alone, are enums of the part `wasm_encoder_opcodes`,
-//! which are re-exported.
+//! ```
+//! let mut sink = Vec::new(alloc);
+//! Instruction::Numeric(NumericOp::F64Sqrt).encode(&mut sink)?;
+//! ```
+//!
+//! leaves the byte `9F` in `sink`.
+//!
+//! The law: [`laws::listed`], the table's entry of each instruction's opcode has the instruction's mnemonic, and operands
+//! of its kind.
 #![tactic(auto)]
 
 mod block;

@@ -1,7 +1,13 @@
 //! Strings of the text format (WebAssembly Core Specification 3.0, 6.3.3): a part of the crate `wast_lexer`.
 //!
-//! [`read_piece`] reads one character or escape; where a string ends, whether it is a text, and the bytes that it
-//! stands for rest on it.
+//! [`string_end`] tells where a string ends, [`string_value`] the bytes that it stands for, and without memory [`is_text`]
+//! whether these are a text. All read a string from left to right, one
+//! character or escape at a time.
+//!
+//! An example: `"\u{1F600}"` stands for the bytes f0 9f 98 80; it is a row of the program `wast_rows`.
+//!
+//! The law: behind its first quote, a scan reads just the strings, and the bytes that each stands for
+//! ([`laws::one_meaning`]).
 #![tactic(auto)]
 
 mod error;
