@@ -60,6 +60,13 @@ impl<'a, T> Items<'a, T> {
         items
     }
 
+    /// The items as they are, borrowed or owned, lent.
+    pub fn as_cow(&self) -> &CowSlice<'a, T, Global>
+        ensures { cow_slice_items result.now ≡ self.now }
+    {
+        &self.items
+    }
+
     /// The items.
     pub fn as_slice(&self) -> &[T]
         ensures { result.now ≡ self.now }

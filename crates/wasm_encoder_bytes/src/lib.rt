@@ -5,6 +5,10 @@
 //! written is the shortest one. [`read_u32`] and [`read_s33`] read such numbers back. [`Items`] is a list that is
 //! borrowed or owned, [`OwnedItems`] one that is owned; contracts see their items.
 //!
+//! Spellings are put together: a pair or a triple is its values one after another, an `Option` what there may be,
+//! [`RawBytes`] bytes as they are, [`Part`] a part with its size before it. [`EncodedList`] is a list whose items are
+//! encoded as they are appended; sections are built of these.
+//!
 //! ```
 //! let mut sink = Vec::new(alloc);
 //! 624485u32.encode(&mut sink)?;
@@ -16,8 +20,8 @@
 //! leaves the bytes `E5 8E 26`, `C0 BB 78`, `03 61 62 63` and `02 01 80 01` in `sink`.
 //!
 //! The laws: [`laws::shortest`], what is written for a number decodes to it, and nothing shorter does;
-//! [`laws::one_reading`], numbers, names and lists are told apart by their bytes; [`laws::spelling_examples`], the
-//! bytes above.
+//! [`laws::one_reading`], numbers, names and lists are told apart by their bytes; [`laws::lists`], a list built item by
+//! item is the list of these items; [`laws::spelling_examples`], the bytes above.
 #![tactic(auto)]
 
 mod adding;

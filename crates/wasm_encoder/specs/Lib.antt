@@ -1,0 +1,11 @@
+pub mod Module
+pub use Rattle.wasm_encoder_items.specs.EntityTypes
+pub use Rattle.wasm_encoder_items.specs.EntryViews
+pub use Rattle.wasm_encoder_items.specs.Imports
+pub use Rattle.wasm_encoder_items.specs.SegmentViews
+pub use Rattle.wasm_encoder_items.specs.Segments
+pub use Rattle.wasm_encoder_items.specs.TypeEntries
+pub use Rattle.wasm_encoder_items.specs.Views
+pub use Rattle.wasm_encoder_sections.specs.Codes
+pub use Rattle.wasm_encoder_sections.specs.Sections
+pub use Rattle.wasm_encoder_sections.specs.Writes

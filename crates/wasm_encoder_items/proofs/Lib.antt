@@ -1,0 +1,2 @@
+pub mod UniqueEntities
+pub mod UniqueItems

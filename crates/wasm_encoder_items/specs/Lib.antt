@@ -1,0 +1,9 @@
+pub mod EntityTypes
+pub mod EntryViews
+pub mod Examples
+pub mod Imports
+pub mod Laws
+pub mod SegmentViews
+pub mod Segments
+pub mod TypeEntries
+pub mod Views

@@ -1,0 +1,50 @@
+//! Modules and sections that are built by calls: the name of each row, and its bytes in hexadecimal.
+#![tactic(auto)]
+
+mod code;
+mod entities;
+mod first;
+mod imports;
+mod segments;
+mod types;
+mod whole;
+
+use std::alloc::Global;
+use std::io;
+use wasm_encoder::{Encode, EncodeError, Section};
+
+fn main(rt: HostRuntime) -> io::Result<()> {
+    let alloc = rt.alloc();
+    print_row(&rt, "first module", first::add_module(alloc))?;
+    whole::print_rows(&rt)?;
+    types::print_rows(&rt)?;
+    imports::print_rows(&rt)?;
+    entities::print_rows(&rt)?;
+    segments::print_rows(&rt)?;
+    code::print_rows(&rt)
+}
+
+/// Prints a row: its name, then the bytes, or why there are none.
+fn print_row(rt: &HostRuntime, name: &str, bytes: Result<Vec<u8>, EncodeError>) -> io::Result<()> {
+    print!(rt; "{name}:")?;
+    match bytes {
+        Ok(bytes) => print_bytes(rt, bytes.as_slice()),
+        Err(error) => println!(rt; " {error}"),
+    }
+}
+
+fn print_bytes(rt: &HostRuntime, bytes: &[u8]) -> io::Result<()> {
+    for byte in bytes {
+        print!(rt; " {byte:02x}")?;
+    }
+    println!(rt)
+}
+
+/// The number of the section, and what follows it.
+fn encoded<S: Section>(alloc: Global, section: &S) -> Result<Vec<u8>, EncodeError>
+    requires { S.Encode.can_encode section.now }
+{
+    let mut bytes = Vec::new(alloc);
+    (section.id(), section).encode(&mut bytes)?;
+    Ok(bytes)
+}

@@ -1,0 +1,32 @@
+//! The sections of a module: each is a list of items, built by calls that append one (WebAssembly Core Specification 3.0,
+//! 5.5.2).
+//!
+//! It is the middle part of `wasm_encoder`, which hands on all that is here.
+#![tactic(auto)]
+
+mod code;
+mod data;
+mod elements;
+mod exports;
+mod functions;
+mod globals;
+mod imports;
+pub mod laws;
+mod memories;
+mod start;
+mod tables;
+mod tags;
+mod types;
+
+pub use code::CodeSection;
+pub use data::DataSection;
+pub use elements::ElementSection;
+pub use exports::ExportSection;
+pub use functions::FunctionSection;
+pub use globals::GlobalSection;
+pub use imports::ImportSection;
+pub use memories::MemorySection;
+pub use start::{DataCountSection, StartSection};
+pub use tables::TableSection;
+pub use tags::TagSection;
+pub use types::{CoreTypeEncoder, TypeSection};

@@ -1,0 +1,17 @@
+pub mod BehindLaws
+pub mod Decide
+pub mod Examples
+pub mod Extend
+pub mod Free
+pub mod GrammarLaws
+pub mod LeadLaws
+pub mod Looks
+pub mod NestedLaws
+pub mod Productions
+pub mod Readings
+pub mod RecursionLaws
+pub mod Repeats
+pub mod SignificantLaws
+pub mod TextLaws
+pub mod TokenLaws
+pub mod Twins

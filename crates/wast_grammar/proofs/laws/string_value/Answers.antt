@@ -1,0 +1,5 @@
+use Rattle.wast_grammar.proofs.TextLaws.{string_is}
+use Rattle.wast_grammar.proofs.laws.string_value.Goals as goal
+
+pub returns : goal.returns
+returns c = string_is

@@ -1,0 +1,12 @@
+pub mod Alike
+pub mod Behind
+pub mod Grammar
+pub mod Lawful
+pub mod Laws
+pub mod Look
+pub mod Nested
+pub mod Recursion
+pub mod Significant
+pub mod Spelling
+pub mod Tokens
+pub mod Twins
