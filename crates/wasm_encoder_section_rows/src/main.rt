@@ -3,7 +3,6 @@
 
 mod code;
 mod entities;
-mod first;
 mod imports;
 mod segments;
 mod types;
@@ -14,8 +13,6 @@ use std::io;
 use wasm_encoder::{Encode, EncodeError, Section};
 
 fn main(rt: HostRuntime) -> io::Result<()> {
-    let alloc = rt.alloc();
-    print_row(&rt, "first module", first::add_module(alloc))?;
     whole::print_rows(&rt)?;
     types::print_rows(&rt)?;
     imports::print_rows(&rt)?;
