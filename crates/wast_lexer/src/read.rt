@@ -1,6 +1,6 @@
 //! Readers of tokens.
 
-ghost use Rattle.std.specs.Prelude.{IsOk, IsOkAnd, ◌≡◌, ◌≢◌, ◌≤◌, ℕ, List, [], IfOk, IfErr, MatchOption, length, drop, true, false};
+ghost use Rattle.std.specs.Prelude.{IsOk, IsOkAnd, IsTrue, ◌≡◌, ◌≢◌, ◌≤◌, ◌↔◌, ℕ, List, [], IfOk, IfErr, MatchOption, length, drop, true, false};
 ghost use Rattle.std.specs.Str.{IsUtf8};
 ghost use Rattle.std.specs.Cow.{cow_str_bytes, IsBorrowedStr};
 ghost use Rattle.wast_lexer_strings.specs.Strings.{IsString};
@@ -18,7 +18,7 @@ use std::alloc::{AllocError, Global};
 use std::borrow::CowStr;
 use wasm_encoder_base::Bytes;
 use wast_lexer_numbers::{Float, FloatKind, Integer, IntegerKind, float, integer};
-use wast_lexer_strings::{LexError, string_value};
+use wast_lexer_strings::{LexError, stands_for, string_value};
 
 impl Token {
     /// The token's text.
@@ -104,6 +104,16 @@ impl Token {
         }
     }
 
+    /// Whether an annotation stands for this name. It wants no memory.
+    pub fn annotation_is(&self, text: &str, name: &str) -> bool
+        requires of_text { IsOf text.now self.now }
+        requires kind { self.now.kind ≡ Annotation }
+        ensures { IsTrue result ↔ IsAnnotationOf (text_of text.now self.now) name.now }
+    {
+        let word = self.src(text);
+        name_is(&word[1..], name)
+    }
+
     /// The parts of an integer.
     pub fn integer<'a>(&self, text: &'a str, kind: IntegerKind) -> Integer<'a>
         requires of_text { IsOf text.now self.now }
@@ -149,6 +159,18 @@ fn name_value<'a>(alloc: Global, name: &'a str) -> Result<Option<CowStr<'a, Glob
         Ok(value) => Ok(Some(CowStr::Owned(value))),
         Err(_) => Ok(None),
     }
+}
+
+/// Whether the name that follows a `@` stands for this text.
+fn name_is(name: &str, text: &str) -> bool
+    requires { (bytes : List ℕ) × IsNameOf name.now bytes }
+    ensures { IsTrue result ↔ IsNameOf name.now text.now }
+{
+    let bytes = name.as_bytes();
+    if is_quote_at(bytes, 0) {
+        return stands_for(bytes, text.as_bytes());
+    }
+    name == text
 }
 
 /// What stands between the quotes, where nothing is escaped.

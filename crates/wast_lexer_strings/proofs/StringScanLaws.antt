@@ -10,7 +10,7 @@ use Rattle.wast_lexer_strings.specs.StringScan.{Read, more, State, on_step, digi
 use Rattle.wast_lexer_strings.specs.Strings.Element.{Plain, Letter, Hex, Scalar}
 use Rattle.wast_lexer_strings.specs.Strings.Elements.{None', More}
 use Rattle.wast_lexer_strings.specs.StringScan.State.{Within, Escape, Digit, Number, Gap}
-use Rattle.wast_lexer_strings.specs.StringScan.Step.{Go, Done, Fault}
+use Rattle.wast_lexer_strings.specs.StringScan.Step.{Go}
 
 abbrev pub spelled : Bool → ℕ → State
 spelled true n = Gap n
@@ -166,7 +166,7 @@ no_more out r h = cc
 pub not_read : (word bytes out : List ℕ) (at : ℕ) → IsString word bytes → read Within (drop 1 word) ≡ more out (read Within (drop at word)) → read Within (drop at word) ≡ None → ⊥
 not_read word bytes out at s inv none = no_more out (record { bytes = bytes; rest = [] }) (sym (whole_read word bytes s) ∙ inv ∙ ap (more out) none)
 
-append_none : (b : List ℕ) → b ++ [] ≡ b
+pub append_none : (b : List ℕ) → b ++ [] ≡ b
 append_none [] = refl
 append_none (c ∷ b) = ap (λ (y : List ℕ). c ∷ y) (append_none b)
 

@@ -1,8 +1,8 @@
 //! One character of a string, or one escape.
 
-ghost use Rattle.std.specs.Prelude.{◌≡◌, ◌≢◌, ◌≤◌, ◌<◌, ℕ, length, slice_index, false, true};
+ghost use Rattle.std.specs.Prelude.{◌≡◌, ◌≢◌, ◌≤◌, ◌<◌, ℕ, List, ◌++◌, MatchOption, length, slice_index, false, true};
 ghost use Rattle.wast_lexer_strings.specs.Strings.{is_hex, hex_value, is_string_byte, escaped};
-ghost use Rattle.wast_lexer_strings.specs.StringScan.{Gives};
+ghost use Rattle.wast_lexer_strings.specs.StringScan.{Gives, meant};
 ghost use Rattle.wast_lexer_strings.specs.StringScan.State.{Within, Escape, Digit, Open, Gap, Number};
 
 use crate::error::LexError;
@@ -122,6 +122,19 @@ fn closed_scalar(text: &[u8], at: usize, value: u32) -> Result<(Piece, usize), L
     match char::from_u32(value) {
         Some(c) => Ok((Piece::Char(c), at + 1)),
         None => Err(LexError::InvalidUnicodeValue),
+    }
+}
+
+/// What follows the bytes that a part stands for, where these begin with them.
+pub(crate) fn behind_piece<'a>(piece: Piece, bytes: &'a [u8]) -> Option<&'a [u8]>
+    ensures { MatchOption result ((rest : List ℕ) → bytes.now ≢ meant piece ++ rest) (λ rest. bytes.now ≡ meant piece ++ rest.now) }
+{
+    match piece {
+        Piece::Byte(byte) => bytes.strip_prefix(&[byte]),
+        Piece::Char(c) => {
+            let mut buffer = [0u8; 4];
+            bytes.strip_prefix(c.encode_utf8(&mut buffer).as_bytes())
+        }
     }
 }
 

@@ -1,12 +1,12 @@
 //! Whole strings.
 
-ghost use Rattle.std.specs.Prelude.{◌≡◌, ◌≤◌, ◌&&◌, ℕ, List, length, drop, IfOk};
+ghost use Rattle.std.specs.Prelude.{◌≡◌, ◌≤◌, ◌&&◌, ◌↔◌, ℕ, List, length, drop, IfOk, IsTrue};
 ghost use Rattle.wast_lexer_strings.specs.Strings.{IsString};
 ghost use Rattle.wast_lexer_strings.specs.StringScan.{FindsRest, read, is_text, is_empty};
 ghost use Rattle.wast_lexer_strings.specs.StringScan.State.{Within};
 
 use crate::error::LexError;
-use crate::piece::{Piece, read_piece};
+use crate::piece::{Piece, behind_piece, read_piece};
 use crate::utf8::{Tail, follow_piece, is_closed};
 use std::alloc::{AllocError, Global};
 
@@ -78,6 +78,33 @@ pub fn string_value(alloc: Global, word: &[u8]) -> Result<Vec<u8>, AllocError>
         }
     }
     Ok(out)
+}
+
+/// Whether a word is a string that stands for these bytes. It wants no memory.
+pub fn stands_for(word: &[u8], bytes: &[u8]) -> bool
+    ensures { IsTrue result ↔ IsString word.now bytes.now }
+{
+    if word.len() == 0 || word[0] != b'"' {
+        return false;
+    }
+    let mut left = bytes;
+    let mut at = 1;
+    'elements: while at < word.len() {
+        if word[at] == b'"' {
+            return at + 1 == word.len() && left.len() == 0;
+        }
+        match read_piece(word, at) {
+            Err(_) => return false,
+            Ok((piece, end)) => match behind_piece(piece, left) {
+                None => return false,
+                Some(rest) => {
+                    left = rest;
+                    at = end;
+                }
+            },
+        }
+    }
+    false
 }
 
 fn is_end(text: &[u8], at: usize) -> bool

@@ -93,6 +93,23 @@ fn refused(rt: HostRuntime, fault: LexFault) -> io::Result<()> {
     }
 }
 
+/// Prints of each annotation whether it stands for a name, which stands before the text.
+pub fn named(rt: HostRuntime, words: &str) -> io::Result<()> {
+    let (name, text) = words.split_once(' ').unwrap_or((words, ""));
+    if 4_294_967_295 < text.len() {
+        return println!(rt; "too long");
+    }
+    let table = TokenTable::new(rt.alloc(), Lexer::new(text))?;
+    for index in 0..table.len() {
+        if let Some(token) = table.get(index) {
+            if let TokenKind::Annotation = token.kind {
+                println!(rt; "{} {}", token.offset, token.annotation_is(text, name))?;
+            }
+        }
+    }
+    Ok(())
+}
+
 /// Prints the line and the column of an offset, which stands before the text.
 pub fn place(rt: HostRuntime, words: &str) -> io::Result<()> {
     if let Some((offset, text)) = words.split_once(' ') {

@@ -4,6 +4,7 @@
 //! - `tokens TEXT`: the tokens of the text, a line each: kind, offset, length, what the token's reader answers, and for
 //!   a `(` the index of the token that ends its group; then why there are no more, where that isn't the end;
 //! - `allowed TEXT`: the same, with confusing characters allowed;
+//! - `named NAME TEXT`: the offset of each annotation of the text, and whether it stands for the name;
 //! - `place OFFSET TEXT`: the line and the column of an offset;
 //! - `errors`: the text of each lexical error.
 #![tactic(auto)]
@@ -32,6 +33,8 @@ fn answer(rt: HostRuntime, line: &str) -> io::Result<()> {
         lexer::tokens(rt, text.as_str(), false)
     } else if word == "allowed" {
         lexer::tokens(rt, text.as_str(), true)
+    } else if word == "named" {
+        lexer::named(rt, text.as_str())
     } else if word == "place" {
         lexer::place(rt, text.as_str())
     } else if word == "errors" {
