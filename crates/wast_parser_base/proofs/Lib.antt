@@ -1,1 +1,4 @@
 pub mod Displayed
+pub mod Lines
+pub mod Places
+pub mod Shown

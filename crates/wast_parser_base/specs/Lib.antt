@@ -1,3 +1,4 @@
 pub mod Faults
 pub mod Problem
 pub mod Reasons
+pub mod Snippet

@@ -1,8 +1,9 @@
 -- What is wrong with a text: a place, a cause, and the lines that show the place.
-use Rattle.std.specs.Prelude.{ℕ, ◌++◌, Bool, true, false, List, codes, Option, None, Some}
+use Rattle.std.specs.Prelude.{ℕ, ◌++◌, Bool, true, false, List, [], codes, Option, None, Some}
 use Rattle.std.specs.Fmt.{decimal}
 use Rattle.wast_lexer.specs.LexError.{LexError}
 use Rattle.wast_lexer.specs.LexError.TheVariants as lexical
+use Rattle.wast_parser_base.specs.Snippet.{place_lines}
 
 pub data Cause : Type 0 where
   -- with a message
@@ -50,6 +51,19 @@ is_memory cause = false
 abbrev pub lexical_of : Cause → Option LexError
 lexical_of (Lexical error) = Some error
 lexical_of cause = None
+
+-- the lines of a text that show the place of an error: none where it is want of memory
+abbrev pub lines_told : List ℕ → ℕ → Cause → List ℕ
+lines_told text place Memory = []
+lines_told text place cause = place_lines text place
+
+-- the same error, with its lines in this text
+abbrev pub told_in : List ℕ → Problem → Problem
+told_in text problem = record {
+  place = problem.place;
+  cause = problem.cause;
+  lines = Some (lines_told text problem.place problem.cause);
+}
 
 -- what shows a place: its lines, or else its offset
 abbrev pub place_shown : ℕ → Option (List ℕ) → List ℕ

@@ -1,10 +1,13 @@
 //! An error of a text: its place and what is wrong.
 
-ghost use Rattle.std.specs.Prelude.{◌≡◌, IfOk, None, Some, string_bytes, option_map};
-ghost use Rattle.wast_parser_base.specs.Problem.{Lexical, Memory, Said, displayed, is_memory, lexical_of, message_of};
+ghost use Rattle.std.specs.Prelude.{◌≡◌, IfOk, OnErr, OnOk, None, Some, string_bytes};
+ghost use Rattle.wast_parser_base.specs.Problem.{Memory, Said, displayed, is_memory, lexical_of, lines_told, message_of, told_in};
+ghost use Rattle.wast_parser_base.specs.Reasons.{lines_of};
+ghost use Rattle.wast_parser_base.specs.Snippet.{place_lines};
 ghost use Rattle.wast_parser_base.specs.Faults.{problem_of};
 
 use crate::reason::{Reason, Shown, lexical_text};
+use crate::snippet::push_place;
 use std::alloc::{AllocError, AllocFailed, Global};
 use std::fmt;
 use std::marker::Model;
@@ -110,6 +113,30 @@ impl Error {
         String::from_str(alloc, self.text())
     }
 
+    /// Gives the text whose place it is: `Display` writes from now on, behind the message, the lines that show the place in
+    /// it, which are those of [`push_place`]; of an error that [is want of memory](Error::is_memory), none. The place and the
+    /// message stay. Refused only where no memory is found, and the error is then unchanged.
+    pub fn set_text(&mut self, text: &str) -> Result<(), AllocError>
+        ensures shown { OnOk result (self.new ≡ told_in text.now self.old) }
+        ensures refused { OnErr result (self.new ≡ self.old) }
+    {
+        let shown = self.shown_in(text)?;
+        self.shown = shown;
+        Ok(())
+    }
+
+    fn shown_in(&self, text: &str) -> Result<Shown, AllocError>
+        ensures { IfOk result (λ shown. lines_of shown ≡ Some (lines_told text.now self.now.place self.now.cause)) }
+    {
+        let offset = self.place.offset();
+        match &self.reason {
+            Reason::Said(message) => lines_at(*message.allocator(), text, offset),
+            Reason::Fixed(alloc, _) => lines_at(*alloc, text, offset),
+            Reason::Lexical(alloc, _) => lines_at(*alloc, text, offset),
+            Reason::Memory => Ok(Shown::Nothing),
+        }
+    }
+
     /// The message.
     fn text(&self) -> &str
         ensures { result.now ≡ message_of self.now.cause }
@@ -121,6 +148,14 @@ impl Error {
             Reason::Memory => "out of memory",
         }
     }
+}
+
+fn lines_at(alloc: Global, text: &str, offset: usize) -> Result<Shown, AllocError>
+    ensures { IfOk result (λ shown. lines_of shown ≡ Some (place_lines text.now offset)) }
+{
+    let mut lines = String::new(alloc);
+    push_place(alloc, &mut lines, text, offset)?;
+    Ok(Shown::Lines(lines))
 }
 
 impl From<AllocError> for Error {

@@ -5,5 +5,7 @@
 
 mod error;
 mod reason;
+mod snippet;
 
 pub use error::Error;
+pub use snippet::push_place;
