@@ -1,4 +1,7 @@
 pub mod Faults
+pub mod Identifier
+pub mod Indices
+pub mod Laws
 pub mod Problem
 pub mod Reasons
 pub mod Snippet

@@ -4,8 +4,16 @@
 #![tactic(auto)]
 
 mod error;
+mod gensym;
+mod id;
+mod index;
+pub mod laws;
 mod reason;
 mod snippet;
 
 pub use error::Error;
+pub use gensym::{Exhausted, Gensym};
+pub use id::Id;
+pub use index::{Index, ItemRef, NameAnnotation};
+pub use reason::lexical_text;
 pub use snippet::push_place;

@@ -3,17 +3,17 @@ use Rattle.std.proofs.Common.{ℕ, ◌≡◌, ◌<◌, ◌^◌, List, length, re
 use Rattle.std.specs.Str.{IsUtf8}
 use Rattle.wat.specs.declared.fault.Fault.{Fault}
 use Rattle.wat.specs.declared.fault.Fault.TheVariants as faults
-use Rattle.wat_profile.specs.Complaint.{Complaint}
+use Rattle.wast_parser_base.specs.Problem.{Problem}
 use Rattle.wat_profile.specs.Tree.{Module}
 use Rattle.wat_profile.specs.StandsFor.{meant}
 use Rattle.wat_profile.specs.Means.{Spells}
 use Rattle.wat_profile.specs.Layout.{Lays, Fits}
-use Rattle.wat.specs.Headline.{TooLong, NotUtf8, Fails, Accepts, Assembles, Deserves}
+use Rattle.wat.specs.Headline.{NotUtf8, Fails, Accepts, Assembles, Deserves}
 use Rattle.wat.specs.NoText.{IsNoText}
 use Rattle.wat.proofs.Verdict.{one_condition}
 
 -- a text that spells no tree
-pub misspelled : (bytes : List ℕ) (error : Complaint) → length bytes < 2 ^ 32 → IsUtf8 bytes → ((tree : Module (List ℕ) ℕ) → ¬ (Spells bytes tree)) → Deserves bytes (faults.Spelling error)
+pub misspelled : (bytes : List ℕ) (error : Problem) → length bytes < 2 ^ 32 → IsUtf8 bytes → ((tree : Module (List ℕ) ℕ) → ¬ (Spells bytes tree)) → Deserves bytes (faults.Spelling error)
 misspelled bytes error short utf8 none = (short, utf8, none)
 
 pub no_text : (bytes : List ℕ) (f : Fault) → IsNoText bytes f → Deserves bytes f

@@ -4,9 +4,10 @@ pub mod NoText
 pub mod Program
 pub mod Render
 pub mod Run
+pub use Rattle.wast_parser_base.specs.Problem
+pub use Rattle.wast_parser_base.specs.Snippet
 pub use Rattle.wat_io.specs.Counted
 pub use Rattle.wat_profile.specs.AbstractModule
-pub use Rattle.wat_profile.specs.Complaint
 pub use Rattle.wat_profile.specs.Grammar
 pub use Rattle.wat_profile.specs.KnownMnemonics
 pub use Rattle.wat_profile.specs.Layout

@@ -1,7 +1,7 @@
 //! Why no binary was made or written.
 
 use wast_lexer::Span;
-use wat_profile::Error;
+use wast_parser_base::Error;
 
 /// Why no binary was made, read or written.
 ///

@@ -26,5 +26,5 @@ pub use program::run_program;
 pub use renderer::render;
 pub use runner::run;
 pub use wast_lexer::Span;
+pub use wast_parser_base::Error;
 pub use wat_io::Counted;
-pub use wat_profile::Error;

@@ -1,5 +1,4 @@
 pub mod AbstractModule
-pub mod Complaint
 pub mod Encoding
 pub mod Grammar
 pub mod KnownMnemonics

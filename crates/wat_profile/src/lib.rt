@@ -9,8 +9,6 @@
 #![tactic(auto)]
 
 mod encoder;
-mod error;
-mod lex_error;
 mod literal;
 mod mnemonic;
 mod parse;
@@ -22,7 +20,7 @@ mod text_fault;
 mod tree;
 
 pub use encoder::encode;
-pub use error::Error;
 pub use text::parse_text;
 pub use text_fault::TextFault;
 pub use tree::{Export, Func, Instr, Instruction, Module};
+pub use wast_parser_base::Error;

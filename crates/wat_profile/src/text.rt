@@ -5,14 +5,14 @@ ghost use Rattle.wat_profile.specs.Unspelled.{IsErrorOf, IsUnspelled};
 ghost use Rattle.wat_profile.specs.Means.{Spells};
 ghost use Rattle.wat_profile.specs.TreeViews.{module_tree};
 
-use crate::error::Error;
-use crate::lex_error::text_of;
+use crate::Error;
 use crate::parse_fault::ParseFault;
 use crate::syntax::parse_tokens;
 use crate::text_fault::TextFault;
 use crate::tree::Module;
 use std::alloc::Global;
 use wast_lexer::{LexFault, Lexer, Span, TokenTable};
+use wast_parser_base::lexical_text;
 
 /// The module that a text spells, which is one at most.
 ///
@@ -30,7 +30,7 @@ pub fn parse_text(alloc: Global, text: &str) -> Result<Module<'_>, TextFault>
         None => {}
         Some(LexFault::Memory) => return Err(TextFault::Memory),
         Some(LexFault::Lex { span, error }) => {
-            return Err(misspelled(alloc, span.offset(), text_of(*error)));
+            return Err(misspelled(alloc, span.offset(), lexical_text(*error)));
         }
     }
     match parse_tokens(alloc, text, &table) {

@@ -1,6 +1,6 @@
 //! Why a text gives no module.
 
-use crate::error::Error;
+use crate::Error;
 
 /// Why a text gives no module.
 #[derive(Debug, Drop)]

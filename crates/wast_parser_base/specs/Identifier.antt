@@ -1,0 +1,28 @@
+-- Identifiers: what they are, and which are the same.
+use Rattle.std.specs.Prelude.{ℕ, ◌++◌, Bool, ◌==◌, List, codes}
+use Rattle.std.specs.Ordering.{on, eq_of_both}
+use Rattle.std.specs.Cmp.Lexicographic.{pointwise}
+use Rattle.std.specs.Hash as fed
+
+-- The decoded name; the generation, 0 of an identifier that was read and a number of its own of one that was made; and the
+-- byte offset of the place.
+pub record Identifier : Type 0 where
+  pub name : List ℕ
+  pub generation : ℕ
+  pub place : ℕ
+
+-- the same name and generation, whatever the places
+abbrev pub is_same : Identifier → Identifier → Bool
+is_same = eq_of_both (on (λ x. x.generation) ◌==◌) (on (λ x. x.name) (pointwise ◌==◌))
+
+-- what is hashed of one
+abbrev pub hash_input : Identifier → fed.HashWrites
+hash_input x = fed.u32 x.generation ++ fed.str x.name
+
+-- one that was read
+abbrev pub read_name : List ℕ → ℕ → Identifier
+read_name name place = record { name = name; generation = 0; place = place }
+
+-- the one that is made with this number
+abbrev pub made_name : ℕ → ℕ → Identifier
+made_name generation place = record { name = codes "gensym"; generation = generation; place = place }

@@ -1,0 +1,59 @@
+//! Names that are made where none was written.
+
+ghost use Rattle.std.specs.Prelude.{◌≡◌, ◌+◌, ◌-◌, ◌^◌, ◌↔◌, IfOk, IsErr, IsOk, IsSome, None, OnErr, OnOk, Some};
+ghost use Rattle.wast_parser_base.specs.Identifier.{made_name};
+
+use crate::id::Id;
+use std::marker::Model;
+use wast_lexer::Span;
+
+/// Makes identifiers with numbers that rise. Contracts see the number of the last one, 0 before the first.
+#[derive(Debug, Drop)]
+pub struct Gensym {
+    counter: u32,
+}
+
+impl Model for Gensym {
+    ghost use Rattle.std.specs.Prelude.{ℕ};
+
+    ghost Value = { ℕ };
+
+    ghost view = { λ g. g.counter };
+}
+
+/// There is no number left for another name.
+#[derive(Clone, Copy, Debug, PartialEq, Eq)]
+pub struct Exhausted;
+
+impl Gensym {
+    /// One that has made no name.
+    pub fn new() -> Self
+        ensures { result ≡ 0 }
+    {
+        Gensym { counter: 0 }
+    }
+
+    /// Begins anew.
+    pub fn reset(&mut self)
+        ensures { self.new ≡ 0 }
+    {
+        self.counter = 0;
+    }
+
+    /// The next identifier, at a place: its generation is the number behind that of the last one, so it differs from all that
+    /// were made since the last reset, and from all that were read.
+    ///
+    /// Answers [`Exhausted`] exactly where 4294967295 names were made, and nothing is changed then.
+    pub fn generate<'a>(&mut self, span: Span) -> Result<Id<'a>, Exhausted>
+        ensures made { IfOk result (λ id. id ≡ made_name self.new span) }
+        ensures counted { OnOk result (self.new ≡ self.old + 1) }
+        ensures exhausted { IsErr result ↔ (self.old ≡ 2 ^ 32 - 1) }
+        ensures refused { OnErr result (self.new ≡ self.old) }
+    {
+        if self.counter == u32::MAX {
+            return Err(Exhausted);
+        }
+        self.counter += 1;
+        Ok(Id::made(self.counter, span))
+    }
+}

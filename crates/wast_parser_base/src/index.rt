@@ -1,0 +1,65 @@
+//! Indices, and what is written around them.
+
+ghost use Rattle.std.specs.Prelude.{◌≡◌, IfOk};
+ghost use Rattle.wast_parser_base.specs.Indices.{place_of};
+
+use crate::id::Id;
+use std::alloc::{AllocError, Global};
+use std::borrow::CowStr;
+use wast_lexer::Span;
+
+/// An index (6.3.5): a number at a place, or an identifier. Two are equal exactly where both are numbers, and the same, or
+/// both identifiers, and equal; equal ones hash alike.
+#[derive(Debug, Drop)]
+#[derive_where(PartialEq, Eq, Hash)]
+pub enum Index<'a> {
+    Num(u32, #[derive_where(skip(EqHashOrd))] Span),
+    Id(Id<'a>),
+}
+
+impl<'a> Index<'a> {
+    /// Where the index stands.
+    pub fn span(&self) -> Span
+        ensures { result ≡ place_of self.now }
+    {
+        match self {
+            Index::Num(_, span) => *span,
+            Index::Id(id) => id.span(),
+        }
+    }
+
+    /// The same index at the same place. Fails only where its name owns memory and none is found for the copy.
+    pub fn clone(&self, alloc: Global) -> Result<Self, AllocError>
+        ensures { IfOk result (λ copy. copy ≡ self.now) }
+    {
+        match self {
+            Index::Num(number, span) => Ok(Index::Num(*number, *span)),
+            Index::Id(id) => Ok(Index::Id(id.clone(alloc)?)),
+        }
+    }
+}
+
+impl<'a> From<Id<'a>> for Index<'a> {
+    ghost use Rattle.wast_parser_base.specs.declared.index.Index.TheVariants as indices;
+
+    ghost from_gives = { λ id index. index ≡ indices.Id id };
+
+    fn from(id: Id<'a>) -> Self {
+        Index::Id(id)
+    }
+}
+
+/// An index in parentheses behind the word of what it refers to, as `(func $f)`.
+#[derive(Debug, Drop)]
+pub struct ItemRef<'a, K> {
+    /// The word.
+    pub kind: K,
+    /// What it refers to.
+    pub idx: Index<'a>,
+}
+
+/// The name that an annotation `(@name "..")` gives (6.4.1).
+#[derive(Drop)]
+pub struct NameAnnotation<'a> {
+    pub name: CowStr<'a, Global>,
+}

@@ -1,9 +1,0 @@
-use Rattle.std.proofs.Common.{◌≡◌, ◌++◌, string_bytes}
-use Rattle.std.specs.Str.{encode_utf8_all}
-use Rattle.std.specs.List.{flat_map}
-use Rattle.wat.specs.Render.{shown}
-use Rattle.wat.proofs.renderer.push_snippet.Given as goal
-
-abbrev pub invariant-loop-character : goal.invariant-loop-character
-invariant-loop-character l =
-    string_bytes l.text ≡ string_bytes l.initial.text ++ encode_utf8_all (flat_map shown l.yielded)
