@@ -1,6 +1,6 @@
 //! Names that are made where none was written.
 
-ghost use Rattle.std.specs.Prelude.{◌≡◌, ◌+◌, ◌-◌, ◌^◌, ◌↔◌, IfOk, IsErr, IsOk, IsSome, None, OnErr, OnOk, Some};
+ghost use Rattle.std.specs.Prelude.{◌≡◌, ◌+◌, ◌-◌, ◌^◌, ◌↔◌, IfOk, IsErr, IsSome, None, OnErr, OnOk, Some};
 ghost use Rattle.wast_parser_base.specs.Identifier.{made_name};
 
 use crate::id::Id;
@@ -55,5 +55,39 @@ impl Gensym {
         }
         self.counter += 1;
         Ok(Id::made(self.counter, span))
+    }
+
+    /// Puts the next identifier into a slot that has none; a full one stays, and no name is made.
+    ///
+    /// Answers [`Exhausted`] exactly where the slot has none and 4294967295 names were made; nothing is changed then.
+    pub fn fill_slot<'a>(&mut self, span: Span, slot: &mut Option<Id<'a>>) -> Result<(), Exhausted>
+        ensures full { IsSome slot.old → (slot.new ≡ slot.old) × (self.new ≡ self.old) }
+        ensures empty { slot.old ≡ None → OnOk result ((slot.new ≡ Some (made_name self.new span)) × (self.new ≡ self.old + 1)) }
+        ensures exhausted { IsErr result ↔ ((slot.old ≡ None) × (self.old ≡ 2 ^ 32 - 1)) }
+        ensures refused { OnErr result ((slot.new ≡ slot.old) × (self.new ≡ self.old)) }
+        ensures filled { OnOk result (IsSome slot.new) }
+    {
+        if slot.is_none() {
+            *slot = Some(self.generate(span)?);
+        }
+        Ok(())
+    }
+
+    /// The same, answering what the slot has then.
+    pub fn fill<'a, 's>(
+        &mut self,
+        span: Span,
+        slot: &'s mut Option<Id<'a>>,
+    ) -> Result<&'s Id<'a>, Exhausted>
+        ensures full { IsSome slot.old → IfOk result (λ id. slot.old ≡ Some id.now) × (self.new ≡ self.old) }
+        ensures empty { slot.old ≡ None → IfOk result (λ id. id.now ≡ made_name self.new span) × OnOk result (self.new ≡ self.old + 1) }
+        ensures exhausted { IsErr result ↔ ((slot.old ≡ None) × (self.old ≡ 2 ^ 32 - 1)) }
+        ensures refused { OnErr result (self.new ≡ self.old) }
+    {
+        self.fill_slot(span, slot)?;
+        match slot {
+            Some(id) => Ok(id),
+            None => unreachable!(),
+        }
     }
 }
