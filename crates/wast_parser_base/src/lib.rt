@@ -3,6 +3,7 @@
 //! [`Error`] says what is wrong with a text, and where.
 #![tactic(auto)]
 
+mod encode;
 mod error;
 mod gensym;
 mod id;
@@ -11,9 +12,11 @@ pub mod laws;
 mod reason;
 mod snippet;
 
+pub use encode::Encode;
 pub use error::Error;
 pub use gensym::{Exhausted, Gensym};
 pub use id::Id;
 pub use index::{Index, ItemRef, NameAnnotation};
 pub use reason::lexical_text;
 pub use snippet::push_place;
+pub use wasm_encoder_base::EncodeError;
