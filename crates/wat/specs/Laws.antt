@@ -1,18 +1,13 @@
 -- The laws that the crate's law functions prove, over the definitions that the contract of `assemble` cites.
 use Rattle.std.specs.Prelude.{ℕ, ◌≡◌, ◌↔◌, List}
 use Rattle.wasm_encoder_base.specs.Unique.{Unique, Any}
-use Rattle.wast_lexer.specs.Strings.{IsString}
-use Rattle.wat_profile.specs.Tokens.{SignificantToken, string_value}
+use Rattle.wast_grammar.specs.Tokens.{SignificantToken}
 use Rattle.wat_profile.specs.Tree.{Module}
 use Rattle.wat_profile.specs.Syntax.{module_syntax}
 use Rattle.wat_profile.specs.AbstractModule.{AbstractModule}
 use Rattle.wat_profile.specs.Layout.{section, Lays, Reads}
 use Rattle.wat_profile.specs.Means.{Means}
 use Rattle.wat.specs.Headline.{Accepts, Assembles}
-
--- The bytes that a string stands for are those that `string_value` reads.
-abbrev pub StringValue : Type 0
-StringValue = (text bytes : List ℕ) → IsString text bytes → string_value text ≡ bytes
 
 -- No tokens spell two modules, places included.
 abbrev pub OneTree : Type 0

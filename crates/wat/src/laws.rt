@@ -1,7 +1,8 @@
 //! Laws over the definitions that the contract of `assemble` cites: functions without parameters whose contracts are the laws. They
 //! do nothing.
 
-ghost use Rattle.wat.specs.Laws.{StringValue, OneTree, OneMeaning, OneReading, OneBinary, EqualBinaries, OneSection};
+ghost use Rattle.wast_grammar.specs.Laws.{StringValue};
+ghost use Rattle.wat.specs.Laws.{OneTree, OneMeaning, OneReading, OneBinary, EqualBinaries, OneSection};
 ghost use Rattle.wat.specs.Headline.{OneVerdict};
 
 /// The bytes that a string stands for are those that the definition of tokens reads.

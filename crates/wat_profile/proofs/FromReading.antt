@@ -1,46 +1,56 @@
 -- From readings to what is spelled.
-use Rattle.std.proofs.Common.{◌≡◌, ℕ, true, false, List, [], ◌∷◌, Some, None, refl, sym, ◌∙◌, ap}
-use Rattle.wat_profile.specs.Tokens.{SignificantToken}
-use Rattle.wat_profile.specs.Grammar.{Syntax, any_fits, the_end}
-use Rattle.wat_profile.specs.ParserState.{State, Keeps, is_nil, Gives, NoneSpelled, significant_of}
-use Rattle.wat_profile.proofs.GrammarLaws.{Lawful, all_read, all_spelled}
+use Rattle.std.proofs.Common.{◌≡◌, ℕ, List, Some, length, ◌∙◌, true, false}
 use Rattle.std.specs.Prelude.{Result, Ok, Err, IfErr}
 use Rattle.std.specs.Result.{IsErr}
-use Rattle.wast_lexer.specs.declared.token.Token.{Token}
+use Rattle.wast_grammar.specs.Significant.{TextToken}
+use Rattle.wast_grammar.specs.Look.{Test, any_end, ask}
+use Rattle.wast_grammar.specs.Grammar.{Reader, Syntax, many_reads}
+use Rattle.wast_grammar.proofs.Repeats.{with_front, many_faulty, many_refused}
+use Rattle.wast_grammar.proofs.GrammarLaws.{Lawful, Shrinks, unread, left_over}
+use Rattle.wat_profile.specs.ParserState.{State, Keeps, NoneSpelled, Refuses, IsLeft, Gives, ahead}
 use Rattle.wat_profile.specs.declared.parse_fault.ParseFault.{ParseFault}
 use Rattle.wat_profile.specs.declared.parse_fault.ParseFault.TheVariants as faults
-use Rattle.wat_profile.proofs.Looks.{some_one}
 
 pub keeps_trans : (a b c : State) → Keeps a b → Keeps b c → Keeps a c
-keeps_trans a b c p q = record { text = q.text ∙ p.text; tokens = q.tokens ∙ p.tokens }
+keeps_trans a b c p q = record { text = q.text ∙ p.text; table = q.table ∙ p.table }
 
-pub nil_is : {A : Type 0} (xs : List A) → is_nil xs ≡ true → xs ≡ []
-nil_is [] e = refl
-nil_is (x ∷ xs) e = absurd cc
+module _ {A : Type 0} (g : Syntax (List ℕ) ℕ A) (lg : Lawful g) (n : any_end g.stops ≡ false) (ts : List TextToken) where
+  -- what reading refuses is not spelled
+  refused : (e : ParseFault) → Refuses e (g.reads ts) → NoneSpelled g ts e
+  refused faults.Memory r = tt
+  refused (faults.Stopped offset error) r = λ a s. unread g lg n ts r a s
+  refused (faults.Refused offset expected) r = λ a s. unread g lg n ts r a s
 
--- what is read from all tokens is spelled by them
-pub spelled : {N P A : Type 0} (g : Syntax N P A) → Lawful g → (ts rest : List (SignificantToken N P)) (a : A) → g.reads ts ≡ Some (a, rest) → is_nil rest ≡ true → g.spells a ts
-spelled g lg ts rest a e n = all_spelled g lg ts a (e ∙ ap (λ z. Some (a, z)) (nil_is rest n))
+  pub refused_all : {X : Type 0} (r : Result X ParseFault) → IfErr r (λ e. Refuses e (g.reads ts)) → IfErr r (NoneSpelled g ts)
+  refused_all (Ok x) e = tt
+  refused_all (Err e) r = refused e r
 
-none_some : {A : Type 0} (x : A) → None ≡ Some x → ⊥
-none_some x e = absurd cc
+  -- nor what is read with tokens left
+  left : (b : A) (s : State) (e : ParseFault) → g.reads ts ≡ Some (b, ahead s) → IsLeft s e → NoneSpelled g ts e
+  left b s faults.Memory r l = tt
+  left b s (faults.Stopped offset error) r l = λ a p. l (left_over g lg n ts (ahead s) b r a p)
+  left b s (faults.Refused offset expected) r l = λ a p. l (left_over g lg n ts (ahead s) b r a p)
 
-true_false : true ≡ false → ⊥
-true_false e = absurd cc
+  pub left_all : {X : Type 0} (b : A) (s : State) (r : Result X ParseFault) → g.reads ts ≡ Some (b, ahead s) → IfErr r (IsLeft s) → IfErr r (NoneSpelled g ts)
+  left_all b s (Ok x) read l = tt
+  left_all b s (Err e) read l = left b s e read l
 
--- where nothing is read, nothing is spelled
-pub unread : {N P A : Type 0} (g : Syntax N P A) → Lawful g → any_fits g.stops the_end ≡ false → (ts : List (SignificantToken N P)) → g.reads ts ≡ None → (a : A) → g.spells a ts → ⊥
-unread g lg n ts e a s = none_some (a, []) (sym e ∙ all_read g lg n ts a s)
+-- a fault of looking or reading, in a loop
+module _ {A : Type 0} (starts : List Test) (r : Reader (List ℕ) ℕ A) (progress : Shrinks r) (front : List A) (ts : List TextToken) where
+  faulty : (e : ParseFault) → Refuses e (ask starts ts) → Refuses e (with_front front (many_reads starts r (length ts) ts))
+  faulty faults.Memory e = tt
+  faulty (faults.Stopped offset error) e = many_faulty starts r progress front ts e
+  faulty (faults.Refused offset expected) e = many_faulty starts r progress front ts e
 
--- nor where tokens are left
-pub left_over : {N P A : Type 0} (g : Syntax N P A) → Lawful g → any_fits g.stops the_end ≡ false → (ts rest : List (SignificantToken N P)) (b : A) → g.reads ts ≡ Some (b, rest) → is_nil rest ≡ false → (a : A) → g.spells a ts → ⊥
-left_over g lg n ts rest b e l a s =
-    let r : rest ≡ [] = ap (λ x. x.1) (some_one _ _ (sym e ∙ all_read g lg n ts a s)) in
-    true_false (sym (ap is_nil r) ∙ l)
+  unread_item : ask starts ts ≡ Some true → (e : ParseFault) → Refuses e (r ts) → Refuses e (with_front front (many_reads starts r (length ts) ts))
+  unread_item b faults.Memory e = tt
+  unread_item b (faults.Stopped offset error) e = many_refused starts r progress front ts b e
+  unread_item b (faults.Refused offset expected) e = many_refused starts r progress front ts b e
 
--- what reading refuses is not spelled
-pub refused : {X A : Type 0} (g : Syntax (List ℕ) ℕ A) → Lawful g → any_fits g.stops the_end ≡ false → (view : X → A) (text : List ℕ) (tokens : List Token) (t : State)
-    → (r : Result X ParseFault) → Gives view r t (g.reads (significant_of text tokens)) → IsErr r → IfErr r (λ e. NoneSpelled g text tokens e)
-refused g lg n view text tokens t (Err faults.Memory) e i = tt
-refused g lg n view text tokens t (Err (faults.Refused offset expected)) e i = λ a s. unread g lg n (significant_of text tokens) e a s
-refused g lg n view text tokens t (Ok x) e i = absurd cc
+  pub faulty_all : {X : Type 0} (view : X → List A) (t : State) (o : Result X ParseFault) → IfErr o (λ e. Refuses e (ask starts ts)) → IsErr o → Gives view o t (with_front front (many_reads starts r (length ts) ts))
+  faulty_all view t (Ok x) e i = absurd (cc)
+  faulty_all view t (Err f) e i = faulty f e
+
+  pub unread_all : {X : Type 0} (view : X → List A) (t : State) (o : Result X ParseFault) → ask starts ts ≡ Some true → IfErr o (λ e. Refuses e (r ts)) → IsErr o → Gives view o t (with_front front (many_reads starts r (length ts) ts))
+  unread_all view t (Ok x) b e i = absurd (cc)
+  unread_all view t (Err f) b e i = unread_item b f e

@@ -4,14 +4,12 @@ pub mod Bodies
 pub mod CountedLists
 pub mod Exports
 pub mod FromReading
+pub mod Fronts
 pub mod Functions
-pub mod GrammarLaws
 pub mod Literals
-pub mod Looks
 pub mod Loops
 pub mod Mnemonics
 pub mod OneSpelling
-pub mod Repeats
 pub mod Sound
 pub mod Stops
 pub mod Strings

@@ -1,17 +1,13 @@
 -- The number that digits say.
-use Rattle.std.proofs.Common.{◌≡◌, ℕ, zero, suc, ◌+◌, ◌*◌, ◌<◌, ◌≤◌, List, [], ◌∷◌, length, refl, sym, ◌∙◌, ap, arith, drop, get_or, add-one, nat_eq, false, inl, inr, ◌++◌, Some, append_assoc}
-use Rattle.std.proofs.Math.Seq.{drop-cons, drop-append_seam}
-use Rattle.std.proofs.Math.ListN.{drop_of_length-le}
+use Rattle.std.proofs.Common.{◌≡◌, ℕ, zero, suc, ◌+◌, ◌*◌, ◌<◌, ◌≤◌, List, [], ◌∷◌, length, refl, sym, ◌∙◌, ap, arith, drop, get_or, add-one, nat_eq, false, inl, inr}
+use Rattle.std.proofs.Math.Seq.{drop-cons}
 use Rattle.std.proofs.lemmas.Bool.{cases_Bool, eqb-true}
 use Rattle.std.proofs.lemmas.Bool.Decides.{nat_tests}
 use Rattle.wast_lexer.specs.Strings.{hex_value}
-use Rattle.wast_lexer.specs.IntegerKind.{IntegerKind}
-use Rattle.wast_lexer.specs.NumberKind.TheVariants as number_kinds
 use Rattle.wast_lexer.specs.Integer.{Integer}
-use Rattle.wast_lexer.specs.Numbers.{IsNumber, sign_text, base_text}
 use Rattle.wast_lexer.specs.NumberParts.{IsIntegerOf}
-use Rattle.wast_lexer.proofs.NumberLaws.{number_scanned}
-use Rattle.wat_profile.specs.Tokens.{Literal, with_digit, number_after, number, is_minus, base_of, digits_of, literal}
+use Rattle.wast_grammar.specs.Tokens.{with_digit, number_after, number, literal}
+use Rattle.wast_grammar.proofs.TextLaws.{integer_is}
 use Rattle.wat_profile.specs.ParserState.{literal_of}
 
 -- it is not below the number that the digits before say
@@ -49,16 +45,6 @@ too_large base n i ds some h e digit b small =
     let o = one_digit base n i ds h in
     omega (arith, is, g, o, e, small, b)
 
-abbrev literal_with : Integer → List ℕ → Literal
-literal_with i ds = record { minus = is_minus i.sign; size = number (base_of i.hex) ds }
-
 -- the parts of an integer say what its text does
-pub literal_is : (kind : IntegerKind) (word : List ℕ) (i : Integer) → IsNumber (number_kinds.Integer kind) word → IsIntegerOf word i → literal_of i ≡ literal kind word
-literal_is kind word i n is =
-    let k : IntegerKind = record { sign = i.sign; hex = i.hex } in
-    let m : IsNumber (number_kinds.Integer k) word = (i.sign, base_text i.hex ++ i.digits.now, (i.digits.now, is.0, refl, refl), is.1) in
-    let e : Some (number_kinds.Integer kind) ≡ Some (number_kinds.Integer k) = sym (number_scanned word (number_kinds.Integer kind) n) ∙ number_scanned word (number_kinds.Integer k) m in
-    let same : kind ≡ k = cc in
-    let front = sign_text i.sign ++ base_text i.hex in
-    let digits : digits_of k word ≡ i.digits.now = ap (digits_of k) is.1 ∙ ap (drop (length front)) (sym (append_assoc (sign_text i.sign) (base_text i.hex) i.digits.now)) ∙ drop-append_seam front i.digits.now in
-    rw same (ap (literal_with i) (sym digits))
+pub literal_is : (word : List ℕ) (i : Integer) → IsIntegerOf word i → literal_of i ≡ literal word
+literal_is word i is = sym (ap literal is.1 ∙ integer_is i.sign i.hex i.digits.now is.0)

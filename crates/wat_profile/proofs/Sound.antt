@@ -1,8 +1,8 @@
 -- The instructions of the code are instructions of the table, and what the encoder makes of them.
-use Rattle.std.proofs.Common.{◌≡◌, [], ◌∷◌, refl, sym, pos, negsuc}
+use Rattle.std.proofs.Common.{◌≡◌, [], ◌∷◌, refl, pos, negsuc}
 use Rattle.std.specs.Prelude.{◌≤ℤ◌, ℤ}
 use Rattle.wasm_encoder_base.specs.Table.{table, entry_at}
-use Rattle.wasm_encoder_base.specs.Instr.{Instr, NoOperands, I32 as number, IsInstr}
+use Rattle.wasm_encoder_base.specs.Instr.{NoOperands, I32 as number, IsInstr}
 use Rattle.wat_profile.specs.declared.tree.Instruction.{Instruction}
 use Rattle.wat_profile.specs.declared.tree.Instruction.TheVariants.{Nop, Drop, I32Const}
 use Rattle.wat_profile.specs.Encoding.{instr_view}

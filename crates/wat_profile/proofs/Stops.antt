@@ -1,5 +1,5 @@
 -- Where a text has no token, no tokens are the text.
-use Rattle.std.proofs.Common.{◌≡◌, ◌≢◌, ℕ, ◌+◌, ◌<◌, Bool, false, Option, Some, None, map, List, [], ◌∷◌, ◌++◌, length, drop, refl, sym, ◌∙◌, ap, subst, arith}
+use Rattle.std.proofs.Common.{◌≡◌, ◌≢◌, ℕ, ◌+◌, ◌<◌, Bool, false, Option, Some, map, List, [], ◌∷◌, ◌++◌, length, drop, refl, sym, ◌∙◌, ap, subst, arith}
 use Rattle.std.proofs.lemmas.List.{length-drop}
 use Rattle.wast_lexer.specs.declared.token.TokenKind.{TokenKind}
 use Rattle.wast_lexer.specs.Kinds.{is_open}
@@ -37,10 +37,7 @@ pub untiled : (allow : Bool) (text : List ℕ) (ts us : List Lexeme) (opened : B
 untiled allow text ts us opened place s within none t =
     stops allow opened 0 text ts us (is_opened text place) place (drop place text) s (λ e. (let l = ap length e in omega (arith, l, within, length-drop place text))) none t
 
--- a table without a fault, and one with a fault at a place
-pub table_tiles : (allow : Bool) (text : List ℕ) (tokens : List Token) (f : Option LexFault) → IsTable allow text tokens f → f ≡ None → Tiles allow false 0 text (map (lexeme_of text) tokens)
-table_tiles allow text tokens f is e = subst (IsTable allow text tokens) e is
-
+-- a table with a fault at a place
 pub table_stops : (allow : Bool) (text : List ℕ) (tokens : List Token) (f : Option LexFault) (span : Span) (error : LexError) → IsTable allow text tokens f → f ≡ Some (Lex span error) → (us : List Lexeme) → ¬ Tiles allow false 0 text us
 table_stops allow text tokens f span error is e us t =
     let at = subst (IsTable allow text tokens) e is in

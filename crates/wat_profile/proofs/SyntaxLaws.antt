@@ -2,11 +2,12 @@
 use Rattle.std.proofs.Common.{◌≡◌, ℕ, true, List, [], length, ◌<◌, Some, refl}
 use Rattle.wasm_encoder_base.specs.Table.{OperandSyntax}
 use Rattle.wasm_encoder_base.specs.Table as rows
-use Rattle.wat_profile.specs.Tokens.{SignificantToken}
+use Rattle.wast_grammar.specs.Tokens.{SignificantToken}
+use Rattle.wast_grammar.specs.Grammar.{wide}
+use Rattle.wast_grammar.proofs.GrammarLaws.{Lawful, word_laws, among_laws, integer_laws, string_laws, nothing_laws, seen_laws, seq_laws, next_laws, only_laws, many_laws, group_laws, paren_laws, bound_laws, shrinks}
 use Rattle.wat_profile.specs.Tree.{Func, Instruction}
-use Rattle.wat_profile.specs.Grammar.{wide, op}
-use Rattle.wat_profile.specs.Syntax.{i32_literal, operands, instruction, row_starts, row_stops, name, export, func, module_syntax}
-use Rattle.wat_profile.proofs.GrammarLaws.{Lawful, word_laws, op_laws, integer_laws, string_laws, nothing_laws, seen_laws, seq_laws, next_laws, only_laws, many_laws, group_laws, paren_laws, bound_laws, shrinks}
+use Rattle.wat_profile.specs.KnownMnemonics.{known_entries}
+use Rattle.wat_profile.specs.Syntax.{i32_literal, operands, mnemonic, instruction, row_starts, row_stops, name, export, func, module_syntax}
 
 module _ {N P : Type 0} where
   pub i32_laws : Lawful (i32_literal {N = N} {P = P})
@@ -21,8 +22,11 @@ module _ {N P : Type 0} where
   bounded_laws rows.I32 = bound_laws _ _ _ (operands_laws rows.I32) refl refl
   bounded_laws r = bound_laws _ _ _ (operands_laws r) refl refl
 
+  mnemonic_laws : Lawful (mnemonic {N = N} {P = P})
+  mnemonic_laws = among_laws (λ e. e.mnemonic) known_entries []
+
   pub instruction_laws : Lawful (instruction {N = N} {P = P})
-  instruction_laws = seen_laws _ _ (next_laws op (λ e. operands e.0.operands) row_starts true row_stops op_laws (λ e. bounded_laws e.0.operands) refl)
+  instruction_laws = seen_laws _ _ (next_laws mnemonic (λ e. operands e.0.operands) row_starts true row_stops mnemonic_laws (λ e. bounded_laws e.0.operands) refl)
 
   name_laws : Lawful (name {N = N} {P = P})
   name_laws = only_laws _ _ string_laws

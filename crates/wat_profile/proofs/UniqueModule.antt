@@ -1,5 +1,5 @@
 -- A module is had back from its binary.
-use Rattle.std.proofs.Common.{ℕ, suc, ◌≡◌, ◌≢◌, true, List, [], ◌∷◌, ◌++◌, map, cond, nat_eq, refl, sym, ap, ◌∙◌, arith, flat_map, All}
+use Rattle.std.proofs.Common.{ℕ, suc, ◌≡◌, ◌≢◌, true, List, [], ◌∷◌, map, cond, nat_eq, refl, sym, ◌∙◌, arith, flat_map, All}
 use Rattle.std.proofs.lemmas.List.{append_cancel_left}
 use Rattle.std.specs.List.{AllByRecursion}
 use Rattle.wasm_encoder_base.specs.Bytes.{counted, sized}

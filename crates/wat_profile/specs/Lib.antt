@@ -1,15 +1,13 @@
 pub mod AbstractModule
 pub mod Encoding
-pub mod Grammar
 pub mod KnownMnemonics
 pub mod Layout
 pub mod Means
 pub mod ParserState
 pub mod Parts
-pub mod Spelling
+pub mod Registered
 pub mod StandsFor
 pub mod Syntax
-pub mod Tokens
 pub mod Tree
 pub mod TreeViews
 pub mod Unspelled

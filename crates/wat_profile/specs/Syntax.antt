@@ -1,10 +1,12 @@
 -- The syntax of modules (WebAssembly 3.0, 6).
-use Rattle.std.specs.Prelude.{ℕ, ℤ, pos, ◌-ℤ◌, Bool, true, false, if◌then◌else◌, List, [], ◌∷◌, codes, nat_lt, nat_le}
+use Rattle.std.specs.Prelude.{ℕ, ℤ, pos, ◌-ℤ◌, Bool, true, false, if◌then◌else◌, List, [], ◌∷◌, map, codes, nat_lt, nat_le}
 use Rattle.std.specs.Str.{is_utf8}
 use Rattle.wasm_encoder_base.specs.Table.{Entry, OperandSyntax}
 use Rattle.wasm_encoder_base.specs.Table as rows
-use Rattle.wat_profile.specs.Tokens.{Literal}
-use Rattle.wat_profile.specs.Grammar.{Syntax, Test, on, Mnemonic, Any, AnInteger, AWord, this_group, op, word, integer, string, nothing, next, seq, seen, only, many, group, paren}
+use Rattle.wast_grammar.specs.Tokens.{Literal}
+use Rattle.wast_grammar.specs.Look.{Test, On, OneOf, Any, AnInteger, AWord, this_group}
+use Rattle.wast_grammar.specs.Grammar.{Syntax, among, word, integer, string, nothing, next, seq, seen, only, many, group, paren}
+use Rattle.wat_profile.specs.KnownMnemonics.{known_entries}
 use Rattle.wat_profile.specs.Tree.{Operands, NoOperands, I32, Instruction, Func, Module}
 
 -- LITERALS of 32 bits lie between -2^31 and 2^32 - 1 (6.3.1).
@@ -32,14 +34,14 @@ module _ {N P : Type 0} where
 
 -- what the operands of all rows begin with, and what may not follow them
 abbrev pub row_starts : List Test
-row_starts = on false AnInteger Any ∷ []
+row_starts = On false AnInteger Any ∷ []
 
 abbrev pub row_stops : List Test
 row_stops = []
 
 -- what instructions, exports and functions begin with
 abbrev pub instruction_starts : List Test
-instruction_starts = on false AWord Mnemonic ∷ []
+instruction_starts = On false AWord (OneOf (map (λ e. e.mnemonic) known_entries) []) ∷ []
 
 abbrev pub export_starts : List Test
 export_starts = this_group (codes "export") ∷ []
@@ -48,8 +50,11 @@ abbrev pub func_starts : List Test
 func_starts = this_group (codes "func") ∷ []
 
 module _ {N P : Type 0} where
+  abbrev pub mnemonic : Syntax N P (Entry × P)
+  mnemonic = among (λ e. e.mnemonic) known_entries []
+
   abbrev pub instruction : Syntax N P (Instruction N P)
-  instruction = seen as_instruction (next op (λ e. operands e.0.operands) row_starts true row_stops)
+  instruction = seen as_instruction (next mnemonic (λ e. operands e.0.operands) row_starts true row_stops)
 
   -- NAMES (6.3.4): strings that are UTF-8
   abbrev pub name : Syntax N P (List ℕ)

@@ -1,7 +1,8 @@
 //! Literals of numbers.
 ghost use Rattle.std.specs.Prelude.{◌≡◌, ◌<◌, ℤ, Option, Some, None, SomeIff, if◌then◌else◌, nat_le, nat_lt, pos, ◌-ℤ◌};
 ghost use Rattle.wast_lexer.specs.Strings.{hex_value};
-ghost use Rattle.wat_profile.specs.Tokens.{number, is_minus};
+ghost use Rattle.wast_grammar.specs.Tokens.{number};
+ghost use Rattle.wast_grammar.specs.Laws.{says_minus};
 ghost use Rattle.wat_profile.specs.ParserState.{literal_of};
 ghost use Rattle.wat_profile.specs.Syntax.{is_i32, i32_value};
 
@@ -21,7 +22,7 @@ pub fn i32_of(integer: Integer<'_>) -> Option<i32>
 }
 
 fn is_minus(sign: Option<SignToken>) -> bool
-    ensures { result ≡ is_minus sign }
+    ensures { result ≡ says_minus sign }
 {
     matches!(sign, Some(SignToken::Minus))
 }

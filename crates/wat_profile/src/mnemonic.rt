@@ -1,6 +1,6 @@
 //! The mnemonics of instructions.
-ghost use Rattle.std.specs.Prelude.{◌≡◌, map, option_map};
-ghost use Rattle.wasm_encoder_base.specs.Table.{find};
+ghost use Rattle.std.specs.Prelude.{◌≡◌, [], map, option_map};
+ghost use Rattle.wast_grammar.specs.Spelling.{find_but, find_by};
 ghost use Rattle.wat_profile.specs.KnownMnemonics.{known_entries};
 ghost use Rattle.wat_profile.specs.TreeViews.{entry_of, mnemonic_text};
 
@@ -17,7 +17,7 @@ const MNEMONICS: [Mnemonic; 3] = [Mnemonic::Nop, Mnemonic::Drop, Mnemonic::I32Co
 impl Mnemonic {
     /// The mnemonic that is written so.
     pub fn of(text: &[u8]) -> Option<Mnemonic>
-        ensures { option_map entry_of result ≡ find text.now known_entries }
+        ensures { option_map entry_of result ≡ find_but (λ e. e.mnemonic) known_entries [] text.now }
     {
         find_among(&MNEMONICS, text)
     }
@@ -34,7 +34,7 @@ impl Mnemonic {
 }
 
 fn find_among(mnemonics: &[Mnemonic], text: &[u8]) -> Option<Mnemonic>
-    ensures { option_map entry_of result ≡ find text.now (map entry_of mnemonics.now) }
+    ensures { option_map entry_of result ≡ find_by (λ e. e.mnemonic) text.now (map entry_of mnemonics.now) }
 {
     for mnemonic in mnemonics {
         if text == mnemonic.text().as_bytes() {

@@ -1,7 +1,9 @@
 //! What is read by the grammar, and repeats of it.
-ghost use Rattle.std.specs.Prelude.{◌≡◌, ℕ, List, Some, map};
-ghost use Rattle.wat_profile.specs.ParserState.{ahead, Keeps, Gives};
-ghost use Rattle.wat_profile.specs.Grammar.{Syntax, Test, ask, many, Shrinks};
+ghost use Rattle.std.specs.Prelude.{ℕ, List, map};
+ghost use Rattle.wast_grammar.specs.Look.{Test, ask};
+ghost use Rattle.wast_grammar.specs.Grammar.{Syntax, many};
+ghost use Rattle.wast_grammar.specs.Lawful.{Shrinks};
+ghost use Rattle.wat_profile.specs.ParserState.{ahead, Asks, Gives, Keeps};
 
 use crate::parse_fault::ParseFault;
 use crate::parser::Parser;
@@ -30,8 +32,8 @@ pub trait Item: Production {
     ghost starts: { List Test };
 
     /// Whether one begins here.
-    fn peek(parser: &Parser<'_, '_>) -> bool
-        ensures { ask starts (ahead parser.now) ≡ Some result };
+    fn peek(parser: &Parser<'_, '_>) -> Result<bool, ParseFault>
+        ensures { Asks result (ask starts (ahead parser.now)) };
 
     /// Each takes a token.
     fn shrinks()
@@ -45,7 +47,7 @@ pub fn list_of<'a, T: Parse<'a> + Item>(parser: &mut Parser<'a, '_>) -> Result<V
 {
     T::shrinks();
     let mut items = Vec::new(parser.alloc());
-    while T::peek(parser) {
+    while T::peek(parser)? {
         items.push(T::parse(parser)?)?;
     }
     Ok(items)

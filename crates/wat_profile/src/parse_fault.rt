@@ -3,6 +3,7 @@ ghost use Rattle.std.specs.Prelude.{◌≡◌};
 ghost use Rattle.wat_profile.specs.declared.parse_fault.ParseFault.TheVariants.{Memory};
 
 use std::alloc::{AllocError, AllocFailed};
+use wast_lexer::LexError;
 
 /// What may stand at a place.
 #[derive(Clone, Copy, Debug, PartialEq, Eq)]
@@ -43,7 +44,15 @@ impl Expected {
 #[derive(Clone, Copy, Debug, PartialEq, Eq)]
 pub enum ParseFault {
     /// What stands at this byte can't stand there, and this could.
-    Refused { offset: usize, expected: Expected },
+    Refused {
+        offset: usize,
+        expected: Expected,
+    },
+    /// The text can be read no further than to this byte: no token begins there, or a group isn't closed.
+    Stopped {
+        offset: usize,
+        error: Option<LexError>,
+    },
     Memory,
 }
 

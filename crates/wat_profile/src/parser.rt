@@ -1,14 +1,18 @@
 //! A parser: the tokens of a text, and how many of them are taken.
-ghost use Rattle.std.specs.Prelude.{◌≡◌, ◌+◌, [], ◌∷◌, Some, IfSome, IfNone, IfOk, IfErr};
+ghost use Rattle.std.specs.Prelude.{◌≡◌, ◌+◌, [], ◌∷◌, Some, true, IfOk, IfErr, OnOk, MatchOption, ℕ, is_some, slice_get};
 ghost use Rattle.std.specs.Cow.{cow_str_bytes};
 ghost use Rattle.std.specs.List.{All};
 ghost use Rattle.wast_lexer.specs.declared.token.TokenKind.TheVariants as kinds;
+ghost use Rattle.wast_lexer.specs.Tiling.{is_annotation};
 ghost use Rattle.wast_lexer.specs.TokenText.{IsOf, text_of};
-ghost use Rattle.wat_profile.specs.Tokens.{literal, string_value};
-ghost use Rattle.wat_profile.specs.ParserState.{State, IsNext, IsTextOf, ahead, is_nil, is_trivia, literal_of, Keeps, Tells, Gives};
-ghost use Rattle.wat_profile.specs.Grammar.{ask, word, op, one_of, this_group};
-ghost use Rattle.wat_profile.specs.Spelling.{that_open, that_close};
-ghost use Rattle.wat_profile.specs.Syntax.{instruction_starts, i32_literal, name};
+ghost use Rattle.wast_grammar.specs.Tokens.{literal, string_value};
+ghost use Rattle.wast_grammar.specs.Spelling.{any_is, that_open, that_close};
+ghost use Rattle.wast_grammar.specs.Significant.{is_trivia, is_lparen, begins_unknown};
+ghost use Rattle.wast_grammar.specs.Look.{ask, this_group};
+ghost use Rattle.wast_grammar.specs.Grammar.{word, one_of};
+ghost use Rattle.wat_profile.specs.ParserState.{State, IsTextOf, ahead, lexemes_from, literal_of, Asks, Gives, IsLeft, IsRefusal, IsStop, is_keyword, Keeps, ShowsNext, Tells};
+ghost use Rattle.wat_profile.specs.Registered.{registered};
+ghost use Rattle.wat_profile.specs.Syntax.{instruction_starts, i32_literal, mnemonic, name};
 ghost use Rattle.wat_profile.specs.TreeViews.{entry_of};
 
 use crate::literal::i32_of;
@@ -17,7 +21,7 @@ use crate::parse_fault::{Expected, ParseFault};
 use std::alloc::{AllocError, Global};
 use std::borrow::{CowSlice, CowStr};
 use std::marker::Model;
-use wast_lexer::{Integer, IntegerKind, Span, Token, TokenKind, TokenTable};
+use wast_lexer::{Integer, IntegerKind, LexFault, Span, Token, TokenKind, TokenTable};
 
 #[derive(Drop)]
 pub struct Parser<'a, 't> {
@@ -30,7 +34,7 @@ pub struct Parser<'a, 't> {
 impl<'a, 't> Model for Parser<'a, 't> {
     ghost Value = { State };
 
-    ghost view = { λ p. record { text = p.text.now; tokens = p.table.now.tokens; at = p.at } };
+    ghost view = { λ p. record { text = p.text.now; table = p.table.now; at = p.at } };
 
     ghost invariant = { λ p. All (IsOf p.text.now) p.table.now.tokens };
 }
@@ -39,7 +43,7 @@ impl<'a, 't> Parser<'a, 't> {
     /// Before the first token.
     pub fn new(alloc: Global, text: &'a str, table: &'t TokenTable) -> Parser<'a, 't>
         requires { All (IsOf text.now) table.now.tokens }
-        ensures { result ≡ record { text = text.now; tokens = table.now.tokens; at = 0 } }
+        ensures { result ≡ record { text = text.now; table = table.now; at = 0 } }
     {
         Parser {
             alloc,
@@ -53,43 +57,43 @@ impl<'a, 't> Parser<'a, 't> {
         self.alloc
     }
 
-    /// Whether no significant token is left.
-    pub fn is_done(&self) -> bool
-        ensures { result ≡ is_nil (ahead self.now) }
+    /// Whether no significant token is left: refused where one is.
+    pub fn end(&self) -> Result<(), ParseFault>
+        ensures done { OnOk result (ahead self.now ≡ []) }
+        ensures left { IfErr result (IsLeft self.now) }
     {
-        self.next().is_none()
-    }
-
-    /// Where the next significant token begins, or where the text ends.
-    pub fn offset(&self) -> usize {
-        match self.next() {
-            Some((token, _)) => token.offset,
-            None => self.text.len(),
+        match self.next()? {
+            Some(_) => Err(self.refused(Expected::End)),
+            None => Ok(()),
         }
     }
 
     /// Whether a parenthesis opens and this word comes next.
-    pub fn peek_group(&self, name: &str) -> bool
-        ensures { ask (this_group name.now ∷ []) (ahead self.now) ≡ Some result }
+    pub fn peek_group(&self, name: &str) -> Result<bool, ParseFault>
+        ensures { Asks result (ask (this_group name.now ∷ []) (ahead self.now)) }
     {
-        match self.next() {
-            Some((token, after)) if token.kind == TokenKind::LParen => match self.next_from(after) {
-                Some((token, _)) => token.kind == TokenKind::Keyword
-                    && self.bytes(token) == name.as_bytes(),
-                None => false,
+        match self.next()? {
+            Some((token, after)) if token.kind == TokenKind::LParen => match self.next_from(
+                after,
+            )? {
+                Some((token, _)) => Ok(
+                    token.kind == TokenKind::Keyword && self.bytes(token) == name.as_bytes(),
+                ),
+                None => Ok(false),
             },
-            _ => false,
+            _ => Ok(false),
         }
     }
 
     /// Whether a mnemonic comes next.
-    pub fn peek_mnemonic(&self) -> bool
-        ensures { ask instruction_starts (ahead self.now) ≡ Some result }
+    pub fn peek_mnemonic(&self) -> Result<bool, ParseFault>
+        ensures { Asks result (ask instruction_starts (ahead self.now)) }
     {
-        match self.next() {
-            Some((token, _)) => token.kind == TokenKind::Keyword
-                && Mnemonic::of(self.bytes(token)).is_some(),
-            None => false,
+        match self.next()? {
+            Some((token, _)) if is_keyword(token.kind) => {
+                Ok(Mnemonic::of(self.bytes(token)).is_some())
+            }
+            _ => Ok(false),
         }
     }
 
@@ -98,15 +102,12 @@ impl<'a, 't> Parser<'a, 't> {
         ensures read { Gives (λ s. s) result self.new (one_of that_open (ahead self.old)) }
         ensures keeps { Keeps self.old self.new }
     {
-        match self.next() {
+        match self.next()? {
             Some((token, after)) if token.kind == TokenKind::LParen => {
                 self.at = after;
                 Ok(Span::from_offset(token.offset))
             }
-            _ => Err(ParseFault::Refused {
-                offset: self.offset(),
-                expected: Expected::Open,
-            }),
+            _ => Err(self.refused(Expected::Open)),
         }
     }
 
@@ -115,15 +116,12 @@ impl<'a, 't> Parser<'a, 't> {
         ensures read { Gives (λ s. s) result self.new (one_of that_close (ahead self.old)) }
         ensures keeps { Keeps self.old self.new }
     {
-        match self.next() {
+        match self.next()? {
             Some((token, after)) if token.kind == TokenKind::RParen => {
                 self.at = after;
                 Ok(Span::from_offset(token.offset))
             }
-            _ => Err(ParseFault::Refused {
-                offset: self.offset(),
-                expected: Expected::Close,
-            }),
+            _ => Err(self.refused(Expected::Close)),
         }
     }
 
@@ -133,35 +131,29 @@ impl<'a, 't> Parser<'a, 't> {
         ensures told { IfErr result (Tells expected) }
         ensures keeps { Keeps self.old self.new }
     {
-        match self.next() {
+        match self.next()? {
             Some((token, after))
                 if token.kind == TokenKind::Keyword && self.bytes(token) == name.as_bytes() => {
                 self.at = after;
                 Ok(Span::from_offset(token.offset))
             }
-            _ => Err(ParseFault::Refused {
-                offset: self.offset(),
-                expected,
-            }),
+            _ => Err(self.refused(expected)),
         }
     }
 
     /// Takes a mnemonic.
     pub fn mnemonic(&mut self) -> Result<(Mnemonic, Span), ParseFault>
-        ensures read { Gives (λ m. (entry_of m.0, m.1)) result self.new (op.reads (ahead self.old)) }
+        ensures read { Gives (λ m. (entry_of m.0, m.1)) result self.new (mnemonic.reads (ahead self.old)) }
         ensures keeps { Keeps self.old self.new }
     {
-        if let Some((token, after)) = self.next()
+        if let Some((token, after)) = self.next()?
             && token.kind == TokenKind::Keyword
             && let Some(mnemonic) = Mnemonic::of(self.bytes(token))
         {
             self.at = after;
             return Ok((mnemonic, Span::from_offset(token.offset)));
         }
-        Err(ParseFault::Refused {
-            offset: self.offset(),
-            expected: Expected::Instruction,
-        })
+        Err(self.refused(Expected::Instruction))
     }
 
     /// Takes a name.
@@ -169,23 +161,17 @@ impl<'a, 't> Parser<'a, 't> {
         ensures read { Gives cow_str_bytes result self.new (name.reads (ahead self.old)) }
         ensures keeps { Keeps self.old self.new }
     {
-        match self.next() {
+        match self.next()? {
             Some((token, after)) if token.kind == TokenKind::String => {
                 match self.text_of(token)? {
                     Some(name) => {
                         self.at = after;
                         Ok(name)
                     }
-                    None => Err(ParseFault::Refused {
-                        offset: self.offset(),
-                        expected: Expected::Name,
-                    }),
+                    None => Err(self.refused(Expected::Name)),
                 }
             }
-            _ => Err(ParseFault::Refused {
-                offset: self.offset(),
-                expected: Expected::String,
-            }),
+            _ => Err(self.refused(Expected::String)),
         }
     }
 
@@ -194,17 +180,14 @@ impl<'a, 't> Parser<'a, 't> {
         ensures read { Gives (λ n. n) result self.new (i32_literal.reads (ahead self.old)) }
         ensures keeps { Keeps self.old self.new }
     {
-        if let Some((token, after)) = self.next()
+        if let Some((token, after)) = self.next()?
             && let TokenKind::Integer(kind) = token.kind
             && let Some(number) = i32_of(self.integer(token, kind))
         {
             self.at = after;
             return Ok(number);
         }
-        Err(ParseFault::Refused {
-            offset: self.offset(),
-            expected: Expected::I32,
-        })
+        Err(self.refused(Expected::I32))
     }
 
     /// The bytes of a token.
@@ -219,7 +202,7 @@ impl<'a, 't> Parser<'a, 't> {
     fn integer(&self, token: Token, kind: IntegerKind) -> Integer<'a>
         requires of_text { IsOf self.now.text token }
         requires kind { token.kind ≡ kinds.Integer kind }
-        ensures { literal_of result ≡ literal kind (text_of self.now.text token) }
+        ensures { literal_of result ≡ literal (text_of self.now.text token) }
     {
         token.integer(self.text, kind)
     }
@@ -242,30 +225,108 @@ impl<'a, 't> Parser<'a, 't> {
         }
     }
 
+    /// That this is expected where the next significant token begins, or where the text ends.
+    fn refused(&self, expected: Expected) -> ParseFault
+        ensures { IsRefusal expected result }
+    {
+        let offset = match self.next() {
+            Ok(Some((token, _))) => token.offset,
+            _ => self.text.len(),
+        };
+        ParseFault::Refused { offset, expected }
+    }
+
     /// The next significant token, and how many tokens are taken with it.
-    fn next(&self) -> Option<(Token, usize)>
-        ensures found { IfSome result (λ found. IsNext self.now found.0 found.1) }
-        ensures none { IfNone result (ahead self.now ≡ []) }
+    fn next(&self) -> Result<Option<(Token, usize)>, ParseFault>
+        ensures { ShowsNext result self.now }
     {
         self.next_from(self.at)
     }
 
     /// The same, where so many tokens are taken.
-    fn next_from(&self, from: usize) -> Option<(Token, usize)>
-        ensures found { IfSome result (λ found. IsNext (record self.now { at = from }) found.0 found.1) }
-        ensures none { IfNone result (ahead (record self.now { at = from }) ≡ []) }
+    fn next_from(&self, from: usize) -> Result<Option<(Token, usize)>, ParseFault>
+        ensures { ShowsNext result (record self.now { at = from }) }
     {
         // So that the count past a token fits: the number of all tokens does.
         let _count = self.table.len();
-        let mut after = from;
-        while let Some(token) = self.table.get(after) {
-            after += 1;
-            if !is_trivia(token.kind) {
-                return Some((token, after));
+        let mut at = from;
+        'tokens: while let Some(token) = self.table.get(at) {
+            if is_trivia(token.kind) {
+                at += 1;
+            } else if is_lparen(token.kind) && self.begins_unknown(at + 1)? {
+                match self.table.group_end(at) {
+                    Some(end) => at = end + 1,
+                    None => return Err(self.stopped()),
+                }
+            } else {
+                return Ok(Some((token, at + 1)));
             }
         }
-        None
+        if self.table.fault().is_some() {
+            return Err(self.stopped());
+        }
+        Ok(None)
     }
+
+    /// Whether the name of an annotation that isn't registered stands there.
+    fn begins_unknown(&self, at: usize) -> Result<bool, AllocError>
+        ensures { IfOk result (λ b. b ≡ begins_unknown registered (lexemes_from self.now.text self.now.table at)) }
+    {
+        match self.table.get(at) {
+            Some(token) if is_annotation(token.kind) => {
+                let name = token.annotation(self.alloc, self.text)?;
+                Ok(!is_registered(name.as_str()))
+            }
+            _ => Ok(false),
+        }
+    }
+
+    /// The fault behind the last token that can be told: the lexer's, or that a group isn't closed.
+    fn stopped(&self) -> ParseFault
+        ensures { IsStop result }
+    {
+        match self.table.fault() {
+            Some(LexFault::Lex { span, error }) => ParseFault::Stopped {
+                offset: span.offset(),
+                error: Some(*error),
+            },
+            _ => ParseFault::Stopped {
+                offset: self.text.len(),
+                error: None,
+            },
+        }
+    }
+}
+
+/// Whether an annotation of this name is registered.
+fn is_registered(name: &str) -> bool
+    ensures { result ≡ any_is name.now registered }
+{
+    name == "name"
+        || name == "custom"
+        || name == "producers"
+        || name == "dylink.0"
+        || name == "metadata.code.branch_hint"
+}
+
+fn is_lparen(kind: TokenKind) -> bool
+    ensures { result ≡ is_lparen kind }
+{
+    matches!(kind, TokenKind::LParen)
+}
+
+fn is_keyword(kind: TokenKind) -> bool
+    ensures same { result ≡ is_keyword kind }
+    ensures is { result ≡ true → kind ≡ kinds.Keyword }
+{
+    matches!(kind, TokenKind::Keyword)
+}
+
+fn is_annotation(kind: TokenKind) -> bool
+    ensures same { result ≡ is_annotation kind }
+    ensures is { result ≡ true → kind ≡ kinds.Annotation }
+{
+    matches!(kind, TokenKind::Annotation)
 }
 
 /// Whether a token is white space or a comment.

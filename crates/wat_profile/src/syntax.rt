@@ -1,9 +1,10 @@
 //! The productions.
-ghost use Rattle.std.specs.Prelude.{◌≡◌, ℕ, List, IfOk, IfErr};
+ghost use Rattle.std.specs.Prelude.{◌≡◌, ℕ, List, [], Some, IfOk, IfErr};
 ghost use Rattle.std.specs.List.{All};
 ghost use Rattle.wast_lexer.specs.TokenText.{IsOf};
-ghost use Rattle.wat_profile.specs.ParserState.{ahead, Keeps, Gives, NoneSpelled, significant_of};
-ghost use Rattle.wat_profile.specs.Grammar.{ask, Shrinks};
+ghost use Rattle.wast_grammar.specs.Look.{ask};
+ghost use Rattle.wast_grammar.specs.Lawful.{Shrinks};
+ghost use Rattle.wat_profile.specs.ParserState.{ahead, shown_from, Asks, Gives, Keeps, NoneSpelled};
 ghost use Rattle.wat_profile.specs.Syntax.{instruction_starts, export_starts, func_starts, operands, instruction, export, func, module_syntax};
 ghost use Rattle.wat_profile.specs.TreeViews.{entry_of, mnemonic_of, operands_tree, instruction_tree, export_tree, func_tree, module_tree};
 ghost use Rattle.wat_profile.specs.Tree as spec;
@@ -23,17 +24,12 @@ pub fn parse_tokens<'a>(
     table: &TokenTable,
 ) -> Result<Module<'a>, ParseFault>
     requires { All (IsOf text.now) table.now.tokens }
-    ensures ok { IfOk result (λ m. module_syntax.spells (module_tree m) (significant_of text.now table.now.tokens)) }
-    ensures refused { IfErr result (λ e. NoneSpelled module_syntax text.now table.now.tokens e) }
+    ensures ok { IfOk result (λ m. module_syntax.reads (shown_from text.now table.now 0) ≡ Some (module_tree m, [])) }
+    ensures refused { IfErr result (NoneSpelled module_syntax (shown_from text.now table.now 0)) }
 {
     let mut parser = Parser::new(alloc, text, table);
     let module = Module::parse(&mut parser)?;
-    if !parser.is_done() {
-        return Err(ParseFault::Refused {
-            offset: parser.offset(),
-            expected: Expected::End,
-        });
-    }
+    parser.end()?;
     Ok(module)
 }
 
@@ -81,8 +77,8 @@ impl<'a> Parse<'a> for Func<'a> {
 impl<'a> Item for Func<'a> {
     ghost starts = { func_starts };
 
-    fn peek(parser: &Parser<'_, '_>) -> bool
-        ensures { ask func_starts (ahead parser.now) ≡ Some result }
+    fn peek(parser: &Parser<'_, '_>) -> Result<bool, ParseFault>
+        ensures { Asks result (ask func_starts (ahead parser.now)) }
     {
         parser.peek_group("func")
     }
@@ -113,8 +109,8 @@ impl<'a> Parse<'a> for Export<'a> {
 impl<'a> Item for Export<'a> {
     ghost starts = { export_starts };
 
-    fn peek(parser: &Parser<'_, '_>) -> bool
-        ensures { ask export_starts (ahead parser.now) ≡ Some result }
+    fn peek(parser: &Parser<'_, '_>) -> Result<bool, ParseFault>
+        ensures { Asks result (ask export_starts (ahead parser.now)) }
     {
         parser.peek_group("export")
     }
@@ -143,7 +139,7 @@ impl<'a> Parse<'a> for Instr {
 impl Item for Instr {
     ghost starts = { instruction_starts };
 
-    fn peek(parser: &Parser<'_, '_>) -> bool {
+    fn peek(parser: &Parser<'_, '_>) -> Result<bool, ParseFault> {
         parser.peek_mnemonic()
     }
 

@@ -6,15 +6,16 @@ ghost use Rattle.wat_profile.specs.Means.{Spells};
 ghost use Rattle.wat_profile.specs.TreeViews.{module_tree};
 
 use crate::Error;
-use crate::parse_fault::ParseFault;
+use crate::parse_fault::{Expected, ParseFault};
 use crate::syntax::parse_tokens;
 use crate::text_fault::TextFault;
 use crate::tree::Module;
 use std::alloc::Global;
-use wast_lexer::{LexFault, Lexer, Span, TokenTable};
+use wast_lexer::{LexError, Lexer, Span, TokenTable};
 use wast_parser_base::lexical_text;
 
-/// The module that a text spells, which is one at most.
+/// The module that a text spells, which is one at most: that of its significant tokens (6.2.2 to 6.2.5). A text that
+/// can't be cut into tokens has none, nor has one in which the group of an annotation isn't closed that isn't registered.
 ///
 /// Answers [`TextFault::Misspelled`] exactly where, memory found, the text spells none, and [`TextFault::Memory`] where
 /// a growth found no memory.
@@ -26,13 +27,6 @@ pub fn parse_text(alloc: Global, text: &str) -> Result<Module<'_>, TextFault>
         Ok(table) => table,
         Err(_) => return Err(TextFault::Memory),
     };
-    match table.fault() {
-        None => {}
-        Some(LexFault::Memory) => return Err(TextFault::Memory),
-        Some(LexFault::Lex { span, error }) => {
-            return Err(misspelled(alloc, span.offset(), lexical_text(*error)));
-        }
-    }
     match parse_tokens(alloc, text, &table) {
         Ok(module) => Ok(module),
         Err(ParseFault::Memory) => Err(TextFault::Memory),
@@ -41,6 +35,19 @@ pub fn parse_text(alloc: Global, text: &str) -> Result<Module<'_>, TextFault>
             offset,
             expected.text(),
         )),
+        Err(ParseFault::Stopped { offset, error }) => Err(misspelled(
+            alloc,
+            offset,
+            stop_text(error),
+        )),
+    }
+}
+
+/// Why a text can be read no further, in words.
+fn stop_text(error: Option<LexError>) -> &'static str {
+    match error {
+        Some(error) => lexical_text(error),
+        None => Expected::Close.text(),
     }
 }
 

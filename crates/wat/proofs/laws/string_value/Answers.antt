@@ -1,5 +1,5 @@
-use Rattle.wat_profile.proofs.Strings.{string_value_is}
+use Rattle.wast_grammar.proofs.TextLaws.{string_is}
 use Rattle.wat.proofs.laws.string_value.Goals as goal
 
 pub returns : goal.returns
-returns c = string_value_is
+returns c = string_is

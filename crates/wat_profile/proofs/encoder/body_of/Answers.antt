@@ -1,4 +1,4 @@
-use Rattle.std.proofs.Common.{ap, subst, sym, ◌++◌, ◌∙◌, [], arith}
+use Rattle.std.proofs.Common.{ap, subst, ◌++◌, ◌∙◌, [], arith}
 use Rattle.wasm_encoder_base.specs.Bytes.{counted}
 use Rattle.wasm_encoder_base.specs.Instr.{instr_bytes, IsInstr}
 use Rattle.wasm_encoder_code.specs.Locals.{pair_bytes}

@@ -1,12 +1,11 @@
 use Rattle.std.proofs.Common.{◌<◌, ◌^◌, map, length, ap, sym, ◌∙◌, subst, All, List}
-use Rattle.std.specs.Prelude.{OnOk}
 use Rattle.std.proofs.lemmas.Result.{on_ok_weaker}
 use Rattle.wasm_encoder_base.specs.Bytes.{sized}
 use Rattle.wasm_encoder_code.specs.Body.{IsBody, body_bytes}
-use Rattle.wat_profile.specs.Layout.{FunctionFits, code_of}
+use Rattle.wat_profile.specs.Layout.{FunctionFits}
 use Rattle.wat_profile.specs.StandsFor.{function_of}
 use Rattle.wat_profile.specs.TreeViews.{func_tree}
-use Rattle.wat_profile.specs.Encoding.{body_view, functions_of, module_meant}
+use Rattle.wat_profile.specs.Encoding.{body_view, module_meant}
 use Rattle.wat_profile.proofs.Assembly.{of_items, code_section}
 use Rattle.wat_profile.proofs.Functions.{all_sound, code_fits, size_fits, codes_appended}
 use Rattle.wat_profile.proofs.encoder.put_code_section.Goals as goal

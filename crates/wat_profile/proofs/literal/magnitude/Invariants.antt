@@ -1,5 +1,5 @@
 use Rattle.std.proofs.Common.{◌≡◌, ◌<◌, drop}
-use Rattle.wat_profile.specs.Tokens.{number, number_after}
+use Rattle.wast_grammar.specs.Tokens.{number, number_after}
 use Rattle.wat_profile.proofs.literal.magnitude.Given as goal
 
 abbrev pub invariant-loop-digit : goal.invariant-loop-digit

@@ -1,7 +1,7 @@
 use Rattle.std.proofs.Common.{◌≡◌, map, length}
 use Rattle.wat_profile.specs.ParserState.{ahead, Keeps}
-use Rattle.wat_profile.specs.Grammar.{many_reads}
-use Rattle.wat_profile.proofs.Repeats.{with_front}
+use Rattle.wast_grammar.specs.Grammar.{many_reads}
+use Rattle.wast_grammar.proofs.Repeats.{with_front}
 use Rattle.wat_profile.proofs.parse.list_of.Given as goal
 
 abbrev pub invariant-loop-items : goal.invariant-loop-items

@@ -1,26 +1,25 @@
-use Rattle.std.proofs.Common.{rules, refl, ◌≡◌, sym, ◌∙◌, ap, true, false, Some}
-use Rattle.wat_profile.specs.ParserState.{Gives, ahead, is_nil, significant_of}
+use Rattle.std.proofs.Common.{rules, refl, ◌≡◌, sym, ◌∙◌, ap, subst, Some, []}
+use Rattle.std.specs.Prelude.{IfErr}
+use Rattle.wat_profile.specs.ParserState.{IsLeft, Refuses, shown_from, ahead}
 use Rattle.wat_profile.specs.Syntax.{module_syntax}
 use Rattle.wat_profile.specs.TreeViews.{module_tree}
 use Rattle.wat_profile.proofs.SyntaxLaws.{module_laws}
-use Rattle.wat_profile.proofs.FromReading.{spelled, refused, left_over}
+use Rattle.wat_profile.proofs.FromReading.{refused_all, left_all}
 use Rattle.wat_profile.proofs.syntax.parse_tokens.Goals as goal
 
 pub returns-in_err-module-clause-refused : goal.returns-in_err-module-clause-refused
 returns-in_err-module-clause-refused c =
-    let read : Gives module_tree c.from_residual.result c.parse.new.parser (module_syntax.reads (significant_of c.args.text.now c.args.table.now.tokens)) = search rules in
-    refused module_syntax module_laws refl module_tree c.args.text.now c.args.table.now.tokens c.parse.new.parser c.from_residual.result read c.from_residual.ensures.0
+    let start = ap (λ s. module_syntax.reads (ahead s)) c.new-parser.ensures in
+    let refuses : IfErr c.from_residual.result (λ e. Refuses e (module_syntax.reads (ahead c.new-parser.result))) = search rules in
+    refused_all module_syntax module_laws refl _ c.from_residual.result (subst (λ o. IfErr c.from_residual.result (λ e. Refuses e o)) start refuses)
 
-pub returns-then-not-is_done-clause-refused : goal.returns-then-not-is_done-clause-refused
-returns-then-not-is_done-clause-refused c =
-    let start : ahead c.new-parser.result ≡ significant_of c.args.text.now c.args.table.now.tokens = ap ahead c.new-parser.ensures in
-    let read : module_syntax.reads (significant_of c.args.text.now c.args.table.now.tokens) ≡ Some (module_tree c.in_ok-module.module, ahead c.parse.new.parser) = ap module_syntax.reads (sym start) ∙ c.in_ok-module.ensures.read in
-    let left : is_nil (ahead c.parse.new.parser) ≡ false = search rules in
-    λ tree s. left_over module_syntax module_laws refl _ _ _ read left tree s
+pub returns-in_err-end-clause-refused : goal.returns-in_err-end-clause-refused
+returns-in_err-end-clause-refused c =
+    let read : module_syntax.reads (shown_from c.args.text.now c.args.table.now 0) ≡ Some (module_tree c.in_ok-module.«module», ahead c.parse.new.parser) = ap (λ s. module_syntax.reads (ahead s)) (sym c.new-parser.ensures) ∙ c.in_ok-module.ensures.read in
+    let more : IfErr c.from_residual-in_err-end.result (IsLeft c.parse.new.parser) = search rules in
+    left_all module_syntax module_laws refl _ (module_tree c.in_ok-module.«module») c.parse.new.parser c.from_residual-in_err-end.result read more
 
 pub returns-clause-ok : goal.returns-clause-ok
 returns-clause-ok c =
-    let start : ahead c.new-parser.result ≡ significant_of c.args.text.now c.args.table.now.tokens = ap ahead c.new-parser.ensures in
-    let read : module_syntax.reads (significant_of c.args.text.now c.args.table.now.tokens) ≡ Some (module_tree c.in_ok-module.module, ahead c.parse.new.parser) = ap module_syntax.reads (sym start) ∙ c.in_ok-module.ensures.read in
-    let none : is_nil (ahead c.parse.new.parser) ≡ true = search rules in
-    spelled module_syntax module_laws _ _ _ read none
+    let none : ahead c.parse.new.parser ≡ [] = search rules in
+    ap (λ s. module_syntax.reads (ahead s)) (sym c.new-parser.ensures) ∙ c.in_ok-module.ensures.read ∙ ap (λ ts. Some (module_tree c.in_ok-module.«module», ts)) none
