@@ -8,7 +8,6 @@ use Rattle.wast_parser_base.specs.declared.reason.Shown.TheVariants as shown
 
 abbrev pub cause_of : Reason → Cause
 cause_of (reasons.Said text) = Said (string_bytes text)
-cause_of (reasons.Fixed alloc text) = Said text.now
 cause_of (reasons.Lexical alloc error) = Lexical error
 cause_of reasons.Memory = Memory
 

@@ -45,17 +45,6 @@ impl Error {
         }
     }
 
-    /// An error at a place, with a message that wants no memory.
-    pub fn fixed(alloc: Global, span: Span, text: &'static str) -> Self
-        ensures { result ≡ record { place = span; cause = Said text.now; lines = None } }
-    {
-        Error {
-            place: span,
-            reason: Reason::Fixed(alloc, text),
-            shown: Shown::Offset,
-        }
-    }
-
     /// The error of a lexical fault: of its place and cause, or want of memory.
     pub fn from_fault(alloc: Global, fault: LexFault) -> Self
         ensures { result ≡ problem_of fault }
@@ -131,7 +120,6 @@ impl Error {
         let offset = self.place.offset();
         match &self.reason {
             Reason::Said(message) => lines_at(*message.allocator(), text, offset),
-            Reason::Fixed(alloc, _) => lines_at(*alloc, text, offset),
             Reason::Lexical(alloc, _) => lines_at(*alloc, text, offset),
             Reason::Memory => Ok(Shown::Nothing),
         }
@@ -143,7 +131,6 @@ impl Error {
     {
         match &self.reason {
             Reason::Said(text) => text.as_str(),
-            Reason::Fixed(_, text) => text,
             Reason::Lexical(_, error) => lexical_text(*error),
             Reason::Memory => "out of memory",
         }

@@ -10,7 +10,6 @@ use wast_lexer::LexError;
 #[derive(Debug, Drop)]
 pub enum Reason {
     Said(String),
-    Fixed(Global, &'static str),
     Lexical(Global, LexError),
     Memory,
 }

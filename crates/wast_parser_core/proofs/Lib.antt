@@ -1,0 +1,9 @@
+pub mod Ahead
+pub mod Fronts
+pub mod Words
+pub mod Names
+pub mod Texts
+pub mod Literals
+pub mod Places
+pub mod States
+pub mod Parens

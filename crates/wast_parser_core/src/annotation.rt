@@ -1,0 +1,118 @@
+//! Annotations that are registered by name; the groups of all others are passed.
+ghost use Rattle.std.specs.Prelude.{◌≡◌, ◌≢◌, ◌+◌, ◌-◌, ◌<◌, ◌++◌, ℕ, List, [], ◌∷◌, IfOk, IfErr, OnOk, length, take, drop, map, true};
+ghost use Rattle.wast_lexer.specs.Lexeme.{lexeme_of};
+ghost use Rattle.wast_lexer.specs.TokenText.{IsOf, text_of};
+ghost use Rattle.wast_lexer.specs.declared.token.TokenKind.TheVariants as kinds;
+ghost use Rattle.wast_grammar.specs.Spelling.{any_is, same_text};
+ghost use Rattle.wast_grammar.specs.Tokens.{marked_value};
+ghost use Rattle.wast_grammar.specs.Significant.{begins_unknown};
+ghost use Rattle.wast_parser_core.specs.State.{State, ahead, Keeps};
+ghost use Rattle.wast_parser_core.specs.Reading.{out_of_memory, Gives};
+
+use crate::kind::is_annotation;
+use crate::meaning::Parse;
+use crate::parser::Parser;
+use std::alloc::Global;
+use wast_lexer::Token;
+use wast_parser_base::Error;
+
+impl<'a> Parser<'a> {
+    /// Registers an annotation: its groups are shown from now on. Refused for want of memory alone; then nothing changes.
+    pub fn register_annotation(&mut self, name: &'a str) -> Result<(), Error>
+        ensures ok { OnOk result (self.new ≡ record self.old { names = self.old.names ++ name.now ∷ [] }) }
+        ensures refused { IfErr result (λ e. (self.new ≡ self.old) × (e ≡ out_of_memory)) }
+    {
+        self.names.push(name)?;
+        Ok(())
+    }
+
+    /// Takes back an annotation that is registered.
+    pub fn unregister_annotation(&mut self, name: &str)
+        requires { any_is name.now self.old.names ≡ true }
+        ensures { (front back : List (List ℕ)) × (self.old.names ≡ front ++ name.now ∷ back) × (self.new ≡ record self.old { names = front ++ back }) }
+    {
+        let at = place_of(self.names.as_slice(), name);
+        let _ = self.names.remove(at);
+    }
+
+    /// Takes back the last annotation that was registered.
+    fn unregister_last(&mut self)
+        requires { self.old.names ≢ [] }
+        ensures { self.new ≡ record self.old { names = take (length self.old.names - 1) self.old.names } }
+    {
+        let _ = self.names.pop();
+    }
+
+    /// Reads one with one more annotation registered, which is taken back on both outcomes.
+    pub fn with_annotation<T: Parse<'a>>(&mut self, name: &'a str) -> Result<T, Error>
+        requires { T.registers ≡ [] }
+        ensures read { Gives T.tree result (record self.new { names = self.old.names ++ name.now ∷ [] }) (T.syntax.reads (ahead (record self.old { names = self.old.names ++ name.now ∷ [] }))) }
+        ensures keeps { Keeps self.old self.new }
+    {
+        self.register_annotation(name)?;
+        let result = T::parse(self);
+        self.unregister_last();
+        result
+    }
+
+    /// Whether an annotation stands there whose name isn't registered.
+    pub(crate) fn drops(&self, at: usize) -> Result<bool, Error>
+        ensures ok { IfOk result (λ b. b ≡ begins_unknown self.now.names (map (lexeme_of self.now.source.text) (drop at self.now.source.tokens))) }
+        ensures err { IfErr result (λ e. e ≡ out_of_memory) }
+    {
+        match self.buffer.get(at) {
+            Some(token) if is_annotation(token.kind) => {
+                let known = is_registered(
+                    self.buffer.alloc(),
+                    self.buffer.text(),
+                    token,
+                    self.names.as_slice(),
+                )?;
+                Ok(!known)
+            }
+            _ => Ok(false),
+        }
+    }
+}
+
+/// Whether the name of an annotation is one of these.
+fn is_registered(alloc: Global, text: &str, token: Token, names: &[&str]) -> Result<bool, Error>
+    requires own { IsOf text.now token }
+    requires kind { token.kind ≡ kinds.Annotation }
+    ensures ok { IfOk result (λ b. b ≡ any_is (marked_value (text_of text.now token)) (map (λ n. n.now) names.now)) }
+    ensures err { IfErr result (λ e. e ≡ out_of_memory) }
+{
+    for name in names {
+        if is_named(alloc, text, token, *name)? {
+            return Ok(true);
+        }
+    }
+    Ok(false)
+}
+
+/// Whether the name of an annotation is this one.
+pub(crate) fn is_named(alloc: Global, text: &str, token: Token, name: &str) -> Result<bool, Error>
+    requires own { IsOf text.now token }
+    requires kind { token.kind ≡ kinds.Annotation }
+    ensures ok { IfOk result (λ b. b ≡ same_text (marked_value (text_of text.now token)) name.now) }
+    ensures err { IfErr result (λ e. e ≡ out_of_memory) }
+{
+    let said = token.annotation(alloc, text)?;
+    Ok(said.as_str() == name)
+}
+
+/// Where a name stands first.
+fn place_of(names: &[&str], name: &str) -> usize
+    requires { any_is name.now (map (λ n. n.now) names.now) ≡ true }
+    ensures inside { result < length names.now }
+    ensures same { drop result (map (λ n. n.now) names.now) ≡ name.now ∷ drop (result + 1) (map (λ n. n.now) names.now) }
+{
+    let mut i = 0;
+    'names: while i < names.len() {
+        if name == names[i] {
+            return i;
+        }
+        i += 1;
+    }
+    unreachable!()
+}

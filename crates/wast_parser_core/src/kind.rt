@@ -1,0 +1,57 @@
+//! Kinds of tokens.
+ghost use Rattle.std.specs.Prelude.{◌≡◌, true};
+ghost use Rattle.wast_lexer.specs.declared.token.TokenKind.TheVariants as kinds;
+ghost use Rattle.wast_lexer.specs.Tiling.{is_annotation};
+ghost use Rattle.wast_grammar.specs.Significant.{is_trivia, is_lparen};
+ghost use Rattle.wast_parser_core.specs.Kinds.{is_rparen, is_keyword, is_identifier, is_string};
+
+use wast_lexer::TokenKind;
+
+/// Whether a token is white space or a comment.
+pub fn is_trivia(kind: TokenKind) -> bool
+    ensures { result ≡ is_trivia kind }
+{
+    matches!(
+        kind,
+        TokenKind::Whitespace | TokenKind::LineComment | TokenKind::BlockComment
+    )
+}
+
+pub fn is_lparen(kind: TokenKind) -> bool
+    ensures { result ≡ is_lparen kind }
+{
+    matches!(kind, TokenKind::LParen)
+}
+
+pub fn is_rparen(kind: TokenKind) -> bool
+    ensures { result ≡ is_rparen kind }
+{
+    matches!(kind, TokenKind::RParen)
+}
+
+pub fn is_keyword(kind: TokenKind) -> bool
+    ensures { result ≡ is_keyword kind }
+{
+    matches!(kind, TokenKind::Keyword)
+}
+
+pub fn is_annotation(kind: TokenKind) -> bool
+    ensures same { result ≡ is_annotation kind }
+    ensures is { result ≡ true → kind ≡ kinds.Annotation }
+{
+    matches!(kind, TokenKind::Annotation)
+}
+
+pub fn is_id(kind: TokenKind) -> bool
+    ensures same { result ≡ is_identifier kind }
+    ensures is { result ≡ true → kind ≡ kinds.Id }
+{
+    matches!(kind, TokenKind::Id)
+}
+
+pub fn is_string(kind: TokenKind) -> bool
+    ensures same { result ≡ is_string kind }
+    ensures is { result ≡ true → kind ≡ kinds.String }
+{
+    matches!(kind, TokenKind::String)
+}

@@ -1,0 +1,24 @@
+//! The core of a parser of annotated S-expressions, over the tokens of a text (WebAssembly Core Specification 3.0, 6.2).
+#![tactic(auto)]
+
+mod annotation;
+mod buffer;
+mod cursor;
+mod group;
+mod keyword;
+mod kind;
+mod list;
+mod literal;
+mod meaning;
+mod option;
+mod paren;
+mod parser;
+mod token;
+
+pub use buffer::ParseBuffer;
+pub use cursor::Cursor;
+pub use keyword::{Keyword, KeywordName};
+pub use meaning::{Item, Meaning, Parse, Peek};
+pub use paren::{LParen, RParen};
+pub use parser::{Parser, parse};
+pub use wast_parser_base::Error;

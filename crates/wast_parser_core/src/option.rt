@@ -1,0 +1,50 @@
+//! One or none, and one in a box.
+ghost use Rattle.std.specs.Prelude.{Option, option_map};
+ghost use Rattle.wast_grammar.specs.Grammar.{maybe};
+
+use crate::meaning::{Meaning, Parse, Peek};
+use crate::parser::Parser;
+use wast_parser_base::Error;
+
+impl<T: Peek> Meaning for Option<T> {
+    ghost Tree = { Option T.Tree };
+
+    ghost tree = { option_map T.tree };
+
+    ghost syntax = { maybe T.syntax.starts T.syntax };
+
+    fn lawful() {
+        T::lawful();
+    }
+}
+
+impl<'a, T: Parse<'a> + Peek> Parse<'a> for Option<T> {
+    fn parse(parser: &mut Parser<'a>) -> Result<Self, Error> {
+        if parser.peek::<T>()? {
+            Ok(Some(T::parse(parser)?))
+        } else {
+            Ok(None)
+        }
+    }
+}
+
+impl<T: Meaning> Meaning for Box<T> {
+    ghost Tree = { T.Tree };
+
+    ghost tree = { λ b. T.tree b.value };
+
+    ghost syntax = { T.syntax };
+
+    ghost registers = { T.registers };
+
+    fn lawful() {
+        T::lawful();
+    }
+}
+
+impl<'a, T: Parse<'a>> Parse<'a> for Box<T> {
+    fn parse(parser: &mut Parser<'a>) -> Result<Self, Error> {
+        let value = T::parse(parser)?;
+        Ok(Box::new(parser.alloc(), value)?)
+    }
+}

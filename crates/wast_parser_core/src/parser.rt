@@ -1,0 +1,248 @@
+//! A parser: the tokens of a text, and how many of them are taken.
+ghost use Rattle.std.specs.Prelude.{◌≡◌, ◌≢◌, ◌≤◌, ◌⊎◌, ℕ, [], ◌∷◌, Some, None, Ok, IfOk, IfErr, OnErr, length, true};
+ghost use Rattle.wast_parser_base.specs.Problem.{Said};
+ghost use Rattle.wast_parser_core.specs.State.{State, start, ahead, knowing, past, Keeps, place_ahead, place_behind, stop};
+ghost use Rattle.wast_parser_core.specs.declared.cursor.Cursor.{Cursor};
+ghost use Rattle.wast_parser_core.specs.Reading.{out_of_memory, ReadsAll, ReadsNotAll, Gives, Asks, ShowsNext, SaysAt, ends_here};
+ghost use Rattle.wast_parser_core.specs.Cursors.{stands, Follows};
+ghost use Rattle.wast_grammar.specs.Look.{ask};
+
+use crate::buffer::ParseBuffer;
+use crate::cursor::Cursor;
+use crate::kind::{is_lparen, is_rparen, is_trivia};
+use crate::meaning::{Parse, Peek};
+use std::alloc::Global;
+use std::marker::Model;
+use wast_lexer::{Span, Token};
+use wast_parser_base::Error;
+
+/// The tokens of a text, and how many of them are taken. Contracts see these, the registered names of annotations, and
+/// how many parentheses are open.
+#[derive(Drop)]
+pub struct Parser<'a> {
+    pub(crate) buffer: &'a ParseBuffer<'a>,
+    pub(crate) names: Vec<&'a str>,
+    pub(crate) depth: usize,
+    pub(crate) at: usize,
+}
+
+impl<'a> Model for Parser<'a> {
+    ghost use Rattle.std.specs.Prelude.{◌≤◌, map};
+    ghost use Rattle.wast_parser_core.specs.State.{State};
+
+    ghost Value = { State };
+
+    ghost view = { λ p. record { source = p.buffer.now; names = map (λ n. n.now) p.names.items; depth = p.depth; at = p.at } };
+
+    ghost invariant = { λ p. p.depth ≤ p.at };
+}
+
+impl<'a> Parser<'a> {
+    /// Before the first token, with no annotation registered.
+    pub(crate) fn new(buffer: &'a ParseBuffer<'a>) -> Parser<'a>
+        ensures { result ≡ start buffer.now }
+    {
+        Parser {
+            buffer,
+            names: Vec::new(buffer.alloc()),
+            depth: 0,
+            at: 0,
+        }
+    }
+
+    /// How many parentheses are open.
+    pub fn parens_depth(&self) -> usize
+        ensures { result ≡ self.now.depth }
+    {
+        self.depth
+    }
+
+    /// The text.
+    pub fn text(&self) -> &'a str
+        ensures { result.now ≡ self.now.source.text }
+    {
+        self.buffer.text()
+    }
+
+    /// Where memory is asked for.
+    pub fn alloc(&self) -> Global {
+        self.buffer.alloc()
+    }
+
+    /// Here.
+    pub(crate) fn cursor(&self) -> Cursor<'_, 'a>
+        ensures { stands result ≡ self.now }
+    {
+        Cursor {
+            parser: self,
+            at: self.at,
+        }
+    }
+
+    /// Whether one begins here.
+    pub fn peek<T: Peek>(&self) -> Result<bool, Error>
+        ensures { Asks result (ask T.syntax.starts (ahead self.now)) }
+    {
+        T::peek(self.cursor())
+    }
+
+    /// Whether one begins behind the next token.
+    pub fn peek2<T: Peek>(&self) -> Result<bool, Error>
+        ensures { Asks result (ask T.syntax.starts (past (ahead self.now))) }
+    {
+        T::peek2(self.cursor())
+    }
+
+    /// Whether one begins behind the next two tokens.
+    pub fn peek3<T: Peek>(&self) -> Result<bool, Error>
+        ensures { Asks result (ask T.syntax.starts (past (past (ahead self.now)))) }
+    {
+        let cursor = self.cursor();
+        match cursor.token()? {
+            Some((_, rest)) => T::peek2(rest),
+            None => T::peek(cursor),
+        }
+    }
+
+    /// Reads one.
+    pub fn parse<T: Parse<'a>>(&mut self) -> Result<T, Error>
+        ensures read { Gives T.tree result (knowing T.registers self.new) (T.syntax.reads (ahead (knowing T.registers self.old))) }
+        ensures keeps { Keeps self.old self.new }
+    {
+        T::parse(self)
+    }
+
+    /// Takes what a closure takes by a cursor. Where the closure refuses, nothing is taken.
+    pub fn step<T: Drop, F: for<'b> FnOnce(Cursor<'b, 'a>) -> Result<(T, Cursor<'b, 'a>), Error>>(
+        &mut self,
+        f: F,
+    ) -> Result<T, Error>
+        requires callable { F.IsAlwaysCallable f }
+        requires follows { (c d : Cursor) (value : T) → F.post f c (Ok (value, d)) → Follows c d }
+        ensures ok { IfOk result (λ value. (c d : Cursor) × (stands c ≡ self.old) × (stands d ≡ self.new) × F.post f c (Ok (value, d))) }
+        ensures keeps { Keeps self.old self.new }
+        ensures refused { OnErr result (self.new ≡ self.old) }
+    {
+        let (value, rest) = f(self.cursor())?;
+        let at = rest.at;
+        self.at = at;
+        Ok(value)
+    }
+
+    /// Whether no token is left in this group.
+    pub fn is_empty(&self) -> bool
+        ensures { result ≡ true → ends_here (ahead self.now) ≡ true }
+    {
+        match self.next() {
+            Ok(Some((token, _))) => is_rparen(token.kind),
+            Ok(None) => true,
+            Err(_) => false,
+        }
+    }
+
+    /// Where the next token stands, or where the tokens end.
+    pub fn cur_span(&self) -> Span
+        ensures { (result ≡ place_ahead self.now) ⊎ (result ≡ 0) }
+    {
+        match self.next() {
+            Ok(Some((token, _))) => Span::from_offset(token.offset),
+            Ok(None) => Span::from_offset(self.text().len()),
+            Err(e) => e.span(),
+        }
+    }
+
+    /// Where the last token stands that was taken or passed, or the text's start.
+    pub fn prev_span(&self) -> Span
+        ensures { result ≡ place_behind self.now }
+    {
+        if self.at == 0 {
+            return Span::from_offset(0);
+        }
+        match self.buffer.get(self.at - 1) {
+            Some(token) => Span::from_offset(token.offset),
+            None => Span::from_offset(0),
+        }
+    }
+
+    /// An error with this message at a place, or want of memory for it.
+    pub fn error_at(&self, span: Span, message: &str) -> Error
+        ensures { SaysAt message.now span result }
+    {
+        error_at(self.alloc(), span, message)
+    }
+
+    /// The same where the next token stands.
+    pub fn error(&self, message: &str) -> Error
+        ensures { (result ≡ out_of_memory) ⊎ (result.cause ≡ Said message.now) }
+    {
+        self.error_at(self.cur_span(), message)
+    }
+
+    /// The next significant token, and how many tokens are taken with it.
+    pub(crate) fn next(&self) -> Result<Option<(Token, usize)>, Error>
+        ensures { ShowsNext result self.now }
+    {
+        self.next_from(self.at)
+    }
+
+    /// The same where so many tokens are taken.
+    pub(crate) fn next_from(&self, from: usize) -> Result<Option<(Token, usize)>, Error>
+        ensures { ShowsNext result (record self.now { at = from }) }
+    {
+        let mut at = from;
+        'tokens: while let Some(token) = self.buffer.get(at) {
+            if is_trivia(token.kind) {
+                at += 1;
+            } else if is_lparen(token.kind) && self.drops(at + 1)? {
+                match self.buffer.group_end(at) {
+                    Some(end) => at = end + 1,
+                    None => return Err(stopped(self.buffer)),
+                }
+            } else {
+                return Ok(Some((token, at + 1)));
+            }
+        }
+        if self.buffer.fault().is_some() {
+            return Err(stopped(self.buffer));
+        }
+        Ok(None)
+    }
+}
+
+/// An error with this message at a place, or want of memory for it.
+fn error_at(alloc: Global, span: Span, message: &str) -> Error
+    ensures { SaysAt message.now span result }
+{
+    match String::from_str(alloc, message) {
+        Ok(text) => Error::new(span, text),
+        Err(_) => Error::memory(),
+    }
+}
+
+/// Why no token can be read where the tokens of a text end, or where a group that isn't closed is dropped.
+fn stopped(buffer: &ParseBuffer<'_>) -> Error
+    ensures { (result ≡ out_of_memory) ⊎ (result ≡ stop buffer.now) }
+{
+    match buffer.fault() {
+        Some(fault) => Error::from_fault(buffer.alloc(), fault),
+        None => error_at(
+            buffer.alloc(),
+            Span::from_offset(buffer.text().len()),
+            "expected `)`",
+        ),
+    }
+}
+
+/// Reads all of a text. Refused where it is not read, where a significant token is left, or for want of memory.
+pub fn parse<'a, T: Parse<'a>>(buffer: &'a ParseBuffer<'a>) -> Result<T, Error>
+    ensures ok { IfOk result (λ v. ReadsAll T.syntax.reads T.registers buffer.now (T.tree v)) }
+    ensures refused { IfErr result (λ e. (e ≡ out_of_memory) ⊎ ReadsNotAll T.syntax.reads T.registers buffer.now) }
+{
+    let mut parser = Parser::new(buffer);
+    let value = T::parse(&mut parser)?;
+    match parser.next() {
+        Ok(None) => Ok(value),
+        Ok(Some(_)) => Err(parser.error("expected the end of the text")),
+        Err(e) => Err(e),
+    }
+}

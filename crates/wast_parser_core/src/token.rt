@@ -1,0 +1,151 @@
+//! Single tokens.
+ghost use Rattle.std.specs.Prelude.{◌≡◌, [], Some, MatchResult, true};
+ghost use Rattle.std.specs.Cow.{cow_str_bytes};
+ghost use Rattle.wast_lexer.specs.declared.token.TokenKind.TheVariants as kinds;
+ghost use Rattle.wast_lexer.specs.TokenText.{IsOf, text_of};
+ghost use Rattle.wast_grammar.specs.Tokens.{literal, string_value};
+ghost use Rattle.wast_grammar.specs.Grammar.{word, mark, id, string};
+ghost use Rattle.wast_parser_core.specs.State.{ahead, Keeps};
+ghost use Rattle.wast_parser_core.specs.Reading.{out_of_memory, Gives};
+ghost use Rattle.wast_parser_core.specs.Literals.{literal_of, literal_from, IsTextOf};
+ghost use Rattle.wast_parser_core.specs.Productions.{ranged, name};
+
+use crate::annotation::is_named;
+use crate::kind::{is_annotation, is_id, is_keyword, is_string};
+use crate::literal::number_of;
+use crate::parser::Parser;
+use std::alloc::Global;
+use std::borrow::{CowSlice, CowStr};
+use wasm_encoder_base::Bytes;
+use wast_lexer::{Integer, IntegerKind, Span, Token, TokenKind};
+use wast_parser_base::Error;
+
+impl<'a> Parser<'a> {
+    /// Takes this word; answers where it stands.
+    pub fn word(&mut self, text: &str) -> Result<Span, Error>
+        ensures read { Gives (λ s. s) result self.new ((word text.now).reads (ahead self.old)) }
+        ensures keeps { Keeps self.old self.new }
+    {
+        match self.next()? {
+            Some((token, after)) if is_keyword(token.kind) && text == token.src(self.text()) => {
+                self.at = after;
+                Ok(Span::from_offset(token.offset))
+            }
+            _ => Err(self.error("expected another word")),
+        }
+    }
+
+    /// Takes an identifier that has a name; answers the name, and where it stands. One without a name is refused by a
+    /// lexical error.
+    pub fn id(&mut self) -> Result<(CowStr<'a, Global>, Span), Error>
+        ensures read { Gives (λ x. (cow_str_bytes x.0, x.1)) result self.new (id.reads (ahead self.old)) }
+        ensures keeps { Keeps self.old self.new }
+    {
+        match self.next()? {
+            Some((token, after)) if is_id(token.kind) => match token.id(self.alloc(), self.text()) {
+                Ok(name) => {
+                    self.at = after;
+                    Ok((name, Span::from_offset(token.offset)))
+                }
+                Err(fault) => Err(Error::from_fault(self.alloc(), fault)),
+            },
+            _ => Err(self.error("expected an identifier")),
+        }
+    }
+
+    /// Takes the name of this annotation; answers where it stands.
+    pub fn mark(&mut self, text: &str) -> Result<Span, Error>
+        ensures read { Gives (λ s. s) result self.new ((mark text.now).reads (ahead self.old)) }
+        ensures keeps { Keeps self.old self.new }
+    {
+        match self.next()? {
+            Some((token, after)) if is_annotation(token.kind) => {
+                if is_named(self.alloc(), self.text(), token, text)? {
+                    self.at = after;
+                    return Ok(Span::from_offset(token.offset));
+                }
+                Err(self.error("expected another annotation"))
+            }
+            _ => Err(self.error("expected an annotation")),
+        }
+    }
+
+    /// Takes an integer of a range: without a minus sign it is at most `most`; with one, where there may be one, at most
+    /// `least`. Answers whether it has a minus sign, its magnitude, and where it stands.
+    pub fn literal(&mut self, most: u64, least: Option<u64>) -> Result<((bool, u64), Span), Error>
+        ensures read { Gives (λ x. (literal_from x.0, x.1)) result self.new ((ranged most least).reads (ahead self.old)) }
+        ensures keeps { Keeps self.old self.new }
+    {
+        match self.next()? {
+            Some((token, after)) => {
+                if let TokenKind::Integer(kind) = token.kind
+                    && let Some(number) = number_of(self.integer(token, kind), most, least)
+                {
+                    self.at = after;
+                    return Ok((number, Span::from_offset(token.offset)));
+                }
+                Err(self.error("expected an integer of another range"))
+            }
+            None => Err(self.error("expected an integer")),
+        }
+    }
+
+    /// Takes a string; answers the bytes that it stands for.
+    pub fn string(&mut self) -> Result<Bytes<'a>, Error>
+        ensures read { Gives (λ b. b) result self.new (string.reads (ahead self.old)) }
+        ensures keeps { Keeps self.old self.new }
+    {
+        match self.next()? {
+            Some((token, after)) if is_string(token.kind) => {
+                let bytes = token.string(self.alloc(), self.text())?;
+                self.at = after;
+                Ok(bytes)
+            }
+            _ => Err(self.error("expected a string")),
+        }
+    }
+
+    /// Takes a string that is UTF-8; answers the text that it stands for.
+    pub fn name(&mut self) -> Result<CowStr<'a, Global>, Error>
+        ensures read { Gives cow_str_bytes result self.new (name.reads (ahead self.old)) }
+        ensures keeps { Keeps self.old self.new }
+    {
+        match self.next()? {
+            Some((token, after)) if is_string(token.kind) => match self.text_of(token)? {
+                Some(name) => {
+                    self.at = after;
+                    Ok(name)
+                }
+                None => Err(self.error("expected a string of UTF-8")),
+            },
+            _ => Err(self.error("expected a string")),
+        }
+    }
+
+    /// The parts of an integer.
+    fn integer(&self, token: Token, kind: IntegerKind) -> Integer<'a>
+        requires own { IsOf self.now.source.text token }
+        requires kind { token.kind ≡ kinds.Integer kind }
+        ensures { literal_of result ≡ literal (text_of self.now.source.text token) }
+    {
+        token.integer(self.text(), kind)
+    }
+
+    /// The text that a string stands for, where it is one; borrowed where nothing is escaped.
+    fn text_of(&self, token: Token) -> Result<Option<CowStr<'a, Global>>, Error>
+        requires own { IsOf self.now.source.text token }
+        requires kind { token.kind ≡ kinds.String }
+        ensures { MatchResult result (IsTextOf (string_value (text_of self.now.source.text token))) (λ e. e ≡ out_of_memory) }
+    {
+        match token.string(self.alloc(), self.text())?.into_cow() {
+            CowSlice::Borrowed(bytes) => match str::from_utf8(bytes) {
+                Ok(text) => Ok(Some(CowStr::Borrowed(text))),
+                Err(_) => Ok(None),
+            },
+            CowSlice::Owned(bytes) => match String::from_utf8(bytes) {
+                Ok(text) => Ok(Some(CowStr::Owned(text))),
+                Err(_) => Ok(None),
+            },
+        }
+    }
+}
