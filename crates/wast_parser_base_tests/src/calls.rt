@@ -9,7 +9,7 @@ use wast_parser_base::{Error, Gensym, Id, Index};
 fn displays_an_error(rt: HostRuntime) -> Result<(), Fail> {
     let alloc = rt.alloc();
     let span = Span::from_offset(1);
-    let mut error = Error::fixed(alloc, span, "expected `(`");
+    let mut error = Error::new(span, String::from_str(alloc, "expected `(`")?);
     let text = format!(in alloc; "{error}")?;
     assert_eq!(rt; text.as_str(), "expected `(` at byte offset 1");
     error.set_text("\t(")?;

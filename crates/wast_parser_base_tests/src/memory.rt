@@ -16,7 +16,7 @@ fn ample_message(rt: HostRuntime) -> Result<(), Fail> {
 
 #[test]
 fn ample_set_text(rt: HostRuntime) -> Result<(), Fail> {
-    let mut error = Error::fixed(rt.alloc(), Span::from_offset(0), "no");
+    let mut error = Error::new(Span::from_offset(0), String::from_str(rt.alloc(), "no")?);
     error.set_text("a")?;
     Ok(())
 }
@@ -67,7 +67,7 @@ fn too_large_leaves_the_sink(rt: HostRuntime) -> Result<(), Fail> {
 #[test]
 fn refused_growths_of_an_error(rt: HostRuntime) -> Result<(), Fail> {
     let alloc = rt.alloc();
-    let mut error = Error::fixed(alloc, Span::from_offset(1), "no");
+    let mut error = Error::new(Span::from_offset(1), String::from_str(alloc, "no")?);
     if error.set_text("ab").is_err() {
         assert!(rt; !error.is_memory() && error.span().offset() == 1);
         return Err("out of memory".into());
