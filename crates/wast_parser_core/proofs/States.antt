@@ -1,10 +1,10 @@
 -- States before and after.
-use Rattle.std.proofs.Common.{◌≡◌, ◌≤◌, Option, Some, None, subst, ◌+◌, ◌⊎◌, inl, inr, [], ◌∷◌, List, ℕ, ◌∙◌, ap, refl, sym, arith}
+use Rattle.std.proofs.Common.{Bool, Result, ◌≡◌, ◌≤◌, Option, Some, None, subst, ◌+◌, inl, inr, [], ◌∷◌, List, ℕ, ◌∙◌, ap, refl, sym, arith}
 use Rattle.wast_grammar.specs.Tokens.{Broken}
 use Rattle.wast_parser_base.specs.Problem.{Problem}
-use Rattle.wast_parser_core.specs.State.{State, ahead, stop, Keeps, knowing}
+use Rattle.wast_parser_core.specs.State.{Source, State, ahead, Keeps, knowing}
 use Rattle.wast_grammar.specs.Grammar.{Reader}
-use Rattle.wast_parser_core.specs.Reading.{out_of_memory, Refuses, Stops}
+use Rattle.wast_parser_core.specs.Reading.{Refuses, Asks}
 
 pub keeps_trans : (a b c : State) → Keeps a b → Keeps b c → Keeps a c
 keeps_trans a b c p q = record { source = q.source ∙ p.source; names = q.names ∙ p.names; depth = q.depth ∙ p.depth; onward = omega (arith, p.onward, q.onward) }
@@ -27,10 +27,9 @@ refused_plain more reads p old e h = subst (λ m. Refuses p (reads (ahead (knowi
 pub refuses_all : {X Y : Type 0} (p : Problem) (o : Option X) (q : Option Y) → (o ≡ None → q ≡ None) → Refuses p o → Refuses p q
 refuses_all p o q f r = elim r [ inl m ↦ inl m | inr n ↦ inr (f n) ]
 
--- why no token can be read there
-pub stops_here : (s : State) (i : ℕ) (p : Problem) → ahead (record s { at = i }) ≡ Broken ∷ [] → (p ≡ out_of_memory) ⊎ (p ≡ stop s.source) → Stops p (record s { at = i })
-stops_here s i p e w = elim w [ inl m ↦ inl m | inr q ↦ inr (e, q) ]
-
 -- no end is there
 pub stuck_end : (s : State) → ahead s ≡ Broken ∷ [] → ahead s ≡ [] → ⊥
 stuck_end s b e = let q : Broken ∷ [] ≡ [] = sym b ∙ e in cc
+
+pub asks_so : (r : Result Bool Problem) (s t : Source) (o q : Option Bool) → s ≡ t → o ≡ q → Asks r s o → Asks r t q
+asks_so r s t o q e f a = subst (Asks r t) f (subst (λ z. Asks r z o) e a)

@@ -31,18 +31,22 @@ ReadsNotAll {A} reads more source =
     (reads (ahead (knowing more (start source))) ≡ None)
     ⊎ ((a : A) × (end : State) × Keeps (start source) end × (reads (ahead (knowing more (start source))) ≡ Some (a, ahead (knowing more end))) × (ahead end ≢ []))
 
--- A peek's answer is what the look asks; a fault that it meets is refused.
-abbrev pub Asks : Result Bool Problem → Option Bool → Type 0
-Asks (Ok b) asked = asked ≡ Some b
-Asks (Err p) asked = Refuses p asked
+-- the problem tells why no token of these can be read, or there was no memory for its message
+abbrev pub IsStop : Problem → Source → Type 0
+IsStop p source = (p ≡ out_of_memory) ⊎ (p ≡ stop source)
+
+-- A peek's answer is what the look asks; where it meets a fault, that is told.
+abbrev pub Asks : Result Bool Problem → Source → Option Bool → Type 0
+Asks (Ok b) source asked = asked ≡ Some b
+Asks (Err p) source asked = (asked ≡ None) × IsStop p source
 
 -- the problem has this message and place, or there was no memory for it
 abbrev pub SaysAt : List ℕ → ℕ → Problem → Type 0
 SaysAt text place p = (p ≡ out_of_memory) ⊎ (p ≡ record { place = place; cause = Said text; lines = None })
 
--- want of memory; or no token can be read, and this tells why
+-- no token can be read, and this tells why
 abbrev pub Stops : Problem → State → Type 0
-Stops p s = (p ≡ out_of_memory) ⊎ ((ahead s ≡ Broken ∷ []) × (p ≡ stop s.source))
+Stops p s = (ahead s ≡ Broken ∷ []) × IsStop p s.source
 
 -- the next significant token, none at the end, or a fault where it can't be told
 abbrev pub ShowsNext : Result (Option (Token × ℕ)) Problem → State → Type 0

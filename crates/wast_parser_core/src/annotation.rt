@@ -12,7 +12,6 @@ ghost use Rattle.wast_parser_core.specs.Reading.{out_of_memory, Gives};
 use crate::kind::is_annotation;
 use crate::meaning::Parse;
 use crate::parser::Parser;
-use std::alloc::Global;
 use wast_lexer::Token;
 use wast_parser_base::Error;
 
@@ -56,49 +55,41 @@ impl<'a> Parser<'a> {
     }
 
     /// Whether an annotation stands there whose name isn't registered.
-    pub(crate) fn drops(&self, at: usize) -> Result<bool, Error>
-        ensures ok { IfOk result (λ b. b ≡ begins_unknown self.now.names (map (lexeme_of self.now.source.text) (drop at self.now.source.tokens))) }
-        ensures err { IfErr result (λ e. e ≡ out_of_memory) }
+    pub(crate) fn drops(&self, at: usize) -> bool
+        ensures { result ≡ begins_unknown self.now.names (map (lexeme_of self.now.source.text) (drop at self.now.source.tokens)) }
     {
         match self.buffer.get(at) {
-            Some(token) if is_annotation(token.kind) => {
-                let known = is_registered(
-                    self.buffer.alloc(),
-                    self.buffer.text(),
-                    token,
-                    self.names.as_slice(),
-                )?;
-                Ok(!known)
-            }
-            _ => Ok(false),
+            Some(token) if is_annotation(token.kind) => !is_registered(
+                self.buffer.text(),
+                token,
+                self.names.as_slice(),
+            ),
+            _ => false,
         }
     }
 }
 
 /// Whether the name of an annotation is one of these.
-fn is_registered(alloc: Global, text: &str, token: Token, names: &[&str]) -> Result<bool, Error>
+fn is_registered(text: &str, token: Token, names: &[&str]) -> bool
     requires own { IsOf text.now token }
     requires kind { token.kind ≡ kinds.Annotation }
-    ensures ok { IfOk result (λ b. b ≡ any_is (marked_value (text_of text.now token)) (map (λ n. n.now) names.now)) }
-    ensures err { IfErr result (λ e. e ≡ out_of_memory) }
+    ensures { result ≡ any_is (marked_value (text_of text.now token)) (map (λ n. n.now) names.now) }
 {
     for name in names {
-        if is_named(alloc, text, token, *name)? {
-            return Ok(true);
+        if is_named(text, token, *name) {
+            return true;
         }
     }
-    Ok(false)
+    false
 }
 
 /// Whether the name of an annotation is this one.
-pub(crate) fn is_named(alloc: Global, text: &str, token: Token, name: &str) -> Result<bool, Error>
+pub(crate) fn is_named(text: &str, token: Token, name: &str) -> bool
     requires own { IsOf text.now token }
     requires kind { token.kind ≡ kinds.Annotation }
-    ensures ok { IfOk result (λ b. b ≡ same_text (marked_value (text_of text.now token)) name.now) }
-    ensures err { IfErr result (λ e. e ≡ out_of_memory) }
+    ensures { result ≡ same_text (marked_value (text_of text.now token)) name.now }
 {
-    let said = token.annotation(alloc, text)?;
-    Ok(said.as_str() == name)
+    token.annotation_is(text, name)
 }
 
 /// Where a name stands first.

@@ -36,7 +36,7 @@ impl<'b, 'a> Cursor<'b, 'a> {
 
     /// Whether a parenthesis opens here.
     pub fn peek_lparen(self) -> Result<bool, Error>
-        ensures { Asks result (ask (Opening ∷ []) (ahead (stands self.entry))) }
+        ensures { Asks result (stands self.entry).source (ask (Opening ∷ []) (ahead (stands self.entry))) }
     {
         match self.token()? {
             Some((token, _)) => Ok(is_lparen(token.kind)),
@@ -46,7 +46,7 @@ impl<'b, 'a> Cursor<'b, 'a> {
 
     /// Whether a parenthesis closes here.
     pub fn peek_rparen(self) -> Result<bool, Error>
-        ensures { Asks result (ask (On false AClose Any ∷ []) (ahead (stands self.entry))) }
+        ensures { Asks result (stands self.entry).source (ask (On false AClose Any ∷ []) (ahead (stands self.entry))) }
     {
         match self.token()? {
             Some((token, _)) => Ok(is_rparen(token.kind)),
@@ -56,7 +56,7 @@ impl<'b, 'a> Cursor<'b, 'a> {
 
     /// Whether this word stands here.
     pub fn peek_word(self, text: &str) -> Result<bool, Error>
-        ensures { Asks result (ask (this_word text.now ∷ []) (ahead (stands self.entry))) }
+        ensures { Asks result (stands self.entry).source (ask (this_word text.now ∷ []) (ahead (stands self.entry))) }
     {
         match self.token()? {
             Some((token, _)) if is_keyword(token.kind) => Ok(text == token.src(self.parser.text())),
@@ -66,7 +66,7 @@ impl<'b, 'a> Cursor<'b, 'a> {
 
     /// Whether a parenthesis opens here and this word stands behind it.
     pub fn peek_group(self, text: &str) -> Result<bool, Error>
-        ensures { Asks result (ask (this_group text.now ∷ []) (ahead (stands self.entry))) }
+        ensures { Asks result (stands self.entry).source (ask (this_group text.now ∷ []) (ahead (stands self.entry))) }
     {
         match self.token()? {
             Some((token, rest)) if is_lparen(token.kind) => rest.peek_word(text),

@@ -43,11 +43,11 @@ pub trait Peek: Meaning {
     /// Whether one begins here, by kind and text of the first token, and of the second where that stands behind a
     /// parenthesis; refused where no token can be read there.
     fn peek(cursor: Cursor<'_, '_>) -> Result<bool, Error>
-        ensures { Asks result (ask Self.syntax.starts (ahead (stands cursor.entry))) };
+        ensures { Asks result (stands cursor.entry).source (ask Self.syntax.starts (ahead (stands cursor.entry))) };
 
     /// The same, behind one token.
     fn peek2(cursor: Cursor<'_, '_>) -> Result<bool, Error>
-        ensures { Asks result (ask Self.syntax.starts (past (ahead (stands cursor.entry)))) }
+        ensures { Asks result (stands cursor.entry).source (ask Self.syntax.starts (past (ahead (stands cursor.entry)))) }
     {
         match cursor.token()? {
             Some((_, rest)) => Self::peek(rest),

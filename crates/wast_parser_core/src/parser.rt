@@ -3,7 +3,7 @@ ghost use Rattle.std.specs.Prelude.{◌≡◌, ◌≢◌, ◌≤◌, ◌⊎◌, 
 ghost use Rattle.wast_parser_base.specs.Problem.{Said};
 ghost use Rattle.wast_parser_core.specs.State.{State, start, ahead, knowing, past, Keeps, place_ahead, place_behind, stop};
 ghost use Rattle.wast_parser_core.specs.declared.cursor.Cursor.{Cursor};
-ghost use Rattle.wast_parser_core.specs.Reading.{out_of_memory, ReadsAll, ReadsNotAll, Gives, Asks, ShowsNext, SaysAt, ends_here};
+ghost use Rattle.wast_parser_core.specs.Reading.{out_of_memory, ReadsAll, ReadsNotAll, Gives, Asks, ShowsNext, IsStop, SaysAt, ends_here};
 ghost use Rattle.wast_parser_core.specs.Cursors.{stands, Follows};
 ghost use Rattle.wast_grammar.specs.Look.{ask};
 
@@ -81,21 +81,21 @@ impl<'a> Parser<'a> {
 
     /// Whether one begins here.
     pub fn peek<T: Peek>(&self) -> Result<bool, Error>
-        ensures { Asks result (ask T.syntax.starts (ahead self.now)) }
+        ensures { Asks result self.now.source (ask T.syntax.starts (ahead self.now)) }
     {
         T::peek(self.cursor())
     }
 
     /// Whether one begins behind the next token.
     pub fn peek2<T: Peek>(&self) -> Result<bool, Error>
-        ensures { Asks result (ask T.syntax.starts (past (ahead self.now))) }
+        ensures { Asks result self.now.source (ask T.syntax.starts (past (ahead self.now))) }
     {
         T::peek2(self.cursor())
     }
 
     /// Whether one begins behind the next two tokens.
     pub fn peek3<T: Peek>(&self) -> Result<bool, Error>
-        ensures { Asks result (ask T.syntax.starts (past (past (ahead self.now)))) }
+        ensures { Asks result self.now.source (ask T.syntax.starts (past (past (ahead self.now)))) }
     {
         let cursor = self.cursor();
         match cursor.token()? {
@@ -131,7 +131,7 @@ impl<'a> Parser<'a> {
 
     /// Whether no token is left in this group.
     pub fn is_empty(&self) -> bool
-        ensures { result ≡ true → ends_here (ahead self.now) ≡ true }
+        ensures { result ≡ ends_here (ahead self.now) }
     {
         match self.next() {
             Ok(Some((token, _))) => is_rparen(token.kind),
@@ -142,13 +142,15 @@ impl<'a> Parser<'a> {
 
     /// Where the next token stands, or where the tokens end.
     pub fn cur_span(&self) -> Span
-        ensures { (result ≡ place_ahead self.now) ⊎ (result ≡ 0) }
+        ensures { result ≡ place_ahead self.now }
     {
-        match self.next() {
-            Ok(Some((token, _))) => Span::from_offset(token.offset),
-            Ok(None) => Span::from_offset(self.text().len()),
-            Err(e) => e.span(),
+        if let Ok(next) = self.next() {
+            return match next {
+                Some((token, _)) => Span::from_offset(token.offset),
+                None => Span::from_offset(self.text().len()),
+            };
         }
+        stop_place(self.buffer)
     }
 
     /// Where the last token stands that was taken or passed, or the text's start.
@@ -173,7 +175,7 @@ impl<'a> Parser<'a> {
 
     /// The same where the next token stands.
     pub fn error(&self, message: &str) -> Error
-        ensures { (result ≡ out_of_memory) ⊎ (result.cause ≡ Said message.now) }
+        ensures { SaysAt message.now (place_ahead self.now) result }
     {
         self.error_at(self.cur_span(), message)
     }
@@ -193,7 +195,7 @@ impl<'a> Parser<'a> {
         'tokens: while let Some(token) = self.buffer.get(at) {
             if is_trivia(token.kind) {
                 at += 1;
-            } else if is_lparen(token.kind) && self.drops(at + 1)? {
+            } else if is_lparen(token.kind) && self.drops(at + 1) {
                 match self.buffer.group_end(at) {
                     Some(end) => at = end + 1,
                     None => return Err(stopped(self.buffer)),
@@ -219,17 +221,24 @@ fn error_at(alloc: Global, span: Span, message: &str) -> Error
     }
 }
 
-/// Why no token can be read where the tokens of a text end, or where a group that isn't closed is dropped.
+/// Why no token can be read where the tokens of a text end, or where a group that isn't closed is dropped; or want of memory
+/// for the message.
 fn stopped(buffer: &ParseBuffer<'_>) -> Error
-    ensures { (result ≡ out_of_memory) ⊎ (result ≡ stop buffer.now) }
+    ensures { IsStop result buffer.now }
 {
     match buffer.fault() {
         Some(fault) => Error::from_fault(buffer.alloc(), fault),
-        None => error_at(
-            buffer.alloc(),
-            Span::from_offset(buffer.text().len()),
-            "expected `)`",
-        ),
+        None => error_at(buffer.alloc(), stop_place(buffer), "expected `)`"),
+    }
+}
+
+/// Where it is that no token can be read.
+fn stop_place(buffer: &ParseBuffer<'_>) -> Span
+    ensures { result ≡ (stop buffer.now).place }
+{
+    match buffer.fault() {
+        Some(fault) => Error::from_fault(buffer.alloc(), fault).span(),
+        None => Span::from_offset(buffer.text().len()),
     }
 }
 

@@ -60,7 +60,7 @@ impl<'a> Parser<'a> {
     {
         match self.next()? {
             Some((token, after)) if is_annotation(token.kind) => {
-                if is_named(self.alloc(), self.text(), token, text)? {
+                if is_named(self.text(), token, text) {
                     self.at = after;
                     return Ok(Span::from_offset(token.offset));
                 }

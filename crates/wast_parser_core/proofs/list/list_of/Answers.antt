@@ -1,6 +1,5 @@
-use Rattle.std.proofs.Common.{[], ◌∷◌, map, length, ap, sym, ◌∙◌, append-nil, Some}
+use Rattle.std.proofs.Common.{inr, [], ◌∷◌, map, length, ap, sym, ◌∙◌, append-nil, Some}
 use Rattle.std.proofs.lemmas.List.{map-append}
-use Rattle.wast_grammar.specs.Look.{ask}
 use Rattle.wast_grammar.specs.Grammar.{many_reads}
 use Rattle.wast_grammar.proofs.GrammarLaws.{shrinks}
 use Rattle.wast_grammar.proofs.Repeats.{with_front, many_next, many_done, many_refused, many_faulty}
@@ -39,7 +38,7 @@ pub returns-in-Err-clause-read : goal.returns-in-Err-clause-read
 returns-in-Err-clause-read g c =
     let t = g.T.Meaning in
     let less = shrinks t.syntax c.lawful.ensures g.met.T.Peek.full g.met.T.Item.inside in
-    (refuses_all _ (ask t.syntax.starts (ahead c.items.parser)) _ (λ n. sym c.items.invariant.same ∙ many_faulty t.syntax.starts t.syntax.reads less _ (ahead c.items.parser) n) c.in-Err.ensures)
+    inr (sym c.items.invariant.same ∙ many_faulty t.syntax.starts t.syntax.reads less _ (ahead c.items.parser) c.in-Err.ensures.0)
 
 pub returns-in-Err-parse-clause-read : goal.returns-in-Err-parse-clause-read
 returns-in-Err-parse-clause-read g c =

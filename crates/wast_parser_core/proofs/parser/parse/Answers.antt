@@ -1,4 +1,4 @@
-use Rattle.std.proofs.Common.{◌≡◌, subst, Ok, Some, inl, inr}
+use Rattle.std.proofs.Common.{◌≡◌, subst, Ok, Some, inr}
 use Rattle.wast_parser_core.specs.State.{State, ahead, knowing, Keeps}
 use Rattle.wast_parser_core.specs.Reading.{ShowsNext}
 use Rattle.wast_parser_core.proofs.Fronts.{not_done}
@@ -31,13 +31,10 @@ pub returns-clause-refused : goal.returns-clause-refused
 returns-clause-refused g c =
     let t = g.T.Meaning in
     let new = c.parse.new.parser in
-    elim c.in-Err.ensures [
-      | inl m ↦ inl m
-      | inr b ↦ inr (inr (
-        t.tree c.in_ok-value.value,
-        new,
-        subst (λ (z : State). Keeps z new) c.new-parser.ensures c.in_ok-value.ensures.keeps,
-        subst (λ (z : State). t.syntax.reads (ahead (knowing t.registers z)) ≡ Some (t.tree c.in_ok-value.value, ahead (knowing t.registers new))) c.new-parser.ensures c.in_ok-value.ensures.read,
-        stuck_end new b.0,
-      ))
-    ]
+    inr (inr (
+      t.tree c.in_ok-value.value,
+      new,
+      subst (λ (z : State). Keeps z new) c.new-parser.ensures c.in_ok-value.ensures.keeps,
+      subst (λ (z : State). t.syntax.reads (ahead (knowing t.registers z)) ≡ Some (t.tree c.in_ok-value.value, ahead (knowing t.registers new))) c.new-parser.ensures c.in_ok-value.ensures.read,
+      stuck_end new c.in-Err.ensures.0,
+    ))

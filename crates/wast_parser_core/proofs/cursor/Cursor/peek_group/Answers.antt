@@ -2,7 +2,7 @@ use Rattle.std.proofs.Common.{subst, sym, ◌∙◌, ap, Ok, [], ◌∷◌}
 use Rattle.wast_grammar.specs.Look.{ask, this_word, this_group}
 use Rattle.wast_parser_core.specs.State.{State, ahead}
 use Rattle.wast_parser_core.specs.Cursors.{stands, GivesToken}
-use Rattle.wast_parser_core.specs.Reading.{Asks}
+use Rattle.wast_parser_core.proofs.States.{asks_so}
 use Rattle.wast_parser_core.proofs.Words.{no_group, within_group}
 use Rattle.wast_parser_core.proofs.cursor.Cursor.peek_group.Goals.{in_default-via-in-Some+else-is_lparen, in_default-via-in_default}
 use Rattle.wast_parser_core.proofs.cursor.Cursor.peek_group.Goals as goal
@@ -13,7 +13,8 @@ returns-in-Some c =
     let d = c.in-Some.rest in
     let next = subst (λ o. GivesToken (Ok o) c.args.self) c.in-Some.is c.in_ok-token.ensures in
     let same = ap (λ (z : State). ask (this_word c.args.text.now ∷ []) (ahead (record z { at = d.at }))) next.1 in
-    subst (λ o. Asks c.peek_word.result o) (same ∙ sym (within_group c.args.text.now s c.in-Some.token d.at next.0 (sym c.is_lparen.ensures ∙ c.if-is_lparen.true))) c.peek_word.ensures
+    let asked = same ∙ sym (within_group c.args.text.now s c.in-Some.token d.at next.0 (sym c.is_lparen.ensures ∙ c.if-is_lparen.true)) in
+    asks_so c.peek_word.result _ _ _ _ (ap (λ (z : State). z.source) next.1) asked c.peek_word.ensures
 
 pub returns-in_default : goal.returns-in_default
 returns-in_default c =

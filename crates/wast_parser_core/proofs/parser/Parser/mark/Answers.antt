@@ -10,25 +10,25 @@ use Rattle.wast_parser_core.proofs.Texts.{read_mark, not_mark}
 use Rattle.wast_parser_core.proofs.parser.Parser.mark.Goals.{in_default-via-in-Some+else-is_annotation, in_default-via-in_default}
 use Rattle.wast_parser_core.proofs.parser.Parser.mark.Goals as goal
 
-pub returns-then-branch-clause-read : goal.returns-then-branch-clause-read
-returns-then-branch-clause-read c =
+pub returns-then-is_named-clause-read : goal.returns-then-is_named-clause-read
+returns-then-is_named-clause-read c =
     let s = c.args.self.now in
     let t = c.in-Some.token in
     let i = c.in-Some.after in
     let v = c.args.text.now in
     let next = subst (λ o. ShowsNext (Ok o) s) c.in-Some.is c.in_ok-token.ensures in
-    let same = same_sym v _ ∙ ap (λ x. same_text (marked_value (text_of x t)) v) (sym c.text.ensures) ∙ sym c.in_ok-is_named-in-Some.ensures.ok ∙ c.if-branch.true in
+    let same = same_sym v _ ∙ ap (λ x. same_text (marked_value (text_of x t)) v) (sym c.text.ensures) ∙ sym c.is_named.ensures ∙ c.if-is_named.true in
     read_mark v _ s t i next (sym c.is_annotation.ensures.same ∙ c.if-is_annotation.true) same
     ∙ ap (λ o. Some (o, ahead (record s { at = i }))) (sym c.from_offset.ensures)
     ∙ ap (λ (z : State). Some (c.from_offset.result, ahead (record z { at = i }))) (sym c.self.view_is)
 
-pub returns-else-branch-clause-read : goal.returns-else-branch-clause-read
-returns-else-branch-clause-read c =
+pub returns-else-is_named-clause-read : goal.returns-else-is_named-clause-read
+returns-else-is_named-clause-read c =
     let s = c.args.self.now in
     let t = c.in-Some.token in
     let v = c.args.text.now in
     let next = subst (λ o. ShowsNext (Ok o) s) c.in-Some.is c.in_ok-token.ensures in
-    let same = same_sym v _ ∙ ap (λ x. same_text (marked_value (text_of x t)) v) (sym c.text.ensures) ∙ sym c.in_ok-is_named-in-Some.ensures.ok ∙ c.if-branch.false in
+    let same = same_sym v _ ∙ ap (λ x. same_text (marked_value (text_of x t)) v) (sym c.text.ensures) ∙ sym c.is_named.ensures ∙ c.if-is_named.false in
     inr (read_mark v _ s t c.in-Some.after next (sym c.is_annotation.ensures.same ∙ c.if-is_annotation.true) same)
 
 pub returns-in_default-clause-read : goal.returns-in_default-clause-read

@@ -1,14 +1,13 @@
-use Rattle.std.proofs.Common.{◌≡◌, ◌+◌, ◌∙◌, sym, ap, subst, ◌⊎◌, arith, false, ◌&&◌, ℕ}
+use Rattle.std.proofs.Common.{◌≡◌, ◌+◌, ◌∙◌, sym, ap, subst, arith, false, ◌&&◌, ℕ}
 use Rattle.std.specs.Prelude.{slice_get, is_some}
 use Rattle.wast_lexer.specs.Groups.{parens, IsGroupAt}
 use Rattle.wast_lexer.specs.TokenText.{IsOf}
 use Rattle.wast_grammar.specs.Significant.{begins_unknown, is_lparen}
-use Rattle.wast_parser_core.specs.State.{State, stop}
-use Rattle.wast_parser_core.specs.Reading.{out_of_memory}
-use Rattle.wast_parser_core.proofs.States.{stops_here}
+use Rattle.wast_parser_core.specs.State.{State}
+use Rattle.wast_parser_core.specs.Reading.{IsStop}
 use Rattle.wast_grammar.proofs.SignificantLaws.{lparen_kind}
 use Rattle.wast_parser_core.proofs.Ahead.{lexemes, ahead_trivia, ahead_group, ahead_open, ahead_seen, ahead_end, end_broken, end_whole, not_both, not_first}
-use Rattle.wast_parser_core.proofs.parser.Parser.next_from.Goals.{else-is_lparen-via-then-is_lparen+in_ok-drops+else-branch, else-is_lparen-via-else-is_lparen}
+use Rattle.wast_parser_core.proofs.parser.Parser.next_from.Goals.{else-is_lparen-via-then-is_lparen+else-drops, else-is_lparen-via-else-is_lparen}
 use Rattle.wast_parser_core.proofs.parser.Parser.next_from.Goals as goal
 
 pub tokens-preserved-then-is_trivia : goal.tokens-preserved-then-is_trivia
@@ -24,9 +23,9 @@ returns-in-None c =
     let i = c.tokens.at in
     let got = ap (λ (s : State). slice_get s.source.tokens i) (sym c.self.view_is) ∙ sym c.in-Some.ensures.token in
     let is = lparen_kind c.in-Some.token.kind (sym c.is_lparen.ensures ∙ c.if-is_lparen.true) in
-    let d = sym c.in_ok-drops.ensures.ok ∙ c.if-branch.true in
+    let d = sym c.drops.ensures ∙ c.if-drops.true in
     let none = subst (λ (s : State). (end : ℕ) → ¬ IsGroupAt (parens s.source.tokens) i end) c.self.view_is c.in-None.ensures.group in
-    stops_here s c.args.from _ (sym c.tokens.invariant.same ∙ ahead_open s i c.in-Some.token got is d none) (subst (λ (z : State). (c.stopped.result ≡ out_of_memory) ⊎ (c.stopped.result ≡ stop z.source)) c.self.view_is c.stopped.ensures)
+    (sym c.tokens.invariant.same ∙ ahead_open s i c.in-Some.token got is d none, subst (λ (z : State). IsStop c.stopped.result z.source) c.self.view_is c.stopped.ensures)
 
 pub tokens-preserved : goal.tokens-preserved
 tokens-preserved c =
@@ -34,7 +33,7 @@ tokens-preserved c =
     let i = c.tokens.at in
     let got = ap (λ (s : State). slice_get s.source.tokens i) (sym c.self.view_is) ∙ sym c.in-Some.ensures.token in
     let is = lparen_kind c.in-Some.token.kind (sym c.is_lparen.ensures ∙ c.if-is_lparen.true) in
-    let d = sym c.in_ok-drops.ensures.ok ∙ c.if-branch.true in
+    let d = sym c.drops.ensures ∙ c.if-drops.true in
     let g = subst (λ (s : State). IsGroupAt (parens s.source.tokens) i c.in-Some-group_end.end) c.self.view_is c.in-Some-group_end.ensures.group in
     let low = c.tokens.invariant.onward in
     record { same = sym (ahead_group s i c.in-Some-group_end.end c.in-Some.token got is d g) ∙ c.tokens.invariant.same; onward = omega (arith, low, g.end_is) }
@@ -47,7 +46,7 @@ returns-else-is_lparen c =
     let got = ap (λ (s : State). slice_get s.source.tokens i) (sym c.self.view_is) ∙ sym c.in-Some.ensures.token in
     let low = c.tokens.invariant.onward in
     let kept : is_lparen t.kind && begins_unknown s.names (lexemes s (i + 1)) ≡ false = elim c.else-is_lparen.branch [
-      | else-is_lparen-via-then-is_lparen+in_ok-drops+else-branch w ↦ not_both (is_lparen t.kind) (begins_unknown s.names (lexemes s (i + 1))) (sym w.in_ok-drops.ensures.ok ∙ w.if-branch.false)
+      | else-is_lparen-via-then-is_lparen+else-drops w ↦ not_both (is_lparen t.kind) (begins_unknown s.names (lexemes s (i + 1))) (sym w.drops.ensures ∙ w.if-drops.false)
       | else-is_lparen-via-else-is_lparen w ↦ not_first (is_lparen t.kind) (begins_unknown s.names (lexemes s (i + 1))) (sym c.is_lparen.ensures ∙ w.if-is_lparen.false)
     ] in
     record {
@@ -61,8 +60,8 @@ pub returns-then-is_some : goal.returns-then-is_some
 returns-then-is_some c =
     let s = c.args.self.now in
     let got = ap (λ (s : State). slice_get s.source.tokens c.tokens.at) (sym c.self.view_is) ∙ sym c.in_default.ensures.token in
-    stops_here s c.args.from _ (sym c.tokens.invariant.same ∙ ahead_end s c.tokens.at got ∙ end_broken s.source.fault (ap (λ (s : State). is_some s.source.fault) (sym c.self.view_is) ∙ ap is_some (sym c.fault.ensures) ∙ sym c.is_some.ensures ∙ c.if-is_some.true))
-    (subst (λ (z : State). (c.stopped-then-is_some.result ≡ out_of_memory) ⊎ (c.stopped-then-is_some.result ≡ stop z.source)) c.self.view_is c.stopped-then-is_some.ensures)
+    let fault = ap (λ (s : State). is_some s.source.fault) (sym c.self.view_is) ∙ ap is_some (sym c.fault.ensures) ∙ sym c.is_some.ensures ∙ c.if-is_some.true in
+    (sym c.tokens.invariant.same ∙ ahead_end s c.tokens.at got ∙ end_broken s.source.fault fault, subst (λ (z : State). IsStop c.stopped-then-is_some.result z.source) c.self.view_is c.stopped-then-is_some.ensures)
 
 pub returns : goal.returns
 returns c =
