@@ -39,7 +39,7 @@ impl<'a> Model for Parser<'a> {
 
 impl<'a> Parser<'a> {
     /// Before the first token, with no annotation registered.
-    pub(crate) fn new(buffer: &'a ParseBuffer<'a>) -> Parser<'a>
+    pub fn new(buffer: &'a ParseBuffer<'a>) -> Parser<'a>
         ensures { result ≡ start buffer.now }
     {
         Parser {

@@ -1,8 +1,0 @@
-//! Tests of `wast_parser_base`: that each call which can want memory can find it, that a refused growth changes nothing, and
-//! what no clause says.
-#![tactic(auto)]
-
-#[cfg(test)]
-mod calls;
-#[cfg(test)]
-mod memory;
