@@ -90,12 +90,6 @@ abbrev pub Asks : Result Bool ParseFault → Option Bool → Type 0
 Asks (Ok b) asked = asked ≡ Some b
 Asks (Err fault) asked = Refuses fault asked
 
--- it is refused what stands there, and this is expected
-abbrev pub IsRefusal : Expected → ParseFault → Type 0
-IsRefusal expected faults.Memory = ⊥
-IsRefusal expected (faults.Stopped offset error) = ⊥
-IsRefusal expected (faults.Refused offset told) = told ≡ expected
-
 -- a refusal tells what could stand there
 abbrev pub Tells : Expected → ParseFault → Type 0
 Tells expected faults.Memory = Unit {0}

@@ -10,7 +10,7 @@ ghost use Rattle.wast_grammar.specs.Spelling.{any_is, that_open, that_close};
 ghost use Rattle.wast_grammar.specs.Significant.{is_trivia, is_lparen, begins_unknown};
 ghost use Rattle.wast_grammar.specs.Look.{ask, this_group};
 ghost use Rattle.wast_grammar.specs.Grammar.{word, one_of};
-ghost use Rattle.wat_profile.specs.ParserState.{State, IsTextOf, ahead, lexemes_from, literal_of, Asks, Gives, IsLeft, IsRefusal, IsStop, is_keyword, Keeps, ShowsNext, Tells};
+ghost use Rattle.wat_profile.specs.ParserState.{State, IsTextOf, ahead, lexemes_from, literal_of, Asks, Gives, IsLeft, IsStop, is_keyword, Keeps, ShowsNext, Tells};
 ghost use Rattle.wat_profile.specs.Registered.{registered};
 ghost use Rattle.wat_profile.specs.Syntax.{instruction_starts, i32_literal, mnemonic, name};
 ghost use Rattle.wat_profile.specs.TreeViews.{entry_of};
@@ -225,13 +225,14 @@ impl<'a, 't> Parser<'a, 't> {
         }
     }
 
-    /// That this is expected where the next significant token begins, or where the text ends.
+    /// That this is expected where the next significant token begins, or where the text ends; or why that can't be told.
     fn refused(&self, expected: Expected) -> ParseFault
-        ensures { IsRefusal expected result }
+        ensures { Tells expected result }
     {
         let offset = match self.next() {
             Ok(Some((token, _))) => token.offset,
-            _ => self.text.len(),
+            Ok(None) => self.text.len(),
+            Err(fault) => return fault,
         };
         ParseFault::Refused { offset, expected }
     }
