@@ -5,7 +5,7 @@ use Rattle.std.proofs.lemmas.Bool.{cases_Bool, eqb-true}
 use Rattle.std.proofs.lemmas.Bool.Decides.{nat_tests}
 use Rattle.wast_lexer.specs.Strings.{hex_value}
 use Rattle.wast_lexer.specs.Integer.{Integer}
-use Rattle.wast_lexer.specs.NumberParts.{IsIntegerOf}
+use Rattle.wast_lexer.specs.NumberParts.{IsIntegerOf, integer_sign, integer_digits, is_hexadecimal}
 use Rattle.wast_grammar.specs.Tokens.{with_digit, number_after, number, literal}
 use Rattle.wast_grammar.proofs.TextLaws.{integer_is}
 use Rattle.wat_profile.specs.ParserState.{literal_of}
@@ -47,4 +47,4 @@ too_large base n i ds some h e digit b small =
 
 -- the parts of an integer say what its text does
 pub literal_is : (word : List ℕ) (i : Integer) → IsIntegerOf word i → literal_of i ≡ literal word
-literal_is word i is = sym (ap literal is.1 ∙ integer_is i.sign i.hex i.digits.now is.0)
+literal_is word i is = sym (ap literal is.1 ∙ integer_is (integer_sign i) (is_hexadecimal i) (integer_digits i) is.0)

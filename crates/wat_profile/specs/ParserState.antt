@@ -4,6 +4,7 @@ use Rattle.std.specs.Str.{is_utf8}
 use Rattle.std.specs.Cow.{cow_str_bytes}
 use Rattle.std.specs.declared.borrow.CowStr.{CowStr}
 use Rattle.wast_lexer.specs.Integer.{Integer as IntegerParts}
+use Rattle.wast_lexer.specs.NumberParts.{integer_sign, integer_digits, is_hexadecimal}
 use Rattle.wast_lexer.specs.declared.token.Token.{Token}
 use Rattle.wast_lexer.specs.declared.token.TokenKind.{TokenKind}
 use Rattle.wast_lexer.specs.declared.token.TokenKind.TheVariants as kinds
@@ -21,7 +22,7 @@ use Rattle.wat_profile.specs.declared.parse_fault.ParseFault.TheVariants as faul
 
 -- what an integer in its parts says
 abbrev pub literal_of : IntegerParts → Literal
-literal_of i = record { minus = says_minus i.sign; size = number (base_of i.hex) i.digits.now }
+literal_of i = record { minus = says_minus (integer_sign i); size = number (base_of (is_hexadecimal i)) (integer_digits i) }
 
 -- the text that bytes are, where they are one
 abbrev pub IsTextOf : {Z : Type 0} → List ℕ → Option (CowStr Z) → Type 0
