@@ -1,0 +1,143 @@
+//! Measures lexer, token table and parser on a generated text of functions, beside a plain scan of its bytes.
+#![tactic(auto)]
+
+ghost use Rattle.std.specs.Prelude.{◌<◌, ◌^◌, IfOk, length};
+ghost use Rattle.wast_parser_core.specs.Cursors.{Follows};
+
+use std::alloc::{AllocError, Global};
+use std::time::{Duration, Instant};
+use std::{env, io};
+use wast_lexer::{Lexer, TokenTable};
+use wast_parser_core::{Cursor, Error, ParseBuffer, Parser};
+use wat_profile::parse_text;
+
+/// A function that today's grammar has.
+const FUNCTION: &[u8] =
+    b"(func (export \"a\\n\\41\") (export \"plain\") ;; c\n  i32.const 0xff_ff (; x ;) drop i32.const 0 drop nop)\n";
+
+/// How often each measure is taken; the last one counts.
+const ROUNDS: u32 = 3;
+
+fn main(rt: HostRuntime) -> io::Result<()> {
+    let mut measured = false;
+    for word in env::args(&rt)? {
+        if word.as_str() == "measure" {
+            measured = true;
+        }
+    }
+    if !measured {
+        return println!(rt; "say `measure` to measure them");
+    }
+    let bytes = functions(rt.alloc(), 200_000)?;
+    match std::str::from_utf8(bytes.as_slice()) {
+        Ok(text) => measure(rt, text),
+        Err(_) => Ok(()),
+    }
+}
+
+/// A module of so many functions.
+fn functions(alloc: Global, count: u32) -> Result<Vec<u8>, AllocError> {
+    let mut bytes = Vec::new(alloc);
+    bytes.extend_from_slice(b"(module\n")?;
+    for _ in 0..count {
+        bytes.extend_from_slice(FUNCTION)?;
+    }
+    bytes.push(b')')?;
+    Ok(bytes)
+}
+
+fn measure(rt: HostRuntime, text: &str) -> io::Result<()> {
+    if 4_294_967_295 < text.len() {
+        return Ok(());
+    }
+    for _ in 0..ROUNDS {
+        measure_lexer(&rt, text)?;
+        measure_parser(&rt, text)?;
+    }
+    Ok(())
+}
+
+fn measure_lexer(rt: &HostRuntime, text: &str) -> io::Result<()>
+    requires { length text.now < 2 ^ 32 }
+{
+    let lexer = Lexer::new(text);
+    let start = Instant::now(rt)?;
+    let lines = text.bytes().filter(|byte| *byte == b'\n').count();
+    let bytes = speed(text.len(), start.elapsed(rt)?);
+    println!(rt; "byte scan: {bytes} MB/s, {lines} line feeds")?;
+
+    let start = Instant::now(rt)?;
+    let count = lexer.iter(0).count();
+    print_speed(rt, "lexer", text, count, start.elapsed(rt)?)?;
+
+    let start = Instant::now(rt)?;
+    let table = TokenTable::new(rt.alloc(), lexer)?;
+    print_speed(rt, "lexer with table", text, table.len(), start.elapsed(rt)?)
+}
+
+fn measure_parser(rt: &HostRuntime, text: &str) -> io::Result<()>
+    requires { length text.now < 2 ^ 32 }
+{
+    let Ok(buffer) = ParseBuffer::new(rt.alloc(), text) else {
+        return println!(rt; "out of memory");
+    };
+    let start = Instant::now(rt)?;
+    let count = tokens_taken(&buffer, text.len()).unwrap_or(0);
+    print_speed(rt, "tokens taken by step", text, count, start.elapsed(rt)?)?;
+
+    let start = Instant::now(rt)?;
+    let read = parse_text(rt.alloc(), text).is_ok();
+    let spent = start.elapsed(rt)?;
+    let bytes = speed(text.len(), spent);
+    println!(rt; "text to tree, with its table: {bytes} MB/s, read: {read}")
+}
+
+/// How many tokens are taken, one at a time, up to this number.
+fn tokens_taken(buffer: &ParseBuffer<'_>, most: usize) -> Result<usize, Error> {
+    let mut parser = Parser::new(buffer);
+    for count in 0..most {
+        if !parser.step(one_token)? {
+            return Ok(count);
+        }
+    }
+    Ok(most)
+}
+
+/// Takes a token of the text, where there is one.
+fn one_token<'b, 'a>(cursor: Cursor<'b, 'a>) -> Result<(bool, Cursor<'b, 'a>), Error>
+    ensures { IfOk result (λ taken. Follows cursor.entry taken.1) }
+{
+    if let Some((_, rest)) = cursor.keyword()? {
+        return Ok((true, rest));
+    }
+    if let Some(rest) = cursor.lparen()? {
+        return Ok((true, rest));
+    }
+    if let Some(rest) = cursor.rparen()? {
+        return Ok((true, rest));
+    }
+    if let Some((_, rest)) = cursor.integer()? {
+        return Ok((true, rest));
+    }
+    if let Some((_, rest)) = cursor.string()? {
+        return Ok((true, rest));
+    }
+    Ok((false, cursor))
+}
+
+fn print_speed(
+    rt: &HostRuntime,
+    name: &str,
+    text: &str,
+    count: usize,
+    spent: Duration,
+) -> io::Result<()> {
+    let bytes = speed(text.len(), spent);
+    let tokens = speed(count, spent);
+    println!(rt; "{name}: {bytes} MB/s, {tokens} million tokens/s, {count} tokens")
+}
+
+/// So many in a time, in millions a second.
+fn speed(count: usize, spent: Duration) -> u128 {
+    count as u128 / spent.as_micros().max(1)
+}
