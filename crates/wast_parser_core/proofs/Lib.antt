@@ -7,3 +7,7 @@ pub mod Literals
 pub mod Places
 pub mod States
 pub mod Parens
+pub mod MarkLooks
+pub mod LiteralLooks
+pub mod IntegerLaws
+pub mod IdentifierLaws

@@ -4,3 +4,6 @@ pub mod Kinds
 pub mod Literals
 pub mod Cursors
 pub mod Productions
+pub mod Integers
+pub mod Identifiers
+pub mod Marks

@@ -1,0 +1,31 @@
+-- Laws of identifiers, indices and the annotation that names.
+use Rattle.std.proofs.Common.{refl, List, [], ◌∷◌, ℕ, None, false}
+use Rattle.std.specs.Prelude.{◌-◌, ◌^◌, codes}
+use Rattle.wast_grammar.specs.Lawful.{Lawful}
+use Rattle.wast_grammar.specs.Look.{On, AnInteger, Any, this_annotation}
+use Rattle.wast_grammar.specs.Grammar.{id, seen, seq, mark, word, paren, maybe}
+use Rattle.wast_grammar.proofs.GrammarLaws.{seen_laws, seq_laws, either_laws, paren_laws, maybe_laws, id_laws, mark_laws, word_laws}
+use Rattle.wast_parser_core.specs.Integers.{number_in, unsigned}
+use Rattle.wast_parser_core.specs.Productions.{name}
+use Rattle.wast_parser_core.specs.Identifiers.{ByNumber, ByName, identifier, index, name_annotation, item_ref}
+use Rattle.wast_parser_core.proofs.IntegerLaws.{number_laws, name_laws}
+
+module _ {N P : Type 0} where
+  pub identifier_laws : Lawful (identifier {N = N} {P = P})
+  identifier_laws = seen_laws (λ x. (x, 0)) id id_laws
+
+  pub index_laws : Lawful (index {N = N} {P = P})
+  index_laws = either_laws (On false AnInteger Any ∷ []) (seen (λ n. ByNumber n.0 n.1) (number_in (2 ^ 32 - 1) None unsigned)) (seen ByName identifier)
+      (seen_laws (λ n. ByNumber n.0 n.1) (number_in (2 ^ 32 - 1) None unsigned) (number_laws (2 ^ 32 - 1) None unsigned)) (seen_laws ByName identifier identifier_laws) refl refl refl refl
+
+  pub name_annotation_laws : Lawful (name_annotation {N = N} {P = P})
+  name_annotation_laws = seen_laws (λ x. x.1) (seq (mark (codes "name")) name) (seq_laws (mark (codes "name")) name (mark_laws (codes "name")) name_laws refl)
+
+  pub maybe_name_laws : Lawful (maybe {N = N} {P = P} (this_annotation (codes "name") ∷ []) (paren name_annotation))
+  maybe_name_laws = maybe_laws (this_annotation (codes "name") ∷ []) (paren name_annotation) (paren_laws name_annotation name_annotation_laws refl refl) refl refl refl
+
+  pub reference_laws : (w : List ℕ) → Lawful (seq {N = N} {P = P} (word w) index)
+  reference_laws w = seq_laws (word w) index (word_laws w) index_laws refl
+
+  pub item_ref_laws : (w : List ℕ) → Lawful (item_ref {N = N} {P = P} w)
+  item_ref_laws w = paren_laws (seq (word w) index) (reference_laws w) refl refl
