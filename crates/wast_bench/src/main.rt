@@ -8,7 +8,7 @@ use std::alloc::{AllocError, Global};
 use std::time::{Duration, Instant};
 use std::{env, io};
 use wast_lexer::{Lexer, TokenTable};
-use wast_parser_core::{Cursor, Error, ParseBuffer, Parser};
+use wast_parser::{Cursor, Error, ParseBuffer, Parser};
 use wat_profile::parse_text;
 
 /// A function that today's grammar has.

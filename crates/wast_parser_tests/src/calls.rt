@@ -3,7 +3,7 @@
 use std::hash::{DefaultHasher, Hash, Hasher};
 use std::test::Fail;
 use wast_lexer::{LexError, LexFault, Span};
-use wast_parser_base::{Error, Gensym, Id, Index};
+use wast_parser::{Error, Gensym, Id, Index};
 
 #[test]
 fn displays_an_error(rt: HostRuntime) -> Result<(), Fail> {

@@ -5,7 +5,7 @@ use std::alloc::{AllocError, Global};
 use std::borrow::CowStr;
 use std::test::Fail;
 use wast_lexer::Span;
-use wast_parser_base::{Encode, EncodeError, Error, Id, Index, push_place};
+use wast_parser::{Encode, EncodeError, Error, Id, Index, push_place};
 
 #[test]
 fn ample_message(rt: HostRuntime) -> Result<(), Fail> {

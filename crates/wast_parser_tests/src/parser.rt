@@ -2,7 +2,7 @@
 
 use std::alloc::Global;
 use std::test::Fail;
-use wast_parser_core::{Error, LParen, ParseBuffer, Parser};
+use wast_parser::{Error, LParen, ParseBuffer, Parser};
 
 /// How a test ends where a call is refused: it fails by its result.
 fn failed(error: Error) -> Fail {

@@ -6,10 +6,14 @@
 //! - `allowed TEXT`: the same, with confusing characters allowed;
 //! - `named NAME TEXT`: the offset of each annotation of the text, and whether it stands for the name;
 //! - `place OFFSET TEXT`: the line and the column of an offset;
+//! - `read TYPE TEXT`: the text, read as one of a type (`i8`, `u8`, `i64`, `u64`, `string`), or where it is refused;
+//! - `looks TEXT`: whether an identifier stands in front: as it is, with annotations `a` registered, and with that taken
+//!   back; or where the text can't be read;
 //! - `errors`: the text of each lexical error.
 #![tactic(auto)]
 
 mod lexer;
+mod parser;
 
 use percent_encoding::percent_decode;
 use std::io;
@@ -37,6 +41,10 @@ fn answer(rt: HostRuntime, line: &str) -> io::Result<()> {
         lexer::named(rt, text.as_str())
     } else if word == "place" {
         lexer::place(rt, text.as_str())
+    } else if word == "read" {
+        parser::read(rt, text.as_str())
+    } else if word == "looks" {
+        parser::looks(rt, text.as_str())
     } else if word == "errors" {
         lexer::errors(rt)
     } else {

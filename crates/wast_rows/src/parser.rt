@@ -1,0 +1,78 @@
+//! What the parser reads of a text.
+
+use std::io;
+use wast_parser::{Error, Id, ParseBuffer, Parser, parse};
+
+/// Prints what a text is, read as one of a type, which stands before it.
+pub fn read(rt: HostRuntime, words: &str) -> io::Result<()> {
+    let (kind, text) = words.split_once(' ').unwrap_or((words, ""));
+    if 4_294_967_295 < text.len() {
+        return println!(rt; "too long");
+    }
+    match ParseBuffer::new(rt.alloc(), text) {
+        Ok(buffer) => read_as(rt, kind, &buffer),
+        Err(_) => println!(rt; "no tokens"),
+    }
+}
+
+/// Prints of a text whether an identifier stands in front: as it is, with annotations `a` registered, and with that taken back.
+pub fn looks(rt: HostRuntime, text: &str) -> io::Result<()> {
+    if 4_294_967_295 < text.len() {
+        return println!(rt; "too long");
+    }
+    match ParseBuffer::new(rt.alloc(), text) {
+        Ok(buffer) => match looks_for_id(&buffer) {
+            Ok((before, registered, after)) => println!(rt; "{before} {registered} {after}"),
+            Err(error) => refused(rt, &error),
+        },
+        Err(_) => println!(rt; "no tokens"),
+    }
+}
+
+fn looks_for_id(buffer: &ParseBuffer<'_>) -> Result<(bool, bool, bool), Error> {
+    let mut parser = Parser::new(buffer);
+    let before = parser.peek::<Id>()?;
+    parser.register_annotation("a")?;
+    let registered = parser.peek::<Id>()?;
+    parser.unregister_annotation("a");
+    Ok((before, registered, parser.peek::<Id>()?))
+}
+
+fn read_as(rt: HostRuntime, kind: &str, buffer: &ParseBuffer<'_>) -> io::Result<()> {
+    if kind == "i8" {
+        match parse::<i8>(buffer) {
+            Ok(number) => println!(rt; "{number}"),
+            Err(error) => refused(rt, &error),
+        }
+    } else if kind == "u8" {
+        match parse::<u8>(buffer) {
+            Ok(number) => println!(rt; "{number}"),
+            Err(error) => refused(rt, &error),
+        }
+    } else if kind == "i64" {
+        match parse::<i64>(buffer) {
+            Ok(number) => println!(rt; "{number}"),
+            Err(error) => refused(rt, &error),
+        }
+    } else if kind == "u64" {
+        match parse::<u64>(buffer) {
+            Ok(number) => println!(rt; "{number}"),
+            Err(error) => refused(rt, &error),
+        }
+    } else if kind == "string" {
+        match parse::<String>(buffer) {
+            Ok(text) => println!(rt; "{text}"),
+            Err(error) => refused(rt, &error),
+        }
+    } else {
+        println!(rt; "no such type")
+    }
+}
+
+/// Prints where a text is refused, and the lexical error where that is the cause.
+fn refused(rt: HostRuntime, error: &Error) -> io::Result<()> {
+    match error.lex_error() {
+        Some(cause) => println!(rt; "refused at {}: {cause}", error.span().offset()),
+        None => println!(rt; "refused at {}", error.span().offset()),
+    }
+}
