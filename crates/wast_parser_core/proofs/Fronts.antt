@@ -10,6 +10,7 @@ use Rattle.wast_grammar.specs.Spelling.{that_open, that_close}
 use Rattle.wast_grammar.specs.Look.{ask, Opening, On, AClose, Any}
 use Rattle.wast_grammar.specs.Grammar.{one_of}
 use Rattle.wast_grammar.proofs.Looks.{some_one}
+use Rattle.wast_grammar.proofs.SignificantLaws.{lparen_kind}
 use Rattle.wast_parser_core.specs.Kinds.{is_rparen}
 use Rattle.wast_parser_core.specs.State.{State, ahead, IsNext, past, front, place_ahead, stop}
 use Rattle.wast_parser_core.specs.Reading.{ends_here}
@@ -211,3 +212,6 @@ asks_close (kinds.Float k) w p ts h = refl
 
 pub asked_close : (s : State) (t : Token) (i : ℕ) → IsNext s t i → ask (On false AClose Any ∷ []) (ahead s) ≡ Some (is_rparen t.kind)
 asked_close s t i n = ap (ask (On false AClose Any ∷ [])) n.found ∙ asks_close t.kind (text_of s.source.text t) t.offset (ahead (record s { at = i })) n.seen
+
+pub took_open : (s : State) (t : Token) (i : ℕ) → IsNext s t i → is_lparen t.kind ≡ true → one_of that_open (ahead s) ≡ Some (t.offset, ahead (record s { at = i }))
+took_open s t i n h = ap (one_of that_open) n.found ∙ ap (λ k. one_of that_open (token_of k (text_of s.source.text t) t.offset ++ ahead (record s { at = i }))) (lparen_kind t.kind h)

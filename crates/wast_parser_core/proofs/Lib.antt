@@ -7,7 +7,8 @@ pub mod Literals
 pub mod Places
 pub mod States
 pub mod Parens
-pub mod MarkLooks
-pub mod LiteralLooks
-pub mod IntegerLaws
 pub mod IdentifierLaws
+pub mod IntegerLaws
+pub mod IndexLooks
+pub mod MarkLooks
+pub mod Wants

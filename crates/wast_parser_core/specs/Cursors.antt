@@ -1,10 +1,15 @@
 -- Where a cursor stands.
-use Rattle.std.specs.Prelude.{◌≡◌, ◌≤◌, [], Option, Some, None, Result, Ok, Err}
+use Rattle.std.specs.Prelude.{◌≡◌, ◌⊎◌, ℕ, ◌≤◌, true, false, List, [], Option, Some, None, Result, Ok, Err}
 use Rattle.wast_lexer.specs.declared.token.Token.{Token}
 use Rattle.wast_parser_core.specs.declared.cursor.Cursor.{Cursor}
 use Rattle.wast_parser_base.specs.Problem.{Problem}
 use Rattle.wast_parser_core.specs.State.{State, ahead, IsNext}
-use Rattle.wast_parser_core.specs.Reading.{Stops}
+use Rattle.wast_grammar.specs.Tokens.{SignificantToken, Literal, Id, Word, Mark, Integer, Float, Text, Reserved}
+use Rattle.wast_grammar.specs.Significant.{TextToken}
+use Rattle.wast_grammar.specs.Look.{Shape, same_shape}
+use Rattle.wast_grammar.specs.Grammar.{one_of}
+use Rattle.wast_parser_core.specs.Kinds.{shape_of, front_shape}
+use Rattle.wast_parser_core.specs.Reading.{Stops, out_of_memory, is_stuck}
 
 -- what a parser has that stands there
 abbrev pub stands : Cursor → State
@@ -20,3 +25,72 @@ abbrev pub GivesToken : Result (Option (Token × Cursor)) Problem → Cursor →
 GivesToken (Ok (Some found)) c = IsNext (stands c) found.0 found.1.at × (found.1.parser.now ≡ c.parser.now)
 GivesToken (Ok None) c = ahead (stands c) ≡ []
 GivesToken (Err p) c = Stops p (stands c)
+
+-- WHAT THE CALLS OF A CURSOR TAKE
+abbrev pub said_word : {N P : Type 0} → SignificantToken N P → Option (List ℕ)
+said_word (Word w p) = Some w
+said_word t = None
+
+abbrev pub said_reserved : {N P : Type 0} → SignificantToken N P → Option (List ℕ)
+said_reserved (Reserved w p) = Some w
+said_reserved t = None
+
+abbrev pub said_mark : {N P : Type 0} → SignificantToken N P → Option (List ℕ)
+said_mark (Mark w p) = Some w
+said_mark t = None
+
+abbrev pub said_integer : {N P : Type 0} → SignificantToken N P → Option Literal
+said_integer (Integer n w p) = Some n
+said_integer t = None
+
+abbrev pub said_float : {N P : Type 0} → SignificantToken N P → Option (List ℕ)
+said_float (Float w p) = Some w
+said_float t = None
+
+abbrev pub said_text : {N P : Type 0} → SignificantToken N P → Option (List ℕ)
+said_text (Text s p) = Some s
+said_text t = None
+
+-- the name of an identifier, where it has one
+abbrev pub said_id : {N P : Type 0} → SignificantToken N P → Option (Option N)
+said_id (Id n p) = Some n
+said_id t = None
+
+-- no such token is in front, and one could be read
+abbrev pub TakesNone : {Y : Type 0} → (TextToken → Option Y) → Cursor → Type 0
+TakesNone f c = (one_of f (ahead (stands c)) ≡ None) × (is_stuck (ahead (stands c)) ≡ false)
+
+-- the token in front says this, and the other cursor stands behind it
+abbrev pub TakesOne : {Y : Type 0} → (TextToken → Option Y) → Cursor → Y → Cursor → Type 0
+TakesOne f c y d = (one_of f (ahead (stands c)) ≡ Some (y, ahead (stands d))) × Follows c d
+
+-- A call takes the token in front exactly where it is such a one; none is taken where it is another or the end, and where
+-- none can be read that is told.
+abbrev pub Takes : {X Y : Type 0} → (X → Y) → (TextToken → Option Y) → Cursor → Result (Option (X × Cursor)) Problem → Type 0
+Takes view f c (Ok (Some (x, d))) = TakesOne f c (view x) d
+Takes view f c (Ok None) = TakesNone f c
+Takes view f c (Err p) = Stops p (stands c)
+
+-- the same, where memory may be wanted
+abbrev pub Copies : {X Y : Type 0} → (X → Y) → (TextToken → Option Y) → Cursor → Result (Option (X × Cursor)) Problem → Type 0
+Copies view f c (Ok (Some (x, d))) = TakesOne f c (view x) d
+Copies view f c (Ok None) = TakesNone f c
+Copies view f c (Err p) = (p ≡ out_of_memory) ⊎ Stops p (stands c)
+
+-- the same of an identifier; one without a name is refused
+abbrev pub TakesId : {X : Type 0} → (X → List ℕ) → Cursor → Result (Option (X × Cursor)) Problem → Type 0
+TakesId view c (Ok (Some (x, d))) = TakesOne said_id c (Some (view x)) d
+TakesId view c (Ok None) = TakesNone said_id c
+TakesId view c (Err p) = (p ≡ out_of_memory) ⊎ (Stops p (stands c) ⊎ ((rest : List TextToken) × (one_of said_id (ahead (stands c)) ≡ Some (None, rest))))
+
+-- the same, where the cursor behind it alone is answered
+abbrev pub Passes : {Y : Type 0} → (TextToken → Option Y) → Cursor → Result (Option Cursor) Problem → Type 0
+Passes {Y} f c (Ok (Some d)) = (y : Y) × TakesOne f c y d
+Passes f c (Ok None) = TakesNone f c
+Passes f c (Err p) = Stops p (stands c)
+
+-- the token in front is of this kind, and the other cursor stands behind it
+abbrev pub FindsKind : Shape → Cursor → Result (Option (Token × Cursor)) Problem → Type 0
+FindsKind shape c (Ok (Some (t, d))) = IsNext (stands c) t d.at × (d.parser.now ≡ c.parser.now) × (same_shape shape (shape_of t.kind) ≡ true)
+FindsKind shape c (Ok None) = (same_shape shape (front_shape (ahead (stands c))) ≡ false) × (is_stuck (ahead (stands c)) ≡ false)
+FindsKind shape c (Err p) = Stops p (stands c)

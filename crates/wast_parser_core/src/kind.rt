@@ -3,7 +3,8 @@ ghost use Rattle.std.specs.Prelude.{◌≡◌, true};
 ghost use Rattle.wast_lexer.specs.declared.token.TokenKind.TheVariants as kinds;
 ghost use Rattle.wast_lexer.specs.Tiling.{is_annotation};
 ghost use Rattle.wast_grammar.specs.Significant.{is_trivia, is_lparen};
-ghost use Rattle.wast_parser_core.specs.Kinds.{is_rparen, is_keyword, is_identifier, is_string};
+ghost use Rattle.wast_parser_core.specs.Kinds.{is_rparen, is_keyword, is_identifier, is_string, shape_of, wanted};
+ghost use Rattle.wast_grammar.specs.Look.{same_shape};
 
 use wast_lexer::TokenKind;
 
@@ -54,4 +55,33 @@ pub fn is_string(kind: TokenKind) -> bool
     ensures is { result ≡ true → kind ≡ kinds.String }
 {
     matches!(kind, TokenKind::String)
+}
+
+/// Kinds of tokens that are looked for and taken.
+#[derive(Clone, Copy)]
+pub enum Wanted {
+    RParen,
+    Id,
+    Keyword,
+    Annotation,
+    Integer,
+    Float,
+    String,
+    Reserved,
+}
+
+/// Whether a token is of the kind that is wanted.
+pub fn is_wanted(kind: TokenKind, want: Wanted) -> bool
+    ensures { result ≡ same_shape (wanted want) (shape_of kind) }
+{
+    match want {
+        Wanted::RParen => matches!(kind, TokenKind::RParen),
+        Wanted::Id => matches!(kind, TokenKind::Id),
+        Wanted::Keyword => matches!(kind, TokenKind::Keyword),
+        Wanted::Annotation => matches!(kind, TokenKind::Annotation),
+        Wanted::Integer => matches!(kind, TokenKind::Integer(_)),
+        Wanted::Float => matches!(kind, TokenKind::Float(_)),
+        Wanted::String => matches!(kind, TokenKind::String),
+        Wanted::Reserved => matches!(kind, TokenKind::Reserved),
+    }
 }

@@ -1,6 +1,6 @@
-//! Looking for literals.
+//! Looking for indices and annotations.
 ghost use Rattle.std.specs.Prelude.{◌≡◌, ◌||◌, [], ◌∷◌, false};
-ghost use Rattle.wast_grammar.specs.Look.{ask, On, AnInteger, AString, AnId, Any, this_annotation};
+ghost use Rattle.wast_grammar.specs.Look.{ask, On, AnInteger, AnId, Any, this_annotation};
 ghost use Rattle.wast_parser_core.specs.Marks.{this_mark};
 ghost use Rattle.wast_parser_core.specs.Kinds.{is_integer, is_identifier};
 ghost use Rattle.wast_parser_core.specs.State.{ahead};
@@ -9,43 +9,11 @@ ghost use Rattle.wast_parser_core.specs.Cursors.{stands};
 
 use crate::annotation::is_named;
 use crate::cursor::Cursor;
-use crate::kind::{is_annotation, is_id, is_lparen, is_string};
+use crate::kind::{is_annotation, is_lparen};
 use wast_lexer::TokenKind;
 use wast_parser_base::Error;
 
 impl<'b, 'a> Cursor<'b, 'a> {
-    /// Whether an integer stands here.
-    pub fn peek_integer(self) -> Result<bool, Error>
-        ensures { Asks result (stands self.entry).source (ask (On false AnInteger Any ∷ []) (ahead (stands self.entry))) }
-    {
-        match self.token()? {
-            Some((token, _)) => Ok(is_integer(token.kind)),
-            None => Ok(false),
-        }
-    }
-
-    /// Whether a string stands here.
-    pub fn peek_string(self) -> Result<bool, Error>
-        ensures { Asks result (stands self.entry).source (ask (On false AString Any ∷ []) (ahead (stands self.entry))) }
-    {
-        match self.token()? {
-            Some((token, _)) => Ok(is_string(token.kind)),
-            None => Ok(false),
-        }
-    }
-}
-
-impl<'b, 'a> Cursor<'b, 'a> {
-    /// Whether an identifier stands here.
-    pub fn peek_id(self) -> Result<bool, Error>
-        ensures { Asks result (stands self.entry).source (ask (On false AnId Any ∷ []) (ahead (stands self.entry))) }
-    {
-        match self.token()? {
-            Some((token, _)) => Ok(is_id(token.kind)),
-            None => Ok(false),
-        }
-    }
-
     /// Whether an integer or an identifier stands here.
     pub(crate) fn peek_index(self) -> Result<bool, Error>
         ensures { Asks result (stands self.entry).source (ask (On false AnInteger Any ∷ On false AnId Any ∷ []) (ahead (stands self.entry))) }

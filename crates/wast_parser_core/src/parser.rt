@@ -144,7 +144,14 @@ impl<'a> Parser<'a> {
     pub fn cur_span(&self) -> Span
         ensures { result ≡ place_ahead self.now }
     {
-        if let Ok(next) = self.next() {
+        self.place_from(self.at)
+    }
+
+    /// The same where so many tokens are taken.
+    pub(crate) fn place_from(&self, from: usize) -> Span
+        ensures { result ≡ place_ahead (record self.now { at = from }) }
+    {
+        if let Ok(next) = self.next_from(from) {
             return match next {
                 Some((token, _)) => Span::from_offset(token.offset),
                 None => Span::from_offset(self.text().len()),

@@ -123,7 +123,7 @@ impl<'a> Parser<'a> {
     }
 
     /// The parts of an integer.
-    fn integer(&self, token: Token, kind: IntegerKind) -> Integer<'a>
+    pub(crate) fn integer(&self, token: Token, kind: IntegerKind) -> Integer<'a>
         requires own { IsOf self.now.source.text token }
         requires kind { token.kind ≡ kinds.Integer kind }
         ensures { literal_of result ≡ literal (text_of self.now.source.text token) }

@@ -1,6 +1,6 @@
 use Rattle.std.proofs.Common.{subst, sym, ◌∙◌, ap, Ok, Some}
 use Rattle.wast_parser_core.specs.Cursors.{stands, GivesToken}
-use Rattle.wast_parser_core.proofs.LiteralLooks.{asked_index}
+use Rattle.wast_parser_core.proofs.IndexLooks.{asked_index}
 use Rattle.wast_parser_core.proofs.cursor.Cursor.peek_index.Goals as goal
 
 pub returns-in-Some : goal.returns-in-Some

@@ -1,6 +1,6 @@
 use Rattle.std.proofs.Common.{sym, ◌∙◌, ap, length}
 use Rattle.wast_parser_core.specs.State.{State, front, stop}
-use Rattle.wast_parser_core.proofs.parser.Parser.cur_span.Goals as goal
+use Rattle.wast_parser_core.proofs.parser.Parser.place_from.Goals as goal
 
 pub returns : goal.returns
 returns c =

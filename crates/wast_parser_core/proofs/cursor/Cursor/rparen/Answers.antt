@@ -1,0 +1,21 @@
+use Rattle.std.proofs.Common.{subst, sym, ◌∙◌, ap, Ok, Some, arith}
+use Rattle.wast_parser_core.specs.Kinds.{wanted}
+use Rattle.wast_parser_core.specs.State.{State, ahead}
+use Rattle.wast_parser_core.specs.Cursors.{stands, FindsKind}
+use Rattle.wast_parser_core.specs.declared.kind.Wanted.TheVariants.{RParen}
+use Rattle.wast_parser_core.proofs.Wants.{next_close, no_close}
+use Rattle.wast_parser_core.proofs.cursor.Cursor.rparen.Goals as goal
+
+pub returns-in-Some : goal.returns-in-Some
+returns-in-Some c =
+    let s = stands c.args.self in
+    let t = c.in-Some.field-0-0 in
+    let d = c.in-Some.rest in
+    let next = subst (λ o. FindsKind (wanted RParen) c.args.self (Ok o)) c.in-Some.is c.in_ok-rest.ensures in
+    let low = next.0.onward in
+    (t.offset, (next_close s t d.at next.0 next.2 ∙ ap (λ (z : State). Some (t.offset, ahead (record z { at = d.at }))) (sym next.1), record { same = next.1; onward = omega (arith, low) }))
+
+pub returns-in-None : goal.returns-in-None
+returns-in-None c =
+    let none = subst (λ o. FindsKind (wanted RParen) c.args.self (Ok o)) c.in-None.is c.in_ok-rest.ensures in
+    (no_close _ none.0, none.1)
