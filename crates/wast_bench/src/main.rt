@@ -2,7 +2,7 @@
 #![tactic(auto)]
 
 ghost use Rattle.std.specs.Prelude.{◌<◌, ◌^◌, IfOk, length};
-ghost use Rattle.wast_parser_core.specs.Cursors.{Follows};
+ghost use Rattle.wast_parser.specs.Cursors.{Follows};
 
 use std::alloc::{AllocError, Global};
 use std::time::{Duration, Instant};

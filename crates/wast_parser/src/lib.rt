@@ -24,5 +24,5 @@ pub use wast_parser_base::{
 };
 pub use wast_parser_core::{
     Cursor, FixedInteger, Item, Keyword, KeywordName, LParen, Meaning, Parse, ParseBuffer, Parser,
-    Peek, RParen, parse,
+    Peek, RParen, WordSet, list_of, parse,
 };

@@ -12,3 +12,4 @@ pub mod IntegerLaws
 pub mod IndexLooks
 pub mod MarkLooks
 pub mod Wants
+pub mod WordSets

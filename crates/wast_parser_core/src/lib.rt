@@ -19,12 +19,15 @@ mod paren;
 mod parser;
 mod text;
 mod token;
+mod word_set;
 
 pub use buffer::ParseBuffer;
 pub use cursor::Cursor;
 pub use integer::FixedInteger;
 pub use keyword::{Keyword, KeywordName};
+pub use list::list_of;
 pub use meaning::{Item, Meaning, Parse, Peek};
 pub use paren::{LParen, RParen};
 pub use parser::{Parser, parse};
 pub use wast_parser_base::Error;
+pub use word_set::WordSet;

@@ -1,6 +1,6 @@
 //! A parser: the tokens of a text, and how many of them are taken.
-ghost use Rattle.std.specs.Prelude.{◌≡◌, ◌≢◌, ◌≤◌, ◌⊎◌, ℕ, [], ◌∷◌, Some, None, Ok, IfOk, IfErr, OnErr, length, true};
-ghost use Rattle.wast_parser_base.specs.Problem.{Said};
+ghost use Rattle.std.specs.Prelude.{◌≡◌, ◌≢◌, ◌≤◌, ◌⊎◌, ℕ, [], ◌∷◌, Some, None, Ok, IfOk, IfErr, OnErr, OnOk, length, true};
+ghost use Rattle.wast_parser_base.specs.Problem.{is_memory, Said};
 ghost use Rattle.wast_parser_core.specs.State.{State, start, ahead, knowing, past, Keeps, place_ahead, place_behind, stop};
 ghost use Rattle.wast_parser_core.specs.declared.cursor.Cursor.{Cursor};
 ghost use Rattle.wast_parser_core.specs.Reading.{out_of_memory, ReadsAll, ReadsNotAll, Gives, Asks, ShowsNext, IsStop, SaysAt, ends_here};
@@ -185,6 +185,17 @@ impl<'a> Parser<'a> {
         ensures { SaysAt message.now (place_ahead self.now) result }
     {
         self.error_at(self.cur_span(), message)
+    }
+
+    /// Whether the text ends here: refused where a significant token is left, or where none can be read.
+    pub fn end(&self) -> Result<(), Error>
+        ensures ends { OnOk result (ahead self.now ≡ []) }
+        ensures left { IfErr result (λ e. (is_memory e.cause ≡ true) ⊎ (ahead self.now ≢ [])) }
+    {
+        match self.next()? {
+            None => Ok(()),
+            Some(_) => Err(self.error("expected the end of the text")),
+        }
     }
 
     /// The next significant token, and how many tokens are taken with it.

@@ -1,0 +1,67 @@
+//! Words that have values.
+ghost use Rattle.std.specs.Prelude.{◌≡◌, ℕ, List, [], ◌∷◌, map, option_map, false};
+ghost use Rattle.wast_grammar.specs.Spelling.{find_but};
+ghost use Rattle.wast_grammar.specs.Look.{ask, On, AWord, OneOf};
+ghost use Rattle.wast_grammar.specs.Grammar.{among};
+ghost use Rattle.wast_parser_core.specs.State.{ahead, Keeps};
+ghost use Rattle.wast_parser_core.specs.Reading.{Gives, Asks};
+ghost use Rattle.wast_parser_core.specs.Cursors.{stands};
+
+use crate::cursor::Cursor;
+use crate::kind::is_keyword;
+use crate::parser::Parser;
+use wast_lexer::Span;
+use wast_parser_base::Error;
+
+/// A set of words with their values, as the mnemonics of instructions.
+pub trait WordSet: Sized + Drop {
+    /// What stands for a value in the grammar.
+    ghost Entry: { Type 0 };
+
+    ghost entry: { Self → Entry };
+
+    /// The word of each.
+    ghost word: { Entry → List ℕ };
+
+    /// All of them. Of two with one word the first counts.
+    ghost entries: { List Entry };
+
+    /// Words that are left out.
+    ghost but: { List (List ℕ) } = { [] };
+
+    /// The value whose word is written so.
+    fn of(text: &[u8]) -> Option<Self>
+        ensures { option_map Self.entry result ≡ find_but Self.word Self.entries Self.but text.now };
+}
+
+impl<'a> Parser<'a> {
+    /// Takes a word of a set; answers its value, and where it stands. Refused, with this message, where no word of the set
+    /// comes next.
+    pub fn among<T: WordSet>(&mut self, expected: &str) -> Result<(T, Span), Error>
+        ensures read { Gives (λ m. (T.entry m.0, m.1)) result self.new ((among T.word T.entries T.but).reads (ahead self.old)) }
+        ensures keeps { Keeps self.old self.new }
+    {
+        if let Some((token, after)) = self.next()?
+            && is_keyword(token.kind)
+            && let Some(value) = T::of(token.src(self.text()).as_bytes())
+        {
+            self.at = after;
+            return Ok((value, Span::from_offset(token.offset)));
+        }
+        Err(self.error(expected))
+    }
+}
+
+impl<'b, 'a> Cursor<'b, 'a> {
+    /// Whether a word of a set stands here.
+    pub fn peek_among<T: WordSet>(self) -> Result<bool, Error>
+        ensures { Asks result (stands self.entry).source (ask (On false AWord (OneOf (map T.word T.entries) T.but) ∷ []) (ahead (stands self.entry))) }
+    {
+        match self.token()? {
+            Some((token, _)) if is_keyword(token.kind) => {
+                Ok(T::of(token.src(self.parser.text()).as_bytes()).is_some())
+            }
+            _ => Ok(false),
+        }
+    }
+}
