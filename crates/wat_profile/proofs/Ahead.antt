@@ -6,6 +6,8 @@ use Rattle.std.proofs.Math.Seq.{drop-cons}
 use Rattle.std.proofs.lemmas.List.{drop_all, drop-map, drop-drop, take-append-drop, length-take-le, length-append, length-map}
 use Rattle.std.proofs.lemmas.Option.{slice_get_within, slice_get_cases, get_or_from_slice_get}
 use Rattle.wast_lexer.specs.declared.token.Token.{Token}
+use Rattle.wast_lexer.specs.declared.fault.LexFault.{LexFault}
+use Rattle.wast_lexer.specs.declared.fault.LexFault.TheVariants.{Lex, Memory as LexMemory}
 use Rattle.wast_lexer.specs.declared.token.TokenKind.TheVariants as kinds
 use Rattle.wast_lexer.specs.Groups.{IsGroupAt, paren_of, parens}
 use Rattle.wast_lexer.specs.Kinds.{IsAnnotationOf}
@@ -20,9 +22,8 @@ use Rattle.wast_grammar.specs.Significant.{token_of, is_trivia, is_lparen, begin
 use Rattle.wast_grammar.proofs.SignificantLaws.{cases_option, trivia_none, trivia_opens, after, passed}
 use Rattle.wast_grammar.proofs.TextLaws.{annotation_is}
 use Rattle.wat_profile.specs.Registered.{registered}
-use Rattle.wat_profile.specs.ParserState.{State, lexemes_from, ahead, IsNext, IsStop, Stops}
+use Rattle.wat_profile.specs.ParserState.{State, lexemes_from, ahead, IsNext, stop_of, Stops}
 use Rattle.wat_profile.specs.declared.parse_fault.ParseFault.{ParseFault}
-use Rattle.wat_profile.specs.declared.parse_fault.ParseFault.TheVariants as faults
 
 -- LISTS
 cell : {X : Type 0} (xs : List X) (i : ℕ) (x : X) → slice_get xs i ≡ Some x → drop i xs ≡ x ∷ drop (i + 1) xs
@@ -180,7 +181,10 @@ pub some_map : {A B : Type 0} (f : A → B) (o : Option A) → is_some (option_m
 some_map f None = refl
 some_map f (Some x) = refl
 
-pub stops : (fault : ParseFault) (s : State) → IsStop fault → ahead s ≡ Broken ∷ [] → Stops fault s
-stops faults.Memory s is e = tt
-stops (faults.Stopped offset error) s is e = e
-stops (faults.Refused offset expected) s is e = is
+stop_stops : (end : ℕ) (f : Option LexFault) (s : State) → ahead s ≡ Broken ∷ [] → Stops (stop_of end f) s
+stop_stops end None s e = e
+stop_stops end (Some LexMemory) s e = e
+stop_stops end (Some (Lex span error)) s e = e
+
+pub stops : (end : ℕ) (f : Option LexFault) (fault : ParseFault) (s : State) → fault ≡ stop_of end f → ahead s ≡ Broken ∷ [] → Stops fault s
+stops end f fault s is e = subst (λ z. Stops z s) (sym is) (stop_stops end f s e)

@@ -6,6 +6,8 @@ use Rattle.std.specs.declared.borrow.CowStr.{CowStr}
 use Rattle.wast_lexer.specs.Integer.{Integer as IntegerParts}
 use Rattle.wast_lexer.specs.NumberParts.{integer_sign, integer_digits, is_hexadecimal}
 use Rattle.wast_lexer.specs.declared.token.Token.{Token}
+use Rattle.wast_lexer.specs.declared.fault.LexFault.{LexFault}
+use Rattle.wast_lexer.specs.declared.fault.LexFault.TheVariants.{Lex, Memory as LexMemory}
 use Rattle.wast_lexer.specs.declared.token.TokenKind.{TokenKind}
 use Rattle.wast_lexer.specs.declared.token.TokenKind.TheVariants as kinds
 use Rattle.wast_lexer.specs.Lexeme.{Lexeme, lexeme_of}
@@ -74,11 +76,11 @@ Stops faults.Memory s = Unit {0}
 Stops (faults.Stopped offset error) s = ahead s ≡ Broken ∷ []
 Stops (faults.Refused offset expected) s = ⊥
 
--- the text can be read no further
-abbrev pub IsStop : ParseFault → Type 0
-IsStop faults.Memory = ⊥
-IsStop (faults.Stopped offset error) = Unit {0}
-IsStop (faults.Refused offset expected) = ⊥
+-- Why a text of this length can be read no further: the lexer's fault, or, at its end, a group that isn't closed.
+abbrev pub stop_of : ℕ → Option LexFault → ParseFault
+stop_of end None = faults.Stopped end None
+stop_of end (Some LexMemory) = faults.Stopped end None
+stop_of end (Some (Lex span error)) = faults.Stopped span (Some error)
 
 -- the next significant token, none at the end, or a fault where it can't be told
 abbrev pub ShowsNext : Result (Option (Token × ℕ)) ParseFault → State → Type 0
@@ -91,11 +93,11 @@ abbrev pub Asks : Result Bool ParseFault → Option Bool → Type 0
 Asks (Ok b) asked = asked ≡ Some b
 Asks (Err fault) asked = Refuses fault asked
 
--- a refusal tells what could stand there
-abbrev pub Tells : Expected → ParseFault → Type 0
-Tells expected faults.Memory = Unit {0}
-Tells expected (faults.Stopped offset error) = Unit {0}
-Tells expected (faults.Refused offset told) = told ≡ expected
+-- a refusal tells what could stand there, where the tokens can be told
+abbrev pub Tells : Expected → State → ParseFault → Type 0
+Tells expected s faults.Memory = Unit {0}
+Tells expected s (faults.Stopped offset error) = ahead s ≡ Broken ∷ []
+Tells expected s (faults.Refused offset told) = told ≡ expected
 
 -- What is returned, seen by view, with the tokens before the parser, is what reading gives.
 abbrev pub Gives : {X Y : Type 0} → (X → Y) → Result X ParseFault → State → Option (Y × List TextToken) → Type 0

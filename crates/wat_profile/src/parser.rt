@@ -1,5 +1,5 @@
 //! A parser: the tokens of a text, and how many of them are taken.
-ghost use Rattle.std.specs.Prelude.{◌≡◌, ◌+◌, [], ◌∷◌, Some, true, IfOk, IfErr, OnOk, MatchOption, ℕ, is_some, slice_get};
+ghost use Rattle.std.specs.Prelude.{◌≡◌, ◌+◌, [], ◌∷◌, Some, true, IfOk, IfErr, OnOk, MatchOption, ℕ, is_some, length, slice_get};
 ghost use Rattle.std.specs.Cow.{cow_str_bytes};
 ghost use Rattle.std.specs.List.{All};
 ghost use Rattle.wast_lexer.specs.declared.token.TokenKind.TheVariants as kinds;
@@ -10,7 +10,7 @@ ghost use Rattle.wast_grammar.specs.Spelling.{any_is, that_open, that_close};
 ghost use Rattle.wast_grammar.specs.Significant.{is_trivia, is_lparen, begins_unknown};
 ghost use Rattle.wast_grammar.specs.Look.{ask, this_group};
 ghost use Rattle.wast_grammar.specs.Grammar.{word, one_of};
-ghost use Rattle.wat_profile.specs.ParserState.{State, IsTextOf, ahead, lexemes_from, literal_of, Asks, Gives, IsLeft, IsStop, is_keyword, Keeps, ShowsNext, Tells};
+ghost use Rattle.wat_profile.specs.ParserState.{State, IsTextOf, ahead, lexemes_from, literal_of, Asks, Gives, IsLeft, is_keyword, Keeps, ShowsNext, stop_of, Tells};
 ghost use Rattle.wat_profile.specs.Registered.{registered};
 ghost use Rattle.wat_profile.specs.Syntax.{instruction_starts, i32_literal, mnemonic, name};
 ghost use Rattle.wat_profile.specs.TreeViews.{entry_of};
@@ -128,7 +128,7 @@ impl<'a, 't> Parser<'a, 't> {
     /// Takes this word, or tells what is expected.
     pub fn word(&mut self, name: &str, expected: Expected) -> Result<Span, ParseFault>
         ensures read { Gives (λ s. s) result self.new ((word name.now).reads (ahead self.old)) }
-        ensures told { IfErr result (Tells expected) }
+        ensures told { IfErr result (Tells expected self.old) }
         ensures keeps { Keeps self.old self.new }
     {
         match self.next()? {
@@ -227,7 +227,7 @@ impl<'a, 't> Parser<'a, 't> {
 
     /// That this is expected where the next significant token begins, or where the text ends; or why that can't be told.
     fn refused(&self, expected: Expected) -> ParseFault
-        ensures { Tells expected result }
+        ensures { Tells expected self.now result }
     {
         let offset = match self.next() {
             Ok(Some((token, _))) => token.offset,
@@ -284,7 +284,7 @@ impl<'a, 't> Parser<'a, 't> {
 
     /// The fault behind the last token that can be told: the lexer's, or that a group isn't closed.
     fn stopped(&self) -> ParseFault
-        ensures { IsStop result }
+        ensures { result ≡ stop_of (length self.now.text) self.now.table.fault }
     {
         match self.table.fault() {
             Some(LexFault::Lex { span, error }) => ParseFault::Stopped {

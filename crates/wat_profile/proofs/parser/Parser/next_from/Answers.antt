@@ -40,7 +40,7 @@ returns-in-None c =
     let is = lparen_kind c.in-Some.token.kind (sym c.is_lparen.ensures ∙ c.if-is_lparen.true) in
     let d = sym c.in_ok-begins_unknown.ensures ∙ c.if-branch.true in
     let none = subst (λ (s : State). (end : ℕ) → ¬ IsGroupAt (parens s.table.tokens) i end) c.self.view_is c.in-None.ensures in
-    stops c.stopped.result (record s { at = c.args.from }) c.stopped.ensures (sym c.tokens.invariant ∙ ahead_open s i c.in-Some.token got is d none)
+    stops _ _ c.stopped.result (record s { at = c.args.from }) c.stopped.ensures (sym c.tokens.invariant ∙ ahead_open s i c.in-Some.token got is d none)
 
 pub tokens-preserved : goal.tokens-preserved
 tokens-preserved c =
@@ -78,7 +78,7 @@ returns-then-is_some c =
     let s = c.args.self.now in
     let got = ap (λ (s : State). slice_get s.table.tokens c.tokens.at) (sym c.self.view_is) ∙ sym c.in_default.ensures in
     let fault = ap (λ (s : State). is_some s.table.fault) (sym c.self.view_is) ∙ ap is_some (sym c.fault.ensures) ∙ some_map _ c.fault.result ∙ sym c.is_some.ensures ∙ c.if-is_some.true in
-    stops c.stopped-then-is_some.result (record s { at = c.args.from }) c.stopped-then-is_some.ensures (sym c.tokens.invariant ∙ ahead_stopped s c.tokens.at got fault)
+    stops _ _ c.stopped-then-is_some.result (record s { at = c.args.from }) c.stopped-then-is_some.ensures (sym c.tokens.invariant ∙ ahead_stopped s c.tokens.at got fault)
 
 pub returns : goal.returns
 returns c =
