@@ -4,6 +4,8 @@ use Rattle.wast_lexer.specs.declared.token.Token.{Token}
 use Rattle.wast_parser_core.specs.declared.cursor.Cursor.{Cursor}
 use Rattle.wast_parser_base.specs.Problem.{Problem}
 use Rattle.wast_parser_core.specs.State.{State, ahead, IsNext}
+use Rattle.wast_lexer.specs.Float.{Float as FloatParts}
+use Rattle.wast_lexer.specs.NumberParts.{IsFloatOf}
 use Rattle.wast_grammar.specs.Tokens.{SignificantToken, Literal, Id, Word, Mark, Integer, Float, Text, Reserved}
 use Rattle.wast_grammar.specs.Significant.{TextToken}
 use Rattle.wast_grammar.specs.Look.{Shape, same_shape}
@@ -70,6 +72,12 @@ abbrev pub Takes : {X Y : Type 0} → (X → Y) → (TextToken → Option Y) →
 Takes view f c (Ok (Some (x, d))) = TakesOne f c (view x) d
 Takes view f c (Ok None) = TakesNone f c
 Takes view f c (Err p) = Stops p (stands c)
+
+-- the same of a float, which is answered in its parts
+abbrev pub TakesFloat : Cursor → Result (Option (FloatParts × Cursor)) Problem → Type 0
+TakesFloat c (Ok (Some (x, d))) = (w : List ℕ) × IsFloatOf w x × TakesOne said_float c w d
+TakesFloat c (Ok None) = TakesNone said_float c
+TakesFloat c (Err p) = Stops p (stands c)
 
 -- the same, where memory may be wanted
 abbrev pub Copies : {X Y : Type 0} → (X → Y) → (TextToken → Option Y) → Cursor → Result (Option (X × Cursor)) Problem → Type 0

@@ -3,7 +3,7 @@ ghost use Rattle.std.specs.Prelude.{◌≡◌, [], ◌∷◌, false};
 ghost use Rattle.wast_grammar.specs.Look.{ask, On, Opening, AClose, AnId, AReserved, AWord, AnInteger, AFloat, AString, Any, this_word, this_group};
 ghost use Rattle.wast_parser_core.specs.State.{ahead, place_ahead};
 ghost use Rattle.wast_parser_core.specs.Reading.{Asks, SaysAt};
-ghost use Rattle.wast_parser_core.specs.Cursors.{stands, GivesToken, FindsKind, Takes, Passes, Copies, TakesId, said_word, said_reserved, said_integer, said_text, said_mark};
+ghost use Rattle.wast_parser_core.specs.Cursors.{stands, GivesToken, FindsKind, Takes, Passes, Copies, TakesFloat, TakesId, said_word, said_reserved, said_integer, said_text, said_mark};
 ghost use Rattle.wast_parser_core.specs.Kinds.{wanted};
 ghost use Rattle.wast_parser_core.specs.Literals.{literal_of};
 ghost use Rattle.std.specs.Cow.{cow_str_bytes};
@@ -14,7 +14,7 @@ use crate::parser::Parser;
 use std::alloc::Global;
 use std::borrow::CowStr;
 use wasm_encoder_base::Bytes;
-use wast_lexer::{Integer, Span, Token, TokenKind};
+use wast_lexer::{Float, Integer, Span, Token, TokenKind};
 use wast_parser_base::Error;
 
 /// A place among the tokens of a parser.
@@ -204,6 +204,19 @@ impl<'b, 'a> Cursor<'b, 'a> {
         match self.take(Wanted::Integer)? {
             Some((token, rest)) => match token.kind {
                 TokenKind::Integer(kind) => Ok(Some((self.parser.integer(token, kind), rest))),
+                _ => unreachable!(),
+            },
+            None => Ok(None),
+        }
+    }
+
+    /// Takes a float; answers its parts. An integer is none.
+    pub fn float(self) -> Result<Option<(Float<'a>, Cursor<'b, 'a>)>, Error>
+        ensures { TakesFloat self.entry result }
+    {
+        match self.take(Wanted::Float)? {
+            Some((token, rest)) => match token.kind {
+                TokenKind::Float(kind) => Ok(Some((token.float(self.parser.text(), kind), rest))),
                 _ => unreachable!(),
             },
             None => Ok(None),

@@ -1,4 +1,25 @@
 //! The core of a parser of annotated S-expressions, over the tokens of a text (WebAssembly Core Specification 3.0, 6.2).
+//!
+//! A [`ParseBuffer`] keeps the tokens of a text, and [`parse()`] reads all of it as one value. A [`Parser`] stands among these
+//! tokens and is shown those that are significant: no white space, no comments, and no groups of annotations whose names
+//! aren't registered, which are passed as a whole. A [`Cursor`] is a place among them, from which tokens are taken without
+//! the parser being moved ([`Parser::step`]).
+//!
+//! [`Meaning`] says what the grammar sees of a type, [`Parse`] that it is read exactly where its syntax is, [`Peek`] how one is
+//! looked for, and [`Item`] that it can be repeated ([`list_of`]). The law of a syntax, that what is read is spelled and what is
+//! spelled is read, is a function of `Meaning`; those of `Option<T>`, `Box<T>` and [`Keyword`] rest on their parameter alone.
+//!
+//! # What has to be believed
+//!
+//! | File of `specs/` | Says |
+//! |---|---|
+//! | `State` | what a parser holds, which tokens are before it, where it stands, and why tokens end |
+//! | `Reading` | what its calls answer, and when they refuse |
+//! | `Cursors`, `Kinds` | what the calls of a cursor look at and take |
+//! | `Literals`, `Productions` | ranges of integers, names |
+//!
+//! An error that tells of want of memory has no place. All others stand where reading was refused, or where no token can be
+//! read.
 #![tactic(auto)]
 
 mod annotation;

@@ -1,0 +1,24 @@
+use Rattle.std.proofs.Common.{subst, sym, ◌∙◌, ap, Ok, Some, arith}
+use Rattle.wast_lexer.specs.NumberParts.{IsFloatOf}
+use Rattle.wast_lexer.specs.TokenText.{text_of}
+use Rattle.wast_parser_core.specs.State.{State, ahead}
+use Rattle.wast_parser_core.specs.Kinds.{wanted}
+use Rattle.wast_parser_core.specs.Cursors.{stands, FindsKind}
+use Rattle.wast_parser_core.specs.declared.kind.Wanted.TheVariants.{Float}
+use Rattle.wast_parser_core.proofs.Wants.{next_float, no_float}
+use Rattle.wast_parser_core.proofs.cursor.Cursor.float.Goals as goal
+
+pub returns-in-None : goal.returns-in-None
+returns-in-None c =
+    let none = subst (λ o. FindsKind (wanted Float) c.args.self (Ok o)) c.in-None.is c.in_ok-token.ensures in
+    (no_float _ none.0, none.1)
+
+pub returns-in-Float : goal.returns-in-Float
+returns-in-Float c =
+    let s = stands c.args.self in
+    let t = c.in-Some.token in
+    let d = c.in-Some.rest in
+    let next = subst (λ o. FindsKind (wanted Float) c.args.self (Ok o)) c.in-Some.is c.in_ok-token.ensures in
+    let is = subst (λ x. IsFloatOf (text_of x t) c.float.result) c.text.ensures c.float.ensures in
+    let low = next.0.onward in
+    (text_of s.source.text t, is, (next_float s t d.at next.0 next.2 ∙ ap (λ (z : State). Some (text_of s.source.text t, ahead (record z { at = d.at }))) (sym next.1), record { same = next.1; onward = omega (arith, low) }))
