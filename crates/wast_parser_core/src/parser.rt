@@ -1,5 +1,5 @@
 //! A parser: the tokens of a text, and how many of them are taken.
-ghost use Rattle.std.specs.Prelude.{◌≡◌, ◌≢◌, ◌≤◌, ◌⊎◌, ℕ, [], ◌∷◌, Some, None, Ok, IfOk, IfErr, OnErr, OnOk, length, true};
+ghost use Rattle.std.specs.Prelude.{◌≡◌, ◌≢◌, ◌≤◌, ◌⊎◌, ℕ, [], ◌∷◌, Some, None, Ok, IfOk, IfErr, OnErr, OnOk, length, true, Err};
 ghost use Rattle.wast_parser_base.specs.Problem.{is_memory, Said};
 ghost use Rattle.wast_parser_core.specs.State.{State, start, ahead, knowing, past, Keeps, place_ahead, place_behind, stop};
 ghost use Rattle.wast_parser_core.specs.declared.cursor.Cursor.{Cursor};
@@ -122,11 +122,16 @@ impl<'a> Parser<'a> {
         ensures ok { IfOk result (λ value. (c d : Cursor) × (stands c ≡ self.old) × (stands d ≡ self.new) × F.post f c (Ok (value, d))) }
         ensures keeps { Keeps self.old self.new }
         ensures refused { OnErr result (self.new ≡ self.old) }
+        ensures why { IfErr result (λ e. (c : Cursor) × (stands c ≡ self.old) × F.post f c (Err e)) }
     {
-        let (value, rest) = f(self.cursor())?;
-        let at = rest.at;
-        self.at = at;
-        Ok(value)
+        match f(self.cursor()) {
+            Ok((value, rest)) => {
+                let at = rest.at;
+                self.at = at;
+                Ok(value)
+            }
+            Err(e) => Err(e),
+        }
     }
 
     /// Whether no token is left in this group.
