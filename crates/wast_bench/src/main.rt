@@ -72,7 +72,13 @@ fn measure_lexer(rt: &HostRuntime, text: &str) -> io::Result<()>
 
     let start = Instant::now(rt)?;
     let table = TokenTable::new(rt.alloc(), lexer)?;
-    print_speed(rt, "lexer with table", text, table.len(), start.elapsed(rt)?)
+    print_speed(
+        rt,
+        "lexer with table",
+        text,
+        table.len(),
+        start.elapsed(rt)?,
+    )
 }
 
 fn measure_parser(rt: &HostRuntime, text: &str) -> io::Result<()>

@@ -1,5 +1,7 @@
 //! What the parser reads of a text.
 
+use std::alloc::Global;
+use std::borrow::CowStr;
 use std::io;
 use wast_parser::{Error, Id, ParseBuffer, Parser, parse};
 
@@ -60,8 +62,8 @@ fn read_as(rt: HostRuntime, kind: &str, buffer: &ParseBuffer<'_>) -> io::Result<
             Err(error) => refused(rt, &error),
         }
     } else if kind == "string" {
-        match parse::<String>(buffer) {
-            Ok(text) => println!(rt; "{text}"),
+        match parse::<CowStr<'_, Global>>(buffer) {
+            Ok(text) => println!(rt; "{}", text.as_str()),
             Err(error) => refused(rt, &error),
         }
     } else {

@@ -40,7 +40,8 @@ fn many_comments(rt: HostRuntime) -> Result<(), Fail> {
 
 #[test]
 fn refused_growths_of_a_binary(rt: HostRuntime) -> Result<(), Fail> {
-    let text = b"(module (@\"\\61\") (func (export \"a\") nop i32.const 1 drop) (func (export \"\\62\")))";
+    let text =
+        b"(module (@\"\\61\") (func (export \"a\") nop i32.const 1 drop) (func (export \"\\62\")))";
     match assemble(rt.alloc(), text) {
         Ok(binary) => assert_eq!(rt; binary.len(), 43),
         Err(fault) => {
