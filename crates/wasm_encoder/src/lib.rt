@@ -8,7 +8,7 @@
 //! the section's number: the size, the count where there is one, and the items. `len`, `is_empty`, `byte_len` and `finish`
 //! take no memory.
 //!
-//! A module that exports the function `f`, which adds two numbers (the program `first_module` in `examples/` writes it):
+//! A module that exports the function `f`, which adds two numbers (the program `first_module` writes it):
 //!
 //! ```
 //! let mut types = TypeSection::new(alloc);
