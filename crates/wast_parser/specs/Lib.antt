@@ -27,3 +27,4 @@ pub use Rattle.wast_parser_core.specs.Marks
 pub use Rattle.wast_parser_core.specs.Productions
 pub use Rattle.wast_parser_core.specs.Reading
 pub use Rattle.wast_parser_core.specs.State
+pub use Rattle.wast_parser_core.specs.Comments

@@ -13,3 +13,4 @@ pub mod IndexLooks
 pub mod MarkLooks
 pub mod Wants
 pub mod WordSets
+pub mod Comments

@@ -7,3 +7,4 @@ pub mod Productions
 pub mod Integers
 pub mod Identifiers
 pub mod Marks
+pub mod Comments

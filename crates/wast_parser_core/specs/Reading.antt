@@ -40,6 +40,11 @@ abbrev pub Asks : Result Bool Problem → Source → Option Bool → Type 0
 Asks (Ok b) source asked = asked ≡ Some b
 Asks (Err p) source asked = (asked ≡ None) × IsStop p source
 
+-- The same, where a name is kept, for which memory may be wanted.
+abbrev pub LooksFor : Result Bool Problem → Source → Option Bool → Type 0
+LooksFor (Ok b) source asked = asked ≡ Some b
+LooksFor (Err p) source asked = (p ≡ out_of_memory) ⊎ ((asked ≡ None) × IsStop p source)
+
 -- the problem has this message and place, or there was no memory for it
 abbrev pub SaysAt : List ℕ → ℕ → Problem → Type 0
 SaysAt text place p = (p ≡ out_of_memory) ⊎ (p ≡ record { place = place; cause = Said text; lines = None })

@@ -24,6 +24,7 @@
 
 mod annotation;
 mod buffer;
+mod comment;
 mod cursor;
 mod group;
 mod identifier;
@@ -33,6 +34,7 @@ mod kind;
 mod list;
 mod literal;
 mod look;
+mod lookahead;
 mod meaning;
 mod name_annotation;
 mod option;
@@ -47,6 +49,7 @@ pub use cursor::Cursor;
 pub use integer::FixedInteger;
 pub use keyword::{Keyword, KeywordName};
 pub use list::list_of;
+pub use lookahead::Lookahead1;
 pub use meaning::{Item, Meaning, Parse, Peek};
 pub use paren::{LParen, RParen};
 pub use parser::{Parser, parse};

@@ -246,7 +246,7 @@ fn error_at(alloc: Global, span: Span, message: &str) -> Error
 
 /// Why no token can be read where the tokens of a text end, or where a group that isn't closed is dropped; or want of memory
 /// for the message.
-fn stopped(buffer: &ParseBuffer<'_>) -> Error
+pub(crate) fn stopped(buffer: &ParseBuffer<'_>) -> Error
     ensures { IsStop result buffer.now }
 {
     match buffer.fault() {

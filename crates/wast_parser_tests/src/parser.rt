@@ -2,7 +2,7 @@
 
 use std::alloc::Global;
 use std::test::Fail;
-use wast_parser::{Error, LParen, ParseBuffer, Parser};
+use wast_parser::{Error, Id, LParen, ParseBuffer, Parser, RParen};
 
 /// How a test ends where a call is refused: it fails by its result.
 fn failed(error: Error) -> Fail {
@@ -68,6 +68,24 @@ fn ample_error(rt: HostRuntime) -> Result<(), Fail> {
     let buffer = buffer(rt.alloc(), " x")?;
     let error = Parser::new(&buffer).error("expected y");
     assert_eq!(rt; error.message(rt.alloc())?.as_str(), "expected y");
+    assert_eq!(rt; error.span().offset(), 1);
+    Ok(())
+}
+
+/// The error names what was looked for.
+#[test]
+fn ample_lookahead(rt: HostRuntime) -> Result<(), Fail> {
+    let buffer = buffer(rt.alloc(), " )")?;
+    let parser = Parser::new(&buffer);
+    let mut lookahead = parser.lookahead1();
+    assert!(rt; !lookahead.peek::<LParen>().map_err(failed)?);
+    assert!(rt; lookahead.peek::<RParen>().map_err(failed)?);
+    assert!(rt; !lookahead.peek::<Id>().map_err(failed)?);
+    let error = lookahead.error();
+    assert_eq!(rt;
+        error.message(rt.alloc())?.as_str(),
+        "expected one of: `(`, an identifier"
+    );
     assert_eq!(rt; error.span().offset(), 1);
     Ok(())
 }

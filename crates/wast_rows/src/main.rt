@@ -9,6 +9,7 @@
 //! - `read TYPE TEXT`: the text, read as one of a type (`i8`, `u8`, `i64`, `u64`, `string`), or where it is refused;
 //! - `looks TEXT`: whether an identifier stands in front: as it is, with annotations `a` registered, and with that taken
 //!   back; or where the text can't be read;
+//! - `comment TEXT`: the comment in front of the text, behind white space alone, or that there is none;
 //! - `errors`: the text of each lexical error.
 #![tactic(auto)]
 
@@ -45,6 +46,8 @@ fn answer(rt: HostRuntime, line: &str) -> io::Result<()> {
         parser::read(rt, text.as_str())
     } else if word == "looks" {
         parser::looks(rt, text.as_str())
+    } else if word == "comment" {
+        parser::comment(rt, text.as_str())
     } else if word == "errors" {
         lexer::errors(rt)
     } else {

@@ -1,9 +1,11 @@
 //! What the parser reads of a text.
+ghost use Rattle.std.specs.Prelude.{IfOk};
+ghost use Rattle.wast_parser.specs.Cursors.{Follows};
 
 use std::alloc::Global;
 use std::borrow::CowStr;
 use std::io;
-use wast_parser::{Error, Id, ParseBuffer, Parser, parse};
+use wast_parser::{Cursor, Error, Id, ParseBuffer, Parser, parse};
 
 /// Prints what a text is, read as one of a type, which stands before it.
 pub fn read(rt: HostRuntime, words: &str) -> io::Result<()> {
@@ -38,6 +40,30 @@ fn looks_for_id(buffer: &ParseBuffer<'_>) -> Result<(bool, bool, bool), Error> {
     let registered = parser.peek::<Id>()?;
     parser.unregister_annotation("a");
     Ok((before, registered, parser.peek::<Id>()?))
+}
+
+/// Prints the comment in front of a text, or that there is none.
+pub fn comment(rt: HostRuntime, text: &str) -> io::Result<()> {
+    if 4_294_967_295 < text.len() {
+        return println!(rt; "too long");
+    }
+    match ParseBuffer::new(rt.alloc(), text) {
+        Ok(buffer) => match Parser::new(&buffer).step(front_comment) {
+            Ok(Some(comment)) => println!(rt; "{comment}"),
+            Ok(None) => println!(rt; "none"),
+            Err(error) => refused(rt, &error),
+        },
+        Err(_) => println!(rt; "no tokens"),
+    }
+}
+
+fn front_comment<'b, 'a>(cursor: Cursor<'b, 'a>) -> Result<(Option<&'a str>, Cursor<'b, 'a>), Error>
+    ensures { IfOk result (λ taken. Follows cursor.entry taken.1) }
+{
+    match cursor.comment()? {
+        Some((comment, rest)) => Ok((Some(comment), rest)),
+        None => Ok((None, cursor)),
+    }
 }
 
 fn read_as(rt: HostRuntime, kind: &str, buffer: &ParseBuffer<'_>) -> io::Result<()> {
