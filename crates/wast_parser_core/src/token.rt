@@ -1,12 +1,12 @@
 //! Single tokens.
-ghost use Rattle.std.specs.Prelude.{◌≡◌, [], Some, MatchResult, true};
+ghost use Rattle.std.specs.Prelude.{◌≡◌, ◌++◌, [], Some, MatchResult, true, codes};
 ghost use Rattle.std.specs.Cow.{cow_str_bytes};
 ghost use Rattle.wast_lexer.specs.declared.token.TokenKind.TheVariants as kinds;
 ghost use Rattle.wast_lexer.specs.TokenText.{IsOf, text_of};
 ghost use Rattle.wast_grammar.specs.Tokens.{literal, string_value};
 ghost use Rattle.wast_grammar.specs.Grammar.{word, mark, id, string};
-ghost use Rattle.wast_parser_core.specs.State.{ahead, Keeps};
-ghost use Rattle.wast_parser_core.specs.Reading.{out_of_memory, Gives};
+ghost use Rattle.wast_parser_core.specs.State.{ahead, Keeps, place_ahead};
+ghost use Rattle.wast_parser_core.specs.Reading.{out_of_memory, Gives, SaysAt};
 ghost use Rattle.wast_parser_core.specs.Literals.{literal_of, literal_from, IsTextOf};
 ghost use Rattle.wast_parser_core.specs.Productions.{ranged, name};
 
@@ -31,7 +31,17 @@ impl<'a> Parser<'a> {
                 self.at = after;
                 Ok(Span::from_offset(token.offset))
             }
-            _ => Err(self.error("expected another word")),
+            _ => Err(self.expected_word(text)),
+        }
+    }
+
+    /// An error that this word is expected where the next token stands.
+    fn expected_word(&self, text: &str) -> Error
+        ensures { SaysAt (codes "expected `" ++ text.now ++ codes "`") (place_ahead self.now) result }
+    {
+        match format!(in self.alloc(); "expected `{text}`") {
+            Ok(message) => Error::new(self.cur_span(), message),
+            Err(_) => Error::memory(),
         }
     }
 
@@ -78,13 +88,14 @@ impl<'a> Parser<'a> {
     {
         match self.next()? {
             Some((token, after)) => {
-                if let TokenKind::Integer(kind) = token.kind
-                    && let Some(number) = number_of(self.integer(token, kind), most, least)
-                {
-                    self.at = after;
-                    return Ok((number, Span::from_offset(token.offset)));
+                if let TokenKind::Integer(kind) = token.kind {
+                    if let Some(number) = number_of(self.integer(token, kind), most, least) {
+                        self.at = after;
+                        return Ok((number, Span::from_offset(token.offset)));
+                    }
+                    return Err(self.error("integer out of range"));
                 }
-                Err(self.error("expected an integer of another range"))
+                Err(self.error("expected an integer"))
             }
             None => Err(self.error("expected an integer")),
         }
