@@ -92,7 +92,10 @@ fn measure_parser(rt: &HostRuntime, text: &str) -> io::Result<()>
     print_speed(rt, "tokens taken by step", text, count, start.elapsed(rt)?)?;
 
     let start = Instant::now(rt)?;
-    let read = parse_text(rt.alloc(), text).is_ok();
+    let Ok(buffer) = ParseBuffer::new(rt.alloc(), text) else {
+        return println!(rt; "out of memory");
+    };
+    let read = parse_text(&buffer).is_ok();
     let spent = start.elapsed(rt)?;
     let bytes = speed(text.len(), spent);
     println!(rt; "text to tree, with its table: {bytes} MB/s, read: {read}")

@@ -1,20 +1,24 @@
 -- What the parts of `assemble` answer is what the input deserves.
-use Rattle.std.proofs.Common.{ℕ, ◌≡◌, ◌<◌, ◌^◌, List, length, refl, ap, arith}
+use Rattle.std.proofs.Common.{ℕ, ◌≡◌, ◌<◌, ◌^◌, true, false, inl, inr, List, length, refl, sym, ◌∙◌, ap, arith}
 use Rattle.std.specs.Str.{IsUtf8}
 use Rattle.wat.specs.declared.fault.Fault.{Fault}
 use Rattle.wat.specs.declared.fault.Fault.TheVariants as faults
-use Rattle.wast_parser_base.specs.Problem.{Problem}
+use Rattle.wast_parser.specs.Problem.{Problem, is_memory}
 use Rattle.wat_profile.specs.Tree.{Module}
 use Rattle.wat_profile.specs.StandsFor.{meant}
 use Rattle.wat_profile.specs.Means.{Spells}
+use Rattle.wat_profile.specs.Unspelled.{IsUnspelled}
 use Rattle.wat_profile.specs.Layout.{Lays, Fits}
 use Rattle.wat.specs.Headline.{NotUtf8, Fails, Accepts, Assembles, Deserves}
 use Rattle.wat.specs.NoText.{IsNoText}
 use Rattle.wat.proofs.Verdict.{one_condition}
 
 -- a text that spells no tree
-pub misspelled : (bytes : List ℕ) (error : Problem) → length bytes < 2 ^ 32 → IsUtf8 bytes → ((tree : Module (List ℕ) ℕ) → ¬ (Spells bytes tree)) → Deserves bytes (faults.Spelling error)
-misspelled bytes error short utf8 none = (short, utf8, none)
+pub misspelled : (bytes : List ℕ) (error : Problem) → length bytes < 2 ^ 32 → IsUtf8 bytes → is_memory error.cause ≡ false → IsUnspelled bytes error → Deserves bytes (faults.Spelling error)
+misspelled bytes error short utf8 m u = elim u [
+  | inl t ↦ (let e : true ≡ false = sym t ∙ m in absurd (cc))
+  | inr none ↦ (short, utf8, none)
+]
 
 pub no_text : (bytes : List ℕ) (f : Fault) → IsNoText bytes f → Deserves bytes f
 no_text bytes faults.TooLong t = t

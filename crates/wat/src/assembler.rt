@@ -8,7 +8,8 @@ ghost use Rattle.wat.specs.NoText.{IsNoText};
 use crate::fault::Fault;
 use std::alloc::Global;
 use wasm_encoder_base::EncodeError;
-use wat_profile::{TextFault, encode, parse_text};
+use wast_parser::ParseBuffer;
+use wat_profile::{encode, parse_text};
 
 /// The binary of the module that a text spells.
 ///
@@ -25,10 +26,14 @@ pub fn assemble(alloc: Global, input: &[u8]) -> Result<Vec<u8>, Fault>
         Ok(text) => text,
         Err(fault) => return Err(fault),
     };
-    let module = match parse_text(alloc, text) {
+    let buffer = match ParseBuffer::new(alloc, text) {
+        Ok(buffer) => buffer,
+        Err(_) => return Err(Fault::Memory),
+    };
+    let module = match parse_text(&buffer) {
         Ok(module) => module,
-        Err(TextFault::Misspelled(error)) => return Err(Fault::Spelling(error)),
-        Err(TextFault::Memory) => return Err(Fault::Memory),
+        Err(error) if error.is_memory() => return Err(Fault::Memory),
+        Err(error) => return Err(Fault::Spelling(error)),
     };
     match encode(alloc, &module) {
         Ok(binary) => Ok(binary),

@@ -1,17 +1,18 @@
 -- The laws of the syntax of modules: each mirrors its production.
-use Rattle.std.proofs.Common.{◌≡◌, ℕ, true, List, [], length, ◌<◌, Some, refl}
+use Rattle.std.proofs.Common.{true, [], Some, refl}
+use Rattle.std.specs.Prelude.{◌-◌, ◌^◌}
 use Rattle.wasm_encoder_base.specs.Table.{OperandSyntax}
 use Rattle.wasm_encoder_base.specs.Table as rows
-use Rattle.wast_grammar.specs.Tokens.{SignificantToken}
-use Rattle.wast_grammar.specs.Grammar.{wide}
-use Rattle.wast_grammar.proofs.GrammarLaws.{Lawful, word_laws, among_laws, integer_laws, string_laws, nothing_laws, seen_laws, seq_laws, next_laws, only_laws, many_laws, group_laws, paren_laws, bound_laws, shrinks}
-use Rattle.wat_profile.specs.Tree.{Func, Instruction}
+use Rattle.wast_parser.specs.Grammar.{wide}
+use Rattle.wast_parser.specs.Integers.{signed}
+use Rattle.wast_parser.proofs.GrammarLaws.{Lawful, word_laws, among_laws, nothing_laws, seen_laws, seq_laws, next_laws, many_laws, led_laws, paren_laws, bound_laws}
+use Rattle.wast_parser.proofs.IntegerLaws.{number_laws, name_laws}
 use Rattle.wat_profile.specs.KnownMnemonics.{known_entries}
-use Rattle.wat_profile.specs.Syntax.{i32_literal, operands, mnemonic, instruction, row_starts, row_stops, name, export, func, module_syntax}
+use Rattle.wat_profile.specs.Syntax.{i32_literal, operands, mnemonic, instruction, row_starts, row_stops, export_body, export, func_body, func, module_body, module_syntax}
 
 module _ {N P : Type 0} where
   pub i32_laws : Lawful (i32_literal {N = N} {P = P})
-  i32_laws = seen_laws _ _ (only_laws _ _ integer_laws)
+  i32_laws = seen_laws _ _ (number_laws (2 ^ 32 - 1) (Some (2 ^ 31)) (signed (2 ^ 31)))
 
   operands_laws : (r : OperandSyntax) → Lawful (operands {N = N} {P = P} r)
   operands_laws rows.I32 = seen_laws _ _ i32_laws
@@ -28,24 +29,20 @@ module _ {N P : Type 0} where
   pub instruction_laws : Lawful (instruction {N = N} {P = P})
   instruction_laws = seen_laws _ _ (next_laws mnemonic (λ e. operands e.0.operands) row_starts true row_stops mnemonic_laws (λ e. bounded_laws e.0.operands) refl)
 
-  name_laws : Lawful (name {N = N} {P = P})
-  name_laws = only_laws _ _ string_laws
+  pub export_body_laws : Lawful (export_body {N = N} {P = P})
+  export_body_laws = led_laws _ _ name_laws
 
   pub export_laws : Lawful (export {N = N} {P = P})
-  export_laws = group_laws _ _ name_laws refl
+  export_laws = paren_laws export_body export_body_laws refl refl
+
+  pub func_body_laws : Lawful (func_body {N = N} {P = P})
+  func_body_laws = seen_laws _ _ (seq_laws _ _ (word_laws _) (seq_laws _ _ (many_laws _ _ export_laws refl refl refl refl refl) (many_laws _ _ instruction_laws refl refl refl refl refl) refl) refl)
 
   pub func_laws : Lawful (func {N = N} {P = P})
-  func_laws = paren_laws _ (seen_laws _ _ (seq_laws _ _ (word_laws _) (seq_laws _ _ (many_laws _ _ export_laws refl refl refl refl refl) (many_laws _ _ instruction_laws refl refl refl refl refl) refl) refl)) refl refl
+  func_laws = paren_laws func_body func_body_laws refl refl
+
+  pub module_body_laws : Lawful (module_body {N = N} {P = P})
+  module_body_laws = seen_laws _ _ (seq_laws _ _ (word_laws _) (many_laws _ _ func_laws refl refl refl refl refl) refl)
 
   pub module_laws : Lawful (module_syntax {N = N} {P = P})
-  module_laws = paren_laws _ (seen_laws _ _ (seq_laws _ _ (word_laws _) (many_laws _ _ func_laws refl refl refl refl refl) refl)) refl refl
-
-  -- what a repeat repeats takes a token
-  pub instruction_shrinks : (ts : List (SignificantToken N P)) (x : Instruction N P × List (SignificantToken N P)) → instruction.reads ts ≡ Some x → length x.1 < length ts
-  instruction_shrinks = shrinks instruction instruction_laws refl refl
-
-  pub export_shrinks : (ts : List (SignificantToken N P)) (x : List ℕ × List (SignificantToken N P)) → export.reads ts ≡ Some x → length x.1 < length ts
-  export_shrinks = shrinks export export_laws refl refl
-
-  pub func_shrinks : (ts : List (SignificantToken N P)) (x : Func N P × List (SignificantToken N P)) → func.reads ts ≡ Some x → length x.1 < length ts
-  func_shrinks = shrinks func func_laws refl refl
+  module_laws = paren_laws module_body module_body_laws refl refl

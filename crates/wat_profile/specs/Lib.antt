@@ -3,7 +3,6 @@ pub mod Encoding
 pub mod KnownMnemonics
 pub mod Layout
 pub mod Means
-pub mod ParserState
 pub mod Parts
 pub mod Registered
 pub mod StandsFor

@@ -1,28 +1,18 @@
 -- The syntax of modules (WebAssembly 3.0, 6).
-use Rattle.std.specs.Prelude.{ℕ, ℤ, pos, ◌-ℤ◌, Bool, true, false, if◌then◌else◌, List, [], ◌∷◌, map, codes, nat_lt, nat_le}
-use Rattle.std.specs.Str.{is_utf8}
+use Rattle.std.specs.Prelude.{ℕ, ◌-◌, ◌^◌, ℤ, true, false, List, [], ◌∷◌, Some, map, codes}
 use Rattle.wasm_encoder_base.specs.Table.{Entry, OperandSyntax}
 use Rattle.wasm_encoder_base.specs.Table as rows
-use Rattle.wast_grammar.specs.Tokens.{Literal}
-use Rattle.wast_grammar.specs.Look.{Test, On, OneOf, Any, AnInteger, AWord, this_group}
-use Rattle.wast_grammar.specs.Grammar.{Syntax, among, word, integer, string, nothing, next, seq, seen, only, many, group, paren}
+use Rattle.wast_parser.specs.Look.{Test, On, OneOf, Any, AnInteger, AWord, this_group}
+use Rattle.wast_parser.specs.Grammar.{Syntax, among, word, nothing, next, seq, seen, many, led, paren}
+use Rattle.wast_parser.specs.Integers.{number_in, signed}
+use Rattle.wast_parser.specs.Productions.{name}
 use Rattle.wat_profile.specs.KnownMnemonics.{known_entries}
 use Rattle.wat_profile.specs.Tree.{Operands, NoOperands, I32, Instruction, Func, Module}
 
--- LITERALS of 32 bits lie between -2^31 and 2^32 - 1 (6.3.1).
-abbrev pub is_i32 : Literal → Bool
-is_i32 l = if l.minus then nat_le l.size 2147483648 else nat_lt l.size 4294967296
-
--- The signed number of 32 bits that one means: its value modulo 2^32.
-abbrev pub i32_value : Literal → ℤ
-i32_value l =
-    if l.minus then pos 0 -ℤ pos l.size
-    else if nat_lt l.size 2147483648 then pos l.size
-    else pos l.size -ℤ pos 4294967296
-
 module _ {N P : Type 0} where
+  -- LITERALS of 32 bits lie between -2^31 and 2^32 - 1 (6.3.1), and mean a signed number: their value modulo 2^32.
   abbrev pub i32_literal : Syntax N P ℤ
-  i32_literal = seen (λ l. i32_value l.0) (only (λ l. is_i32 l.0) integer)
+  i32_literal = seen (λ n. n.0) (number_in (2 ^ 32 - 1) (Some (2 ^ 31)) (signed (2 ^ 31)))
 
   -- INSTRUCTIONS (6.5): a mnemonic of the table and the operands of its row.
   abbrev pub operands : OperandSyntax → Syntax N P (Operands N P)
@@ -56,13 +46,12 @@ module _ {N P : Type 0} where
   abbrev pub instruction : Syntax N P (Instruction N P)
   instruction = seen as_instruction (next mnemonic (λ e. operands e.0.operands) row_starts true row_stops)
 
-  -- NAMES (6.3.4): strings that are UTF-8
-  abbrev pub name : Syntax N P (List ℕ)
-  name = only is_utf8 string
-
   -- FUNCTIONS (6.6): (func (export name)* instruction*)
+  abbrev pub export_body : Syntax N P (List ℕ)
+  export_body = led (codes "export") name
+
   abbrev pub export : Syntax N P (List ℕ)
-  export = group (codes "export") name
+  export = paren export_body
 
   abbrev pub as_func : P × (List (List ℕ) × List (Instruction N P)) → Func N P
   as_func f = record { place = f.0; exports = f.1.0; body = f.1.1 }

@@ -13,18 +13,12 @@
 #![tactic(auto)]
 
 mod encoder;
-mod literal;
 mod mnemonic;
-mod parse;
-mod parse_fault;
-mod parser;
 mod syntax;
 mod text;
-mod text_fault;
 mod tree;
 
 pub use encoder::encode;
 pub use text::parse_text;
-pub use text_fault::TextFault;
 pub use tree::{Export, Func, Instr, Instruction, Module};
-pub use wast_parser_base::Error;
+pub use wast_parser::Error;

@@ -8,8 +8,8 @@ returns-in-Nop-clause-read c = rw (c.in-Nop.is, nop_is) refl
 pub returns-in-Drop-clause-read : goal.returns-in-Drop-clause-read
 returns-in-Drop-clause-read c = rw (c.in-Drop.is, drop_is) refl
 
-pub returns-in_err-i32-in-I32Const-clause-read : goal.returns-in_err-i32-in-I32Const-clause-read
-returns-in_err-i32-in-I32Const-clause-read c = let r = c.in_err-i32-in-I32Const.ensures in rw (c.in-I32Const.is, i32_const_is) (search rules)
+pub returns-in_err-parse-in-I32Const-clause-read : goal.returns-in_err-parse-in-I32Const-clause-read
+returns-in_err-parse-in-I32Const-clause-read c = let r = c.in_err-parse-in-I32Const.ensures.read in rw (c.in-I32Const.is, i32_const_is) (search rules)
 
-pub returns-in_ok-i32-in-I32Const-clause-read : goal.returns-in_ok-i32-in-I32Const-clause-read
-returns-in_ok-i32-in-I32Const-clause-read c = let r = c.in_ok-i32-in-I32Const.ensures in rw (c.in-I32Const.is, i32_const_is) (search rules)
+pub returns-in_ok-parse-in-I32Const-clause-read : goal.returns-in_ok-parse-in-I32Const-clause-read
+returns-in_ok-parse-in-I32Const-clause-read c = let r = c.in_ok-parse-in-I32Const.ensures.read in rw (c.in-I32Const.is, i32_const_is) (search rules)
