@@ -23,6 +23,6 @@ pub use wast_parser_base::{
     lexical_text, push_place,
 };
 pub use wast_parser_core::{
-    Cursor, FixedInteger, Item, Keyword, KeywordName, LParen, Lookahead1, Meaning, Parse, ParseBuffer, Parser,
-    Peek, RParen, WordSet, list_of, parse,
+    Cursor, FixedInteger, Item, Keyword, KeywordName, LParen, Lookahead1, Meaning, Parse,
+    ParseBuffer, Parser, Peek, RParen, WordSet, list_of, parse,
 };
