@@ -1,14 +1,14 @@
 -- Looks tell where productions begin.
-use Rattle.std.proofs.Common.{◌≡◌, ℕ, Bool, true, false, List, [], ◌∷◌, ◌++◌, Some, None, inl, inr, refl, sym, ◌∙◌, ap, cond, ◌&&◌}
+use Rattle.std.proofs.Common.{◌≡◌, ℕ, Bool, true, false, not, List, [], ◌∷◌, ◌++◌, map, Option, Some, None, inl, inr, refl, sym, ◌∙◌, ap, cond, ◌&&◌}
 use Rattle.std.proofs.lemmas.Bool.{cases_Bool}
 use Rattle.wast_grammar.specs.Tokens.{SignificantToken, Open, Close, Id, Word, Mark, Integer, Float, Text, Reserved, Broken, Literal}
 use Rattle.wast_grammar.specs.Spelling as spelling
-use Rattle.wast_grammar.specs.Spelling.{Spells, same_text, that_open, that_close}
-use Rattle.wast_grammar.specs.Look.{Shape, AnOpen, AClose, AWord, AMark, AnId, AnInteger, AString, Look, seen_as, look, first, under, same, same_shape, is_plain, is_flat, all_flat, Texts, This, Any, holds, Test, On, Opening, NotEnd, fits, any_fits, at, any_end, this_word, this_group, join, apart, faults, ask, under_test, unders}
-use Rattle.wast_grammar.specs.Grammar.{Syntax, word, mark, id, integer, string, only, led, paren, group}
+use Rattle.wast_grammar.specs.Spelling.{Spells, ◌>>=◌, same_text, any_is, find_by, find_but, that_open, that_close}
+use Rattle.wast_grammar.specs.Look.{Shape, AnOpen, AClose, AWord, AMark, AnId, AnInteger, AString, Look, seen_as, look, first, under, same, same_shape, is_plain, is_flat, all_flat, Texts, This, OneOf, Any, holds, Test, On, Opening, NotEnd, fits, any_fits, at, any_end, this_word, this_group, join, apart, faults, ask, under_test, unders}
+use Rattle.wast_grammar.specs.Grammar.{Syntax, word, words, among, mark, id, integer, string, only, next, seq, led, paren, group}
 use Rattle.wast_grammar.proofs.Looks.{both, absurd_of, shape_is, first_deep, flat_plain, in_join, join_left, join_right, apart_no2, asked, answered, no_end, under_in}
-use Rattle.wast_grammar.proofs.TokenLaws.{word_laws, mark_laws, id_laws, integer_laws, string_laws}
-use Rattle.wast_grammar.proofs.GrammarLaws.{Lawful, Leads, under_look, group_before, led_laws}
+use Rattle.wast_grammar.proofs.TokenLaws.{word_laws, among_laws, mark_laws, id_laws, integer_laws, string_laws}
+use Rattle.wast_grammar.proofs.GrammarLaws.{Lawful, Leads, under_look, group_before, seq_laws, led_laws}
 
 -- tokens that spell something look so, with something behind them
 abbrev pub LooksSpelled : {N P A : Type 0} → Spells N P A → List (SignificantToken N P) → Type 0
@@ -39,6 +39,30 @@ given : {X : Type 0} (b : Bool) (x : X) → cond b true false ≡ true → cond 
 given true x h = refl
 given false x h = cc
 
+as_given : (b : Bool) → cond b true false ≡ true → b ≡ true
+as_given true h = refl
+as_given false h = cc
+
+-- a word of a set has an entry
+found : {E : Type 0} (word : E → List ℕ) (w : List ℕ) (entries : List E) → any_is w (map word entries) ≡ true → (e : E) × (find_by word w entries ≡ Some e)
+found word w [] h = absurd (cc)
+found word w (e ∷ es) h = elim (cases_Bool (same_text w (word e))) [
+  | inl y ↦ (e, ap (λ b. cond b (Some e) (find_by word w es)) y)
+  | inr n ↦ (
+      let k = found word w es (ap (λ b. cond b true (any_is w (map word es))) (sym n) ∙ h) in
+      (k.0, ap (λ b. cond b (Some e) (find_by word w es)) n ∙ k.1))
+]
+
+left_in : (b : Bool) → not b ≡ true → b ≡ false
+left_in true h = cc
+left_in false h = refl
+
+found_but : {E : Type 0} (word : E → List ℕ) (entries : List E) (but : List (List ℕ)) (w : List ℕ) → holds (OneOf (map word entries) but) w ≡ true → (e : E) × (find_but word entries but w ≡ Some e)
+found_but word entries but w h =
+    let k = both (any_is w (map word entries)) (not (any_is w but)) h in
+    let e = found word w entries k.0 in
+    (e.0, ap (λ b. cond b None (find_by word w entries)) (left_in (any_is w but) k.1) ∙ e.1)
+
 module _ {N P : Type 0} where
   word_only : (v : List ℕ) (ts : List (SignificantToken N P)) → at (this_word v ∷ []) ts ≡ true → LooksSpelled (word v).spells ts
   word_only v [] h = absurd (cc)
@@ -48,6 +72,19 @@ module _ {N P : Type 0} where
 
   pub word_leads : (v : List ℕ) → Leads (word {N = N} {P = P} v).spells (this_word v ∷ [])
   word_leads v = record { seen = spelled_seen (word v) (word_laws v) refl; only = λ ts h. word_only v ts (answered (this_word v ∷ []) ts true h).1 }
+
+  -- a word that means something, where each that the test lets through does
+  words_only : {A : Type 0} (f : List ℕ → Option A) (t : Texts) → ((w : List ℕ) → holds t w ≡ true → (a : A) × (f w ≡ Some a)) → (ts : List (SignificantToken N P)) → at (On false AWord t ∷ []) ts ≡ true → LooksSpelled (words f t).spells ts
+  words_only f t means [] h = absurd (cc)
+  words_only f t means (Open p ∷ ts) h = shallow AWord t p ts h
+  words_only f t means (Word w p ∷ ts) h = (let a = means w (as_given (holds t w) h) in ((a.0, p), Word w p, [], [], (Word w p, refl, ap (λ o. o >>= λ b. Some (b, p)) a.1), refl))
+  words_only f t means (_ ∷ ts) h = absurd (cc)
+
+  pub among_leads : {E : Type 0} (word : E → List ℕ) (entries : List E) (but : List (List ℕ)) → Leads (among {N = N} {P = P} word entries but).spells (On false AWord (OneOf (map word entries) but) ∷ [])
+  among_leads word entries but = record {
+    seen = spelled_seen (among word entries but) (among_laws word entries but) refl;
+    only = λ ts h. words_only (find_but word entries but) (OneOf (map word entries) but) (found_but word entries but) ts (answered (On false AWord (OneOf (map word entries) but) ∷ []) ts true h).1;
+  }
 
   mark_only : (v : List ℕ) (ts : List (SignificantToken N P)) → at (On false AMark (This v) ∷ []) ts ≡ true → LooksSpelled (mark v).spells ts
   mark_only v [] h = absurd (cc)
@@ -154,20 +191,7 @@ module _ {N P A : Type 0} (s r : Spells N P A) (tests others : List Test) (ls : 
     only = λ ts h. one_only ts (answered (join tests others) ts true h).1;
   }
 
--- WORDS BEFORE OTHERS, of which some spelling is given
-pub led_leads : {N P A : Type 0} (w : List ℕ) (g : Syntax N P A) → Lawful g → (a : A) (us : List (SignificantToken N P)) → g.spells a us → Leads (led w g).spells (this_word w ∷ [])
-led_leads {N} {P} {A} w g lg a us s = record {
-  seen = spelled_seen (led w g) (led_laws w g lg) refl;
-  only = λ ts h. led_only (word_leads w) ts h;
-}
-  where
-    led_only : Leads (word {N = N} {P = P} w).spells (this_word w ∷ []) → (ts : List (SignificantToken N P)) → ask (this_word w ∷ []) ts ≡ Some true → LooksSpelled (led w g).spells ts
-    led_only l [] h = absurd (cc)
-    led_only l (Open p ∷ ts) h = shallow AWord (This w) p ts (answered (this_word w ∷ []) (Open p ∷ ts) true h).1
-    led_only l (Word v p ∷ ts) h = (a, Word v p, us, [], ((p, a), refl, (Word v p ∷ [], us, refl, (Word v p, refl, given (same_text w v) p (answered (this_word w ∷ []) (Word v p ∷ ts) true h).1), s)), refl)
-    led_only l (_ ∷ ts) h = absurd (cc)
-
--- GROUPS
+-- ONE AFTER THE OTHER
 -- a token in front that is no parenthesis looks alike whatever follows
 front_look : {N P : Type 0} (t : SignificantToken N P) (us vs : List (SignificantToken N P)) → (look (t ∷ us)).deep ≡ false → look (t ∷ us) ≡ look (t ∷ vs)
 front_look (Open p) us vs d = absurd_of true refl (sym (first_deep true us) ∙ d)
@@ -181,6 +205,40 @@ front_look (Text s p) us vs d = refl
 front_look (Reserved w p) us vs d = refl
 front_look Broken us vs d = refl
 
+-- one before others, of which some spelling is given
+pub next_leads : {N P A B : Type 0} (g : Syntax N P A) (h : A → Syntax N P B) (starts : List Test) (empty : Bool) (stops : List Test) (tests : List Test) → Lawful (next g h starts empty stops) → (next g h starts empty stops).starts ≡ tests → Leads g.spells tests → all_flat tests ≡ true → apart (faults tests) tests ≡ true → ((a : A) → (b : B) × (us : List (SignificantToken N P)) × (h a).spells b us) → Leads (next g h starts empty stops).spells tests
+next_leads {N} {P} {A} {B} g h starts empty stops tests ln begins l flat sure more = record {
+  seen = λ a t ts rest s. elim (ln.leads a (t ∷ ts) rest s) [
+    | inl y ↦ next_seen (t ∷ ts ++ rest) (ap (λ v. at v (t ∷ ts ++ rest)) (sym begins) ∙ y)
+    | inr z ↦ (let e : t ∷ ts ≡ [] = z.1 in absurd (cc))
+  ];
+  only = next_only;
+}
+  where
+    next_seen : (ts : List (SignificantToken N P)) → at tests ts ≡ true → ask tests ts ≡ Some true
+    next_seen ts y = asked tests ts true (apart_no2 _ (faults tests) tests sure y) y
+
+    next_only : (ts : List (SignificantToken N P)) → ask tests ts ≡ Some true → LooksSpelled (next g h starts empty stops).spells ts
+    next_only ts y =
+        let k = l.only ts y in
+        let s = more k.0 in
+        let shallow_front : (look (k.1 ∷ k.2 ++ k.3)).deep ≡ false = ap (λ x. x.deep) k.5 ∙ (flat_plain tests (look ts) flat (answered tests ts true y).1).0 in (
+          (k.0, s.0),
+          k.1,
+          k.2 ++ s.1,
+          [],
+          (k.1 ∷ k.2, s.1, refl, k.4, s.2),
+          sym (front_look k.1 (k.2 ++ k.3) ((k.2 ++ s.1) ++ []) shallow_front) ∙ k.5,
+        )
+
+-- a word before others
+pub headed_leads : {N P A : Type 0} (w : List ℕ) (g : Syntax N P A) → Lawful g → (a : A) (us : List (SignificantToken N P)) → g.spells a us → Leads (seq (word w) g).spells (this_word w ∷ [])
+headed_leads w g lg a us s = next_leads (word w) (λ _. g) g.starts g.empty g.stops (this_word w ∷ []) (seq_laws (word w) g (word_laws w) lg refl) refl (word_leads w) refl refl (λ _. (a, us, s))
+
+pub led_leads : {N P A : Type 0} (w : List ℕ) (g : Syntax N P A) → Lawful g → (a : A) (us : List (SignificantToken N P)) → g.spells a us → Leads (led w g).spells (this_word w ∷ [])
+led_leads w g lg a us s = seen_leads (λ p. p.1) (seq (word w) g).spells (this_word w ∷ []) (headed_leads w g lg a us s)
+
+-- GROUPS
 -- from what is asked behind a parenthesis to what is asked in front
 from_under : (s : Shape) (t : Texts) (x : Look) → is_plain s ≡ true → fits (On true s t) (under x) ≡ true → fits (On false s t) x ≡ true
 from_under s t x plain h = elim (cases_Bool x.deep) [

@@ -22,6 +22,7 @@ pub use Rattle.wast_parser_base.specs.Problem
 pub use Rattle.wast_parser_core.specs.Cursors
 pub use Rattle.wast_parser_core.specs.Identifiers
 pub use Rattle.wast_parser_core.specs.Integers
+pub use Rattle.wast_parser_core.specs.Laws
 pub use Rattle.wast_parser_core.specs.Literals
 pub use Rattle.wast_parser_core.specs.Marks
 pub use Rattle.wast_parser_core.specs.Productions

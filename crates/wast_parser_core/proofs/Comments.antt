@@ -1,5 +1,5 @@
 -- Comments behind white space.
-use Rattle.std.proofs.Common.{◌≡◌, ℕ, ◌+◌, true, false, cond, List, [], ◌∷◌, Option, Some, None, drop, ap, ◌∙◌, refl}
+use Rattle.std.proofs.Common.{◌≡◌, ℕ, ◌+◌, true, false, cond, List, Some, None, drop, ap, ◌∙◌}
 use Rattle.std.specs.Prelude.{slice_get}
 use Rattle.wast_lexer.specs.declared.token.Token.{Token}
 use Rattle.wast_parser_core.specs.Comments.{is_space, is_comment, comment_in, blank}

@@ -1,14 +1,16 @@
 -- Laws of identifiers, indices and the annotation that names.
-use Rattle.std.proofs.Common.{refl, List, [], ◌∷◌, ℕ, None, false}
+use Rattle.std.proofs.Common.{refl, List, [], ◌∷◌, ℕ, Some, None, false, inr}
 use Rattle.std.specs.Prelude.{◌-◌, ◌^◌, codes}
-use Rattle.wast_grammar.specs.Lawful.{Lawful}
-use Rattle.wast_grammar.specs.Look.{On, AnInteger, Any, this_annotation}
+use Rattle.wast_grammar.specs.Tokens.{Id}
+use Rattle.wast_grammar.specs.Lawful.{Lawful, Leads}
+use Rattle.wast_grammar.specs.Look.{On, AnInteger, AnId, Any, this_word, this_group, this_annotation}
 use Rattle.wast_grammar.specs.Grammar.{id, seen, seq, mark, word, paren, maybe}
 use Rattle.wast_grammar.proofs.GrammarLaws.{seen_laws, seq_laws, either_laws, paren_laws, maybe_laws, id_laws, mark_laws, word_laws}
+use Rattle.wast_grammar.proofs.LeadLaws.{id_leads, seen_leads, either_leads, headed_leads, paren_leads}
 use Rattle.wast_parser_core.specs.Integers.{number_in, unsigned}
 use Rattle.wast_parser_core.specs.Productions.{name}
 use Rattle.wast_parser_core.specs.Identifiers.{ByNumber, ByName, identifier, index, name_annotation, item_ref}
-use Rattle.wast_parser_core.proofs.IntegerLaws.{number_laws, name_laws}
+use Rattle.wast_parser_core.proofs.IntegerLaws.{number_laws, name_laws, number_leads}
 
 module _ {N P : Type 0} where
   pub identifier_laws : Lawful (identifier {N = N} {P = P})
@@ -29,3 +31,18 @@ module _ {N P : Type 0} where
 
   pub item_ref_laws : (w : List ℕ) → Lawful (item_ref {N = N} {P = P} w)
   item_ref_laws w = paren_laws (seq (word w) index) (reference_laws w) refl refl
+
+  -- WHERE THEY BEGIN, where there is a name
+  pub identifier_leads : N → Leads (identifier {N = N} {P = P}).spells (On false AnId Any ∷ [])
+  identifier_leads n = seen_leads (λ x. (x, 0)) id.spells (On false AnId Any ∷ []) (id_leads n)
+
+  pub index_leads : N → Leads (index {N = N} {P = P}).spells (On false AnInteger Any ∷ On false AnId Any ∷ [])
+  index_leads n = either_leads (seen (λ x. ByNumber x.0 x.1) (number_in (2 ^ 32 - 1) None unsigned)).spells (seen ByName identifier).spells (On false AnInteger Any ∷ []) (On false AnId Any ∷ [])
+      (seen_leads (λ x. ByNumber x.0 x.1) (number_in (2 ^ 32 - 1) None unsigned).spells (On false AnInteger Any ∷ []) (number_leads (2 ^ 32 - 1) None unsigned))
+      (seen_leads ByName identifier.spells (On false AnId Any ∷ []) (identifier_leads n)) refl refl refl
+
+  pub reference_leads : (w : List ℕ) → N → P → Leads (seq {N = N} {P = P} (word w) index).spells (this_word w ∷ [])
+  reference_leads w n p = headed_leads w index index_laws (ByName ((n, p), 0)) (Id (Some n) p ∷ []) (inr (((n, p), 0), refl, ((n, p), refl, (Id (Some n) p, refl, refl))))
+
+  pub item_ref_leads : (w : List ℕ) → N → P → Leads (item_ref {N = N} {P = P} w).spells (this_group w ∷ [])
+  item_ref_leads w n p = paren_leads (seq (word w) index) (reference_laws w) (this_word w ∷ []) (reference_leads w n p) refl refl refl refl refl

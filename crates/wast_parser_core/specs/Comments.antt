@@ -6,7 +6,7 @@ use Rattle.wast_lexer.specs.declared.token.TokenKind.TheVariants as kinds
 use Rattle.wast_lexer.specs.TokenText.{IsOf, text_of}
 use Rattle.wast_parser_base.specs.Problem.{Problem}
 use Rattle.wast_parser_core.specs.declared.cursor.Cursor.{Cursor}
-use Rattle.wast_parser_core.specs.State.{Source, State}
+use Rattle.wast_parser_core.specs.State.{State}
 use Rattle.wast_parser_core.specs.Reading.{IsStop}
 use Rattle.wast_parser_core.specs.Cursors.{stands, Follows}
 

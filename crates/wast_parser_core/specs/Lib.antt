@@ -8,3 +8,4 @@ pub mod Integers
 pub mod Identifiers
 pub mod Marks
 pub mod Comments
+pub mod Laws

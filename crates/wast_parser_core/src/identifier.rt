@@ -1,7 +1,7 @@
 //! Identifiers and indices.
 ghost use Rattle.std.specs.Prelude.{◌≡◌, ℕ, List, [], ◌∷◌, Option, false, refl};
 ghost use Rattle.wast_grammar.specs.Look.{ask, On, AnInteger, AnId, Any, this_group};
-ghost use Rattle.wast_grammar.specs.Lawful.{Lawful};
+ghost use Rattle.wast_grammar.specs.Lawful.{Lawful, Leads};
 ghost use Rattle.wast_parser_core.specs.State.{ahead, Keeps};
 ghost use Rattle.wast_parser_core.specs.Reading.{Asks, Gives};
 ghost use Rattle.wast_parser_core.specs.Cursors.{stands};
@@ -39,6 +39,10 @@ impl<'a> Peek for Id<'a> {
     ghost full = { refl };
 
     ghost sure = { refl };
+
+    fn leads()
+        ensures { Leads (identifier {N = List ℕ} {P = ℕ}).spells (On false AnId Any ∷ []) }
+    {}
 
     fn peek(cursor: Cursor<'_, '_>) -> Result<bool, Error>
         ensures { Asks result (stands cursor.entry).source (ask (On false AnId Any ∷ []) (ahead (stands cursor.entry))) }
@@ -80,6 +84,10 @@ impl<'a> Peek for Index<'a> {
     ghost full = { refl };
 
     ghost sure = { refl };
+
+    fn leads()
+        ensures { Leads (index {N = List ℕ} {P = ℕ}).spells (On false AnInteger Any ∷ On false AnId Any ∷ []) }
+    {}
 
     fn peek(cursor: Cursor<'_, '_>) -> Result<bool, Error>
         ensures { Asks result (stands cursor.entry).source (ask (On false AnInteger Any ∷ On false AnId Any ∷ []) (ahead (stands cursor.entry))) }
@@ -123,6 +131,10 @@ impl<'a, N: KeywordName> Peek for ItemRef<'a, Keyword<N>> {
     ghost full = { refl };
 
     ghost sure = { refl };
+
+    fn leads()
+        ensures { Leads (item_ref {N = List ℕ} {P = ℕ} N.word).spells (this_group N.word ∷ []) }
+    {}
 
     fn peek(cursor: Cursor<'_, '_>) -> Result<bool, Error>
         ensures { Asks result (stands cursor.entry).source (ask (this_group N.word ∷ []) (ahead (stands cursor.entry))) }

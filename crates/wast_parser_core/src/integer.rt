@@ -78,6 +78,8 @@ impl<T: FixedInteger> Peek for T {
 
     ghost sure = { refl };
 
+    fn leads() {}
+
     fn peek(cursor: Cursor<'_, '_>) -> Result<bool, Error> {
         cursor.peek_integer()
     }

@@ -53,6 +53,8 @@ impl<N: KeywordName> Peek for Keyword<N> {
 
     ghost sure = { refl };
 
+    fn leads() {}
+
     fn peek(cursor: Cursor<'_, '_>) -> Result<bool, Error> {
         cursor.peek_word(N::text())
     }

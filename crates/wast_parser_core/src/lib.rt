@@ -8,6 +8,9 @@
 //! [`Meaning`] says what the grammar sees of a type, [`Parse`] that it is read exactly where its syntax is, [`Peek`] how one is
 //! looked for, and [`Item`] that it can be repeated ([`list_of`]). The law of a syntax, that what is read is spelled and what is
 //! spelled is read, is a function of `Meaning`; those of `Option<T>`, `Box<T>` and [`Keyword`] rest on their parameter alone.
+//! [`laws::read_where_spelled`] and [`laws::one_value`] are of it. The law of a look is a function of `Peek`: a peek is true where
+//! a spelling of its type that isn't nothing stands at the first, second or third significant token, and only where that token,
+//! and behind `(` the next too, begins one by kind and word.
 //!
 //! # What has to be believed
 //!
@@ -17,6 +20,7 @@
 //! | `Reading` | what its calls answer, and when they refuse |
 //! | `Cursors`, `Kinds` | what the calls of a cursor look at and take |
 //! | `Literals`, `Productions` | ranges of integers, names |
+//! | `Laws` | the statements of the law functions |
 //!
 //! An error that tells of want of memory has no place. All others stand where reading was refused, or where no token can be
 //! read.
@@ -31,6 +35,7 @@ mod identifier;
 mod integer;
 mod keyword;
 mod kind;
+pub mod laws;
 mod list;
 mod literal;
 mod look;

@@ -2,7 +2,7 @@
 ghost use Rattle.std.specs.Prelude.{◌≡◌, ℕ, Bool, List, [], Some, true, false};
 ghost use Rattle.wast_grammar.specs.Look.{ask, apart, faults, any_end};
 ghost use Rattle.wast_grammar.specs.Grammar.{Syntax};
-ghost use Rattle.wast_grammar.specs.Lawful.{Lawful};
+ghost use Rattle.wast_grammar.specs.Lawful.{Lawful, Leads};
 ghost use Rattle.wast_parser_core.specs.State.{State, ahead, knowing, Keeps, past};
 ghost use Rattle.wast_parser_core.specs.Reading.{Gives, Asks};
 ghost use Rattle.wast_parser_core.specs.Cursors.{stands};
@@ -54,6 +54,10 @@ pub trait Peek: Meaning {
             None => Self::peek(cursor),
         }
     }
+
+    /// Where a spelling that isn't nothing stands it is seen, and what is seen looks as one that is spelled.
+    fn leads()
+        ensures { Leads Self.syntax.spells Self.syntax.starts };
 
     /// What it is called in errors.
     fn display() -> &'static str;

@@ -32,6 +32,8 @@ impl Peek for LParen {
 
     ghost sure = { refl };
 
+    fn leads() {}
+
     fn peek(cursor: Cursor<'_, '_>) -> Result<bool, Error> {
         cursor.peek_lparen()
     }
@@ -63,6 +65,8 @@ impl Peek for RParen {
     ghost full = { refl };
 
     ghost sure = { refl };
+
+    fn leads() {}
 
     fn peek(cursor: Cursor<'_, '_>) -> Result<bool, Error> {
         cursor.peek_rparen()

@@ -3,7 +3,7 @@ ghost use Rattle.std.specs.Prelude.{◌≡◌, ℕ, List, [], ◌∷◌, false, 
 ghost use Rattle.std.specs.Cow.{cow_str_bytes};
 ghost use Rattle.wast_grammar.specs.Look.{ask, On, AString, Any};
 ghost use Rattle.wast_grammar.specs.Grammar.{string};
-ghost use Rattle.wast_grammar.specs.Lawful.{Lawful};
+ghost use Rattle.wast_grammar.specs.Lawful.{Lawful, Leads};
 ghost use Rattle.wast_parser_core.specs.Productions.{name};
 ghost use Rattle.wast_parser_core.specs.State.{ahead};
 ghost use Rattle.wast_parser_core.specs.Reading.{Asks};
@@ -43,6 +43,10 @@ impl<'a> Peek for Bytes<'a> {
 
     ghost sure = { refl };
 
+    fn leads()
+        ensures { Leads (string {N = List ℕ} {P = ℕ}).spells (On false AString Any ∷ []) }
+    {}
+
     fn peek(cursor: Cursor<'_, '_>) -> Result<bool, Error>
         ensures { Asks result (stands cursor.entry).source (ask (On false AString Any ∷ []) (ahead (stands cursor.entry))) }
     {
@@ -79,6 +83,10 @@ impl<'a> Peek for CowStr<'a, Global> {
     ghost full = { refl };
 
     ghost sure = { refl };
+
+    fn leads()
+        ensures { Leads (name {N = List ℕ} {P = ℕ}).spells (On false AString Any ∷ []) }
+    {}
 
     fn peek(cursor: Cursor<'_, '_>) -> Result<bool, Error>
         ensures { Asks result (stands cursor.entry).source (ask (On false AString Any ∷ []) (ahead (stands cursor.entry))) }

@@ -1,7 +1,7 @@
 //! The productions.
 ghost use Rattle.std.specs.Prelude.{◌≡◌, ℕ, List, IfOk, refl};
 ghost use Rattle.wast_parser.specs.Look.{ask};
-ghost use Rattle.wast_parser.specs.Lawful.{Lawful};
+ghost use Rattle.wast_parser.specs.Lawful.{Lawful, Leads};
 ghost use Rattle.wast_parser.specs.State.{ahead, Keeps};
 ghost use Rattle.wast_parser.specs.Reading.{Asks, Gives};
 ghost use Rattle.wast_parser.specs.Cursors.{stands};
@@ -86,6 +86,10 @@ impl<'a> Peek for Func<'a> {
 
     ghost sure = { refl };
 
+    fn leads()
+        ensures { Leads (func {N = List ℕ} {P = ℕ}).spells func_starts }
+    {}
+
     fn peek(cursor: Cursor<'_, '_>) -> Result<bool, Error>
         ensures { Asks result (stands cursor.entry).source (ask func_starts (ahead (stands cursor.entry))) }
     {
@@ -160,6 +164,10 @@ impl<'a> Peek for Export<'a> {
 
     ghost sure = { refl };
 
+    fn leads()
+        ensures { Leads (export {N = List ℕ} {P = ℕ}).spells export_starts }
+    {}
+
     fn peek(cursor: Cursor<'_, '_>) -> Result<bool, Error>
         ensures { Asks result (stands cursor.entry).source (ask export_starts (ahead (stands cursor.entry))) }
     {
@@ -229,6 +237,10 @@ impl Peek for Instr {
     ghost full = { refl };
 
     ghost sure = { refl };
+
+    fn leads()
+        ensures { Leads (instruction {N = List ℕ} {P = ℕ}).spells instruction_starts }
+    {}
 
     fn peek(cursor: Cursor<'_, '_>) -> Result<bool, Error>
         ensures { Asks result (stands cursor.entry).source (ask instruction_starts (ahead (stands cursor.entry))) }

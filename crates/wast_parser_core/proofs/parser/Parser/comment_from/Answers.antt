@@ -1,4 +1,4 @@
-use Rattle.std.proofs.Common.{◌≡◌, ◌+◌, ◌∙◌, sym, ap, subst, arith, true, false, ◌&&◌}
+use Rattle.std.proofs.Common.{◌∙◌, sym, ap, subst, arith, ◌&&◌}
 use Rattle.std.specs.Prelude.{slice_get, is_some}
 use Rattle.wast_lexer.specs.TokenText.{IsOf}
 use Rattle.wast_parser_core.specs.State.{State}

@@ -1,0 +1,6 @@
+use Rattle.std.proofs.Common.{[]}
+use Rattle.wast_parser_core.proofs.IdentifierLaws.{item_ref_leads}
+use Rattle.wast_parser_core.proofs.identifier.ItemRefKeywordPeek.leads.Goals as goal
+
+pub returns : goal.returns
+returns g c = item_ref_leads g.N.KeywordName.word [] 0

@@ -1,0 +1,18 @@
+//! Laws of what can be read: functions whose contracts are the laws. They do nothing.
+ghost use Rattle.wast_parser_core.specs.Laws.{OneValue, ReadWhereSpelled};
+
+use crate::meaning::Meaning;
+
+/// Where an end may follow a value, tokens spell it exactly where reading takes all of them and answers it.
+pub fn read_where_spelled<T: Meaning>()
+    ensures { ReadWhereSpelled T.syntax }
+{
+    T::lawful();
+}
+
+/// Where an end may follow values, no tokens spell two.
+pub fn one_value<T: Meaning>()
+    ensures { OneValue T.syntax }
+{
+    T::lawful();
+}
