@@ -8,6 +8,9 @@ pub use Rattle.wast_grammar.specs.Grammar
 pub use Rattle.wast_grammar.specs.Significant
 pub use Rattle.wast_grammar.specs.Spelling
 pub use Rattle.wast_grammar.specs.Tokens
+pub use Rattle.wast_parser.specs.Integers
+pub use Rattle.wast_parser.specs.Literals
+pub use Rattle.wast_parser.specs.Productions
 pub use Rattle.wast_parser_base.specs.Problem
 pub use Rattle.wast_parser_base.specs.Snippet
 pub use Rattle.wat_io.specs.Counted
