@@ -66,7 +66,7 @@ fn front_comment<'b, 'a>(cursor: Cursor<'b, 'a>) -> Result<(Option<&'a str>, Cur
     }
 }
 
-fn read_as(rt: HostRuntime, kind: &str, buffer: &ParseBuffer<'_>) -> io::Result<()> {
+fn read_as<'a>(rt: HostRuntime, kind: &str, buffer: &'a ParseBuffer<'a>) -> io::Result<()> {
     if kind == "i8" {
         match parse::<i8>(buffer) {
             Ok(number) => println!(rt; "{number}"),
