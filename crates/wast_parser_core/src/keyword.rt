@@ -24,6 +24,18 @@ pub struct Keyword<N> {
     of: PhantomData<N>,
 }
 
+/// At offset 0.
+impl<N: KeywordName> Default for Keyword<N> {
+    ghost is_default = { λ k. k.span ≡ 0 };
+
+    fn default() -> Self {
+        Keyword {
+            span: Span::from_offset(0),
+            of: PhantomData,
+        }
+    }
+}
+
 impl<N: KeywordName> Meaning for Keyword<N> {
     ghost Tree = { ℕ };
 

@@ -62,6 +62,30 @@ fn ample_name(rt: HostRuntime) -> Result<(), Fail> {
     Ok(())
 }
 
+#[test]
+fn ample_with_annotation(rt: HostRuntime) -> Result<(), Fail> {
+    let buffer = buffer(rt.alloc(), "7")?;
+    let number: u8 = Parser::new(&buffer).with_annotation("a").map_err(failed)?;
+    assert_eq!(rt; number, 7);
+    Ok(())
+}
+
+#[test]
+fn ample_box(rt: HostRuntime) -> Result<(), Fail> {
+    let buffer = buffer(rt.alloc(), "7")?;
+    let number: Box<u8> = Parser::new(&buffer).parse().map_err(failed)?;
+    assert_eq!(rt; *number, 7);
+    Ok(())
+}
+
+#[test]
+fn ample_text(rt: HostRuntime) -> Result<(), Fail> {
+    let buffer = buffer(rt.alloc(), "\"\\41\"")?;
+    let text: String = Parser::new(&buffer).parse().map_err(failed)?;
+    assert_eq!(rt; text.as_str(), "A");
+    Ok(())
+}
+
 /// A refused call tells its message and its place.
 #[test]
 fn ample_error(rt: HostRuntime) -> Result<(), Fail> {
