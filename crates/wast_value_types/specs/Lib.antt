@@ -1,0 +1,2 @@
+pub mod ValueTree
+pub mod ValueSyntax
