@@ -9,7 +9,7 @@ ghost use Rattle.wast_parser_core.specs.Identifiers.{Named, Reference, identifie
 
 use crate::cursor::Cursor;
 use crate::keyword::{Keyword, KeywordName};
-use crate::meaning::{Meaning, Parse, Peek};
+use crate::meaning::{Item, Meaning, Parse, Peek};
 use crate::parser::Parser;
 use wast_lexer::Span;
 use wast_parser_base::{Error, Id, Index, ItemRef};
@@ -36,8 +36,6 @@ impl<'a> Parse<'a> for Id<'a> {
 impl<'a> Peek for Id<'a> {
     ghost plain = { refl };
 
-    ghost full = { refl };
-
     ghost sure = { refl };
 
     fn leads()
@@ -53,6 +51,10 @@ impl<'a> Peek for Id<'a> {
     fn display() -> &'static str {
         "an identifier"
     }
+}
+
+impl<'a> Item for Id<'a> {
+    ghost inside = { refl };
 }
 
 impl<'a> Meaning for Index<'a> {
@@ -81,8 +83,6 @@ impl<'a> Parse<'a> for Index<'a> {
 impl<'a> Peek for Index<'a> {
     ghost plain = { refl };
 
-    ghost full = { refl };
-
     ghost sure = { refl };
 
     fn leads()
@@ -98,6 +98,10 @@ impl<'a> Peek for Index<'a> {
     fn display() -> &'static str {
         "an index"
     }
+}
+
+impl<'a> Item for Index<'a> {
+    ghost inside = { refl };
 }
 
 impl<'a, N: KeywordName> Meaning for ItemRef<'a, Keyword<N>> {
@@ -128,8 +132,6 @@ impl<'a, N: KeywordName> Parse<'a> for ItemRef<'a, Keyword<N>> {
 impl<'a, N: KeywordName> Peek for ItemRef<'a, Keyword<N>> {
     ghost plain = { refl };
 
-    ghost full = { refl };
-
     ghost sure = { refl };
 
     fn leads()
@@ -145,6 +147,10 @@ impl<'a, N: KeywordName> Peek for ItemRef<'a, Keyword<N>> {
     fn display() -> &'static str {
         "an item reference"
     }
+}
+
+impl<'a, N: KeywordName> Item for ItemRef<'a, Keyword<N>> {
+    ghost inside = { refl };
 }
 
 /// The same, but for the depth; where it is refused, within the parentheses too.

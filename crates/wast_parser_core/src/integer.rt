@@ -8,7 +8,7 @@ ghost use Rattle.wast_parser_core.specs.Literals.{is_within};
 ghost use Rattle.wast_parser_core.specs.Integers.{number_in, unsigned, signed};
 
 use crate::cursor::Cursor;
-use crate::meaning::{Meaning, Parse, Peek};
+use crate::meaning::{Item, Meaning, Parse, Peek};
 use crate::parser::Parser;
 use wast_lexer::Span;
 use wast_parser_base::Error;
@@ -74,8 +74,6 @@ impl<'a, T: FixedInteger> Parse<'a> for (T, Span) {
 impl<T: FixedInteger> Peek for T {
     ghost plain = { refl };
 
-    ghost full = { refl };
-
     ghost sure = { refl };
 
     fn leads() {}
@@ -87,6 +85,10 @@ impl<T: FixedInteger> Peek for T {
     fn display() -> &'static str {
         T::NAME
     }
+}
+
+impl<T: FixedInteger> Item for T {
+    ghost inside = { refl };
 }
 
 /// Reads an integer of a type's range; answers it, and where it stands.

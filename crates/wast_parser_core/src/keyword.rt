@@ -61,8 +61,6 @@ impl<'a, N: KeywordName> Parse<'a> for Keyword<N> {
 impl<N: KeywordName> Peek for Keyword<N> {
     ghost plain = { refl };
 
-    ghost full = { refl };
-
     ghost sure = { refl };
 
     fn leads() {}

@@ -1,5 +1,5 @@
 //! What can be read, looked for, and repeated.
-ghost use Rattle.std.specs.Prelude.{◌≡◌, ℕ, Bool, List, [], Some, true, false};
+ghost use Rattle.std.specs.Prelude.{◌≡◌, ◌||◌, ℕ, Bool, List, [], Some, true, false};
 ghost use Rattle.wast_grammar.specs.Look.{ask, apart, faults, any_end};
 ghost use Rattle.wast_grammar.specs.Grammar.{Syntax};
 ghost use Rattle.wast_grammar.specs.Lawful.{Lawful, Leads};
@@ -38,7 +38,7 @@ pub trait Parse<'a>: Meaning {
         ensures keeps { Keeps parser.old parser.new };
 }
 
-/// What can be looked for: it is never nothing, registers no annotation, and how it begins can be told.
+/// What can be looked for: it registers no annotation, and how it begins can be told.
 pub trait Peek: Meaning {
     /// Whether one begins here, by kind and text of the first token, and of the second where that stands behind a
     /// parenthesis; refused where no token can be read there.
@@ -64,12 +64,10 @@ pub trait Peek: Meaning {
 
     ghost plain: { Self.registers ≡ [] };
 
-    ghost full: { Self.syntax.empty ≡ false };
-
     ghost sure: { apart (faults Self.syntax.starts) Self.syntax.starts ≡ true };
 }
 
-/// What can be repeated: no end looks as one begins.
+/// What can be repeated or left out: it is never nothing, and no end looks as one begins.
 pub trait Item: Peek {
-    ghost inside: { any_end Self.syntax.starts ≡ false };
+    ghost inside: { (Self.syntax.empty || any_end Self.syntax.starts) ≡ false };
 }

@@ -2,11 +2,11 @@
 ghost use Rattle.std.specs.Prelude.{Option, option_map};
 ghost use Rattle.wast_grammar.specs.Grammar.{maybe};
 
-use crate::meaning::{Meaning, Parse, Peek};
+use crate::meaning::{Item, Meaning, Parse};
 use crate::parser::Parser;
 use wast_parser_base::Error;
 
-impl<T: Peek> Meaning for Option<T> {
+impl<T: Item> Meaning for Option<T> {
     ghost Tree = { Option T.Tree };
 
     ghost tree = { option_map T.tree };
@@ -18,7 +18,7 @@ impl<T: Peek> Meaning for Option<T> {
     }
 }
 
-impl<'a, T: Parse<'a> + Peek> Parse<'a> for Option<T> {
+impl<'a, T: Parse<'a> + Item> Parse<'a> for Option<T> {
     fn parse(parser: &mut Parser<'a>) -> Result<Self, Error> {
         if parser.peek::<T>()? {
             Ok(Some(T::parse(parser)?))

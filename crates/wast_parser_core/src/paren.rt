@@ -1,11 +1,12 @@
-//! Parentheses, to be looked for.
+//! Parentheses by themselves.
 ghost use Rattle.std.specs.Prelude.{◌≡◌, ℕ, [], ◌∷◌, false, refl};
 ghost use Rattle.wast_grammar.specs.Spelling.{that_open, that_close};
 ghost use Rattle.wast_grammar.specs.Look.{On, AClose, Any, Opening};
 ghost use Rattle.wast_grammar.specs.Grammar.{token};
 
 use crate::cursor::Cursor;
-use crate::meaning::{Meaning, Peek};
+use crate::meaning::{Meaning, Parse, Peek};
+use crate::parser::Parser;
 use wast_lexer::Span;
 use wast_parser_base::Error;
 
@@ -25,10 +26,18 @@ impl Meaning for LParen {
     fn lawful() {}
 }
 
+/// The depth stays as it was.
+impl<'a> Parse<'a> for LParen {
+    fn parse(parser: &mut Parser<'a>) -> Result<Self, Error> {
+        let depth = parser.depth;
+        let span = parser.open()?;
+        parser.depth = depth;
+        Ok(LParen { span })
+    }
+}
+
 impl Peek for LParen {
     ghost plain = { refl };
-
-    ghost full = { refl };
 
     ghost sure = { refl };
 
@@ -59,10 +68,15 @@ impl Meaning for RParen {
     fn lawful() {}
 }
 
+impl<'a> Parse<'a> for RParen {
+    fn parse(parser: &mut Parser<'a>) -> Result<Self, Error> {
+        let span = parser.close()?;
+        Ok(RParen { span })
+    }
+}
+
 impl Peek for RParen {
     ghost plain = { refl };
-
-    ghost full = { refl };
 
     ghost sure = { refl };
 

@@ -10,7 +10,7 @@ ghost use Rattle.wast_parser_core.specs.Reading.{Asks};
 ghost use Rattle.wast_parser_core.specs.Cursors.{stands};
 
 use crate::cursor::Cursor;
-use crate::meaning::{Meaning, Parse, Peek};
+use crate::meaning::{Item, Meaning, Parse, Peek};
 use crate::parser::Parser;
 use std::alloc::Global;
 use std::borrow::CowStr;
@@ -39,8 +39,6 @@ impl<'a> Parse<'a> for Bytes<'a> {
 impl<'a> Peek for Bytes<'a> {
     ghost plain = { refl };
 
-    ghost full = { refl };
-
     ghost sure = { refl };
 
     fn leads()
@@ -56,6 +54,10 @@ impl<'a> Peek for Bytes<'a> {
     fn display() -> &'static str {
         "string"
     }
+}
+
+impl<'a> Item for Bytes<'a> {
+    ghost inside = { refl };
 }
 
 /// The text that a string is, where it is one; borrowed where nothing is escaped.
@@ -80,8 +82,6 @@ impl<'a> Parse<'a> for CowStr<'a, Global> {
 impl<'a> Peek for CowStr<'a, Global> {
     ghost plain = { refl };
 
-    ghost full = { refl };
-
     ghost sure = { refl };
 
     fn leads()
@@ -97,6 +97,10 @@ impl<'a> Peek for CowStr<'a, Global> {
     fn display() -> &'static str {
         "string"
     }
+}
+
+impl<'a> Item for CowStr<'a, Global> {
+    ghost inside = { refl };
 }
 
 impl Meaning for String {

@@ -82,8 +82,6 @@ impl<'a> Parse<'a> for Func<'a> {
 impl<'a> Peek for Func<'a> {
     ghost plain = { refl };
 
-    ghost full = { refl };
-
     ghost sure = { refl };
 
     fn leads()
@@ -160,8 +158,6 @@ impl<'a> Parse<'a> for Export<'a> {
 impl<'a> Peek for Export<'a> {
     ghost plain = { refl };
 
-    ghost full = { refl };
-
     ghost sure = { refl };
 
     fn leads()
@@ -233,8 +229,6 @@ impl<'a> Parse<'a> for Instr {
 
 impl Peek for Instr {
     ghost plain = { refl };
-
-    ghost full = { refl };
 
     ghost sure = { refl };
 
