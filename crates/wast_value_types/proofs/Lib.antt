@@ -1,1 +1,2 @@
+pub mod JoinedLooks
 pub mod ValueLaws

@@ -1,2 +1,3 @@
 pub mod ValueTree
 pub mod ValueSyntax
+pub mod ValueViews

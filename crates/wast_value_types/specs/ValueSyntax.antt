@@ -2,7 +2,7 @@
 use Rattle.std.specs.Prelude.{ℕ, ◌-◌, ◌^◌, ◌==◌, zero, suc, Bool, true, false, if◌then◌else◌, List, [], ◌∷◌, map, Option, Some, None, is_some, unwrap_or, codes}
 use Rattle.wasm_encoder_base.specs.Types.{FuncHeap, ExternHeap, AnyHeap, EqHeap, I31Heap, StructHeap, ArrayHeap, ExnHeap, NoFuncHeap, NoExternHeap, NoneHeap, NoExnHeap}
 use Rattle.wast_parser.specs.Look.{Test, On, OneOf, Any, AnInteger, AnId, AWord, this_word, this_group, join}
-use Rattle.wast_parser.specs.Grammar.{Syntax, among, word, seen, only, seq, maybe, either, group}
+use Rattle.wast_parser.specs.Grammar.{Syntax, among, word, seen, only, seq, maybe, either, paren, group}
 use Rattle.wast_parser.specs.Integers.{number_in, unsigned}
 use Rattle.wast_parser.specs.Identifiers.{index}
 use Rattle.wast_value_types.specs.ValueTree.{NumberType, I32, I64, F32, F64, V128, HeapWord, Known, Cont, NoCont, HeapType, Abstract, Concrete, Exact, RefType, ValType, Number, Ref, PackedType, I8, I16, StorageType, Packed, Value, FieldType, Limits, TableType, MemoryType, GlobalType}
@@ -103,6 +103,10 @@ module _ {N P : Type 0} where
   -- whether this word stands there
   abbrev pub optional : List ℕ → Syntax N P Bool
   optional w = seen is_some (maybe (this_word w ∷ []) (word w))
+
+  -- this word in parentheses
+  abbrev pub alone : List ℕ → Syntax N P (Unit {0})
+  alone w = seen (λ _. tt) (paren (word w))
 
   abbrev pub u32 : Syntax N P ℕ
   u32 = seen (λ n. n.0) (number_in (2 ^ 32 - 1) None unsigned)
