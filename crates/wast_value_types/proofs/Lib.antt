@@ -1,2 +1,3 @@
+mod Exponents
 pub mod JoinedLooks
 pub mod ValueLaws

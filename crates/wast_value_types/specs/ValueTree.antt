@@ -1,6 +1,6 @@
 -- The types of values, heaps, tables, memories and globals as they are written: abstract syntax trees (WebAssembly 3.0, 6.4),
 -- over names of type N and places of type P.
-use Rattle.std.specs.Prelude.{ℕ, Bool, Option}
+use Rattle.std.specs.Prelude.{ℕ, Bool, true, Option, Some, None, option_map}
 use Rattle.wasm_encoder_base.specs.Types.{AbstractHeapType}
 use Rattle.wast_parser.specs.Identifiers.{Reference}
 
@@ -70,3 +70,11 @@ pub record GlobalType (N P : Type 0) : Type 0 where
   pub val_type : ValType N P
   pub mutable : Bool
   pub shared : Bool
+
+-- the same reference type with a shared heap type, where that is abstract
+abbrev pub shared_heap : {N P : Type 0} → HeapType N P → Option (HeapType N P)
+shared_heap (Abstract shared w) = Some (Abstract true w)
+shared_heap h = None
+
+abbrev pub shared_form : {N P : Type 0} → RefType N P → Option (RefType N P)
+shared_form r = option_map (λ h. record { nullable = r.nullable; heap_type = h }) (shared_heap r.heap_type)

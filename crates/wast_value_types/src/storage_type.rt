@@ -1,0 +1,137 @@
+//! Storage types and field types.
+ghost use Rattle.std.specs.Prelude.{◌≡◌, ℕ, List, IfOk};
+ghost use Rattle.wast_parser.specs.Lawful.{Lawful};
+ghost use Rattle.wast_value_types.specs.ValueTree.{Packed};
+ghost use Rattle.wast_value_types.specs.ValueTree as spec;
+ghost use Rattle.wast_value_types.specs.ValueSyntax.{packed_words, storage_type, field_type};
+ghost use Rattle.wast_value_types.specs.ValueViews.{packed_type, packed_text, storage_tree, field_tree};
+
+use crate::group::{Group, group_of};
+use crate::keyword::Mut;
+use crate::val_type::ValType;
+use crate::word::{Word, Words, Written, find};
+use std::alloc::{AllocError, Global};
+use wast_parser::{Error, Meaning, Parse, Parser};
+
+/// A storage type (6.4.6): what a field holds.
+#[derive(Debug, Drop)]
+#[derive_where(PartialEq, Eq, Hash)]
+pub enum StorageType<'a> {
+    I8,
+    I16,
+    Val(ValType<'a>),
+}
+
+impl<'a> StorageType<'a> {
+    /// The same storage type at the same place. Fails only where a name owns memory and none is found for the copy.
+    pub fn clone(&self, alloc: Global) -> Result<Self, AllocError>
+        ensures { IfOk result (λ copy. copy ≡ self.now) }
+    {
+        match self {
+            StorageType::I8 => Ok(StorageType::I8),
+            StorageType::I16 => Ok(StorageType::I16),
+            StorageType::Val(val_type) => Ok(StorageType::Val(val_type.clone(alloc)?)),
+        }
+    }
+}
+
+impl<'a> Meaning for StorageType<'a> {
+    ghost Tree = { spec.StorageType (List ℕ) ℕ };
+
+    ghost tree = { storage_tree };
+
+    ghost syntax = { storage_type };
+
+    fn lawful()
+        ensures { Lawful (storage_type {N = List ℕ} {P = ℕ}) }
+    {}
+}
+
+impl<'a> Parse<'a> for StorageType<'a> {
+    fn parse(parser: &mut Parser<'a>) -> Result<Self, Error> {
+        if parser.peek::<Word<PackedType>>()? {
+            let packed: Word<PackedType> = parser.parse()?;
+            Ok(packed.value.storage_type())
+        } else {
+            Ok(StorageType::Val(ValType::parse(parser)?))
+        }
+    }
+}
+
+/// A field type (6.4.6): what a field holds, and whether it can be set.
+#[derive(Debug, Drop)]
+pub struct FieldType<'a> {
+    pub mutable: bool,
+    pub ty: StorageType<'a>,
+}
+
+impl<'a> Meaning for FieldType<'a> {
+    ghost Tree = { spec.FieldType (List ℕ) ℕ };
+
+    ghost tree = { field_tree };
+
+    ghost syntax = { field_type };
+
+    fn lawful()
+        ensures { Lawful (field_type {N = List ℕ} {P = ℕ}) }
+    {}
+}
+
+impl<'a> Parse<'a> for FieldType<'a> {
+    fn parse(parser: &mut Parser<'a>) -> Result<Self, Error> {
+        let mutable = parser.peek::<Group<Mut>>()?;
+        let ty = if mutable {
+            group_of(parser, "mut")?
+        } else {
+            StorageType::parse(parser)?
+        };
+        Ok(FieldType { mutable, ty })
+    }
+}
+
+/// A packed type (6.4.6).
+#[derive(Clone, Copy)]
+enum PackedType {
+    I8,
+    I16,
+}
+
+/// The packed types in the order of their keywords.
+const PACKED_TYPES: [PackedType; 2] = [PackedType::I8, PackedType::I16];
+
+impl PackedType {
+    /// The same as a storage type.
+    fn storage_type<'a>(self) -> StorageType<'a>
+        ensures { storage_tree result ≡ Packed (packed_type self) }
+    {
+        match self {
+            PackedType::I8 => StorageType::I8,
+            PackedType::I16 => StorageType::I16,
+        }
+    }
+}
+
+impl Written for PackedType {
+    ghost Tree = { spec.PackedType };
+
+    ghost entry = { λ p. (packed_text p, packed_type p) };
+
+    ghost entries = { packed_words };
+
+    fn text(self) -> &'static str {
+        match self {
+            PackedType::I8 => "i8",
+            PackedType::I16 => "i16",
+        }
+    }
+}
+
+impl Words for PackedType {
+    const NAME: &'static str = "a packed type";
+
+    const EXPECTED: &'static str = "expected a packed type";
+
+    fn of(text: &[u8]) -> Option<Self> {
+        find(&PACKED_TYPES, text)
+    }
+}
