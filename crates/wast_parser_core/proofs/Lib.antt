@@ -14,3 +14,4 @@ pub mod MarkLooks
 pub mod Wants
 pub mod WordSets
 pub mod Comments
+pub mod Beginnings

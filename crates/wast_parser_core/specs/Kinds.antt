@@ -27,6 +27,12 @@ abbrev pub is_integer : TokenKind → Bool
 is_integer (kinds.Integer kind) = true
 is_integer _ = false
 
+-- what may stand for a float (6.3.2)
+abbrev pub is_number : TokenKind → Bool
+is_number (kinds.Integer kind) = true
+is_number (kinds.Float kind) = true
+is_number _ = false
+
 -- KINDS AS LOOKS SEE THEM; white space and comments are never looked at
 abbrev pub shape_of : TokenKind → Shape
 shape_of kinds.Whitespace = AnEnd

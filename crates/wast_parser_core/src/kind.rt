@@ -3,7 +3,7 @@ ghost use Rattle.std.specs.Prelude.{◌≡◌, true};
 ghost use Rattle.wast_lexer.specs.declared.token.TokenKind.TheVariants as kinds;
 ghost use Rattle.wast_lexer.specs.Tiling.{is_annotation};
 ghost use Rattle.wast_grammar.specs.Significant.{is_trivia, is_lparen};
-ghost use Rattle.wast_parser_core.specs.Kinds.{is_rparen, is_keyword, is_identifier, is_string, shape_of, wanted};
+ghost use Rattle.wast_parser_core.specs.Kinds.{is_rparen, is_keyword, is_identifier, is_string, is_number, shape_of, wanted};
 ghost use Rattle.wast_grammar.specs.Look.{same_shape};
 
 use wast_lexer::TokenKind;
@@ -55,6 +55,13 @@ pub fn is_string(kind: TokenKind) -> bool
     ensures is { result ≡ true → kind ≡ kinds.String }
 {
     matches!(kind, TokenKind::String)
+}
+
+/// Whether a token may stand for a float.
+pub fn is_number(kind: TokenKind) -> bool
+    ensures { result ≡ is_number kind }
+{
+    matches!(kind, TokenKind::Integer(_) | TokenKind::Float(_))
 }
 
 /// Kinds of tokens that are looked for and taken.

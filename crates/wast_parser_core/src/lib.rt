@@ -27,6 +27,7 @@
 #![tactic(auto)]
 
 mod annotation;
+mod begun;
 mod buffer;
 mod comment;
 mod cursor;
@@ -54,6 +55,7 @@ pub use cursor::Cursor;
 pub use integer::FixedInteger;
 pub use keyword::{Keyword, KeywordName};
 pub use list::list_of;
+pub use literal::magnitude;
 pub use lookahead::Lookahead1;
 pub use meaning::{Item, Meaning, Parse, Peek};
 pub use paren::{LParen, RParen};

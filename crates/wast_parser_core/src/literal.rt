@@ -41,8 +41,8 @@ fn is_minus(sign: Option<SignToken>) -> bool
     matches!(sign, Some(SignToken::Minus))
 }
 
-/// The number that digits of a base say, if it has 64 bits.
-fn magnitude(digits: &[u8], base: u32) -> Option<u64>
+/// The number that digits of a base say, if it has 64 bits. What isn't a digit is not refused; `_` is passed.
+pub fn magnitude(digits: &[u8], base: u32) -> Option<u64>
     ensures { SomeIff result (number base digits.now < 2 ^ 64) (number base digits.now) }
 {
     let mut size: u64 = 0;
