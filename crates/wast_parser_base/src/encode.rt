@@ -1,10 +1,13 @@
 //! Spellings in bytes of what a text spells.
 
 ghost use Rattle.std.specs.Prelude.{◌<◌, ◌^◌, ◌++◌, ℕ, [], ◌∷◌, All, List, length};
+ghost use Rattle.std.specs.Cow.{cow_str_bytes};
 ghost use Rattle.wasm_encoder_base.specs.Bytes.{counted, sized};
 ghost use Rattle.wasm_encoder_base.specs.Encodes.{Encodes, Puts};
 ghost use Rattle.wasm_encoder_base.specs.Leb.{sleb, uleb};
 
+use std::alloc::Global;
+use std::borrow::CowStr;
 use wasm_encoder_base::{EncodeError, encode_sized, rolled_back};
 
 /// A value of a text that has a spelling in bytes.
@@ -98,6 +101,17 @@ impl Encode for &str {
 
     fn encode(&self, sink: &mut Vec<u8>) -> Result<(), EncodeError> {
         encode_sized(self.as_bytes(), sink)
+    }
+}
+
+/// A name.
+impl<'a> Encode for CowStr<'a, Global> {
+    ghost fits = { λ text. length (cow_str_bytes text) < 2 ^ 32 };
+
+    ghost spelling = { λ text. sized (cow_str_bytes text) };
+
+    fn encode(&self, sink: &mut Vec<u8>) -> Result<(), EncodeError> {
+        (&**self).encode(sink)
     }
 }
 

@@ -7,7 +7,7 @@ use Rattle.wast_lexer.specs.TokenText.{text_of}
 use Rattle.wast_grammar.specs.Tokens.{Open, Close, Id, Word, Mark, Integer, Float, Text, Reserved, Broken}
 use Rattle.wast_grammar.specs.Significant.{TextToken, token_of, is_trivia, is_lparen}
 use Rattle.wast_grammar.specs.Spelling.{same_text, ◌>>=◌, that_one}
-use Rattle.wast_grammar.specs.Look.{ask, this_word, this_group}
+use Rattle.wast_grammar.specs.Look.{ask, AWord, On, Texts, This, this_word}
 use Rattle.wast_grammar.specs.Grammar.{one_of}
 use Rattle.wast_grammar.proofs.SignificantLaws.{lparen_kind}
 use Rattle.wast_parser_core.specs.Kinds.{is_keyword}
@@ -43,18 +43,18 @@ other_word v s t i n h other =
     ∙ ap (λ b. (cond b (Some t.offset) None) >>= λ a. Some (a, rest)) other
 
 -- a look for a word meets no parenthesis
-flat : (v : List ℕ) (q : ℕ) (ts : List TextToken) → ask (this_word v ∷ []) (Open q ∷ ts) ≡ Some false
-flat v q [] = refl
-flat v q (Open p ∷ ts) = refl
-flat v q (Close p ∷ ts) = refl
-flat v q (Id n p ∷ ts) = refl
-flat v q (Word n p ∷ ts) = refl
-flat v q (Mark n p ∷ ts) = refl
-flat v q (Integer n w p ∷ ts) = refl
-flat v q (Float n p ∷ ts) = refl
-flat v q (Text n p ∷ ts) = refl
-flat v q (Reserved n p ∷ ts) = refl
-flat v q (Broken ∷ ts) = refl
+pub flat : (x : Texts) (q : ℕ) (ts : List TextToken) → ask (On false AWord x ∷ []) (Open q ∷ ts) ≡ Some false
+flat x q [] = refl
+flat x q (Open p ∷ ts) = refl
+flat x q (Close p ∷ ts) = refl
+flat x q (Id n p ∷ ts) = refl
+flat x q (Word n p ∷ ts) = refl
+flat x q (Mark n p ∷ ts) = refl
+flat x q (Integer n w p ∷ ts) = refl
+flat x q (Float n p ∷ ts) = refl
+flat x q (Text n p ∷ ts) = refl
+flat x q (Reserved n p ∷ ts) = refl
+flat x q (Broken ∷ ts) = refl
 
 if_same : (b : Bool) → Some (cond b true false) ≡ Some b
 if_same true = refl
@@ -64,7 +64,7 @@ asks_word : (v : List ℕ) (k : TokenKind) (w : List ℕ) (p : ℕ) (ts : List T
 asks_word v kinds.Whitespace w p ts h = absurd (cc)
 asks_word v kinds.LineComment w p ts h = absurd (cc)
 asks_word v kinds.BlockComment w p ts h = absurd (cc)
-asks_word v kinds.LParen w p ts h = flat v p ts
+asks_word v kinds.LParen w p ts h = flat (This v) p ts
 asks_word v kinds.RParen w p ts h = refl
 asks_word v kinds.String w p ts h = refl
 asks_word v kinds.Id w p ts h = refl
@@ -78,37 +78,37 @@ pub asked_word : (v : List ℕ) (s : State) (t : Token) (i : ℕ) → IsNext s t
 asked_word v s t i n = ap (ask (this_word v ∷ [])) n.found ∙ asks_word v t.kind (text_of s.source.text t) t.offset (ahead (record s { at = i })) n.seen
 
 -- behind a parenthesis a look for a group asks what one for its word does
-pub group_word : (v : List ℕ) (q : ℕ) (ts : List TextToken) → ask (this_group v ∷ []) (Open q ∷ ts) ≡ ask (this_word v ∷ []) ts
-group_word v q [] = refl
-group_word v q (Open p ∷ ts) = sym (flat v p ts)
-group_word v q (Close p ∷ ts) = refl
-group_word v q (Id n p ∷ ts) = refl
-group_word v q (Word n p ∷ ts) = refl
-group_word v q (Mark n p ∷ ts) = refl
-group_word v q (Integer n w p ∷ ts) = refl
-group_word v q (Float n p ∷ ts) = refl
-group_word v q (Text n p ∷ ts) = refl
-group_word v q (Reserved n p ∷ ts) = refl
-group_word v q (Broken ∷ ts) = refl
+pub group_word : (x : Texts) (q : ℕ) (ts : List TextToken) → ask (On true AWord x ∷ []) (Open q ∷ ts) ≡ ask (On false AWord x ∷ []) ts
+group_word x q [] = refl
+group_word x q (Open p ∷ ts) = sym (flat x p ts)
+group_word x q (Close p ∷ ts) = refl
+group_word x q (Id n p ∷ ts) = refl
+group_word x q (Word n p ∷ ts) = refl
+group_word x q (Mark n p ∷ ts) = refl
+group_word x q (Integer n w p ∷ ts) = refl
+group_word x q (Float n p ∷ ts) = refl
+group_word x q (Text n p ∷ ts) = refl
+group_word x q (Reserved n p ∷ ts) = refl
+group_word x q (Broken ∷ ts) = refl
 
-asks_group : (v : List ℕ) (k : TokenKind) (w : List ℕ) (p : ℕ) (ts : List TextToken) → is_lparen k ≡ false → is_trivia k ≡ false → ask (this_group v ∷ []) (token_of k w p ++ ts) ≡ Some false
-asks_group v kinds.Whitespace w p ts h i = absurd (cc)
-asks_group v kinds.LineComment w p ts h i = absurd (cc)
-asks_group v kinds.BlockComment w p ts h i = absurd (cc)
-asks_group v kinds.LParen w p ts h i = absurd (cc)
-asks_group v kinds.RParen w p ts h i = refl
-asks_group v kinds.String w p ts h i = refl
-asks_group v kinds.Id w p ts h i = refl
-asks_group v kinds.Keyword w p ts h i = refl
-asks_group v kinds.Annotation w p ts h i = refl
-asks_group v kinds.Reserved w p ts h i = refl
-asks_group v (kinds.Integer k) w p ts h i = refl
-asks_group v (kinds.Float k) w p ts h i = refl
+asks_group : (x : Texts) (k : TokenKind) (w : List ℕ) (p : ℕ) (ts : List TextToken) → is_lparen k ≡ false → is_trivia k ≡ false → ask (On true AWord x ∷ []) (token_of k w p ++ ts) ≡ Some false
+asks_group x kinds.Whitespace w p ts h i = absurd (cc)
+asks_group x kinds.LineComment w p ts h i = absurd (cc)
+asks_group x kinds.BlockComment w p ts h i = absurd (cc)
+asks_group x kinds.LParen w p ts h i = absurd (cc)
+asks_group x kinds.RParen w p ts h i = refl
+asks_group x kinds.String w p ts h i = refl
+asks_group x kinds.Id w p ts h i = refl
+asks_group x kinds.Keyword w p ts h i = refl
+asks_group x kinds.Annotation w p ts h i = refl
+asks_group x kinds.Reserved w p ts h i = refl
+asks_group x (kinds.Integer k) w p ts h i = refl
+asks_group x (kinds.Float k) w p ts h i = refl
 
-pub no_group : (v : List ℕ) (s : State) (t : Token) (i : ℕ) → IsNext s t i → is_lparen t.kind ≡ false → ask (this_group v ∷ []) (ahead s) ≡ Some false
-no_group v s t i n h = ap (ask (this_group v ∷ [])) n.found ∙ asks_group v t.kind (text_of s.source.text t) t.offset (ahead (record s { at = i })) h n.seen
+pub no_group : (x : Texts) (s : State) (t : Token) (i : ℕ) → IsNext s t i → is_lparen t.kind ≡ false → ask (On true AWord x ∷ []) (ahead s) ≡ Some false
+no_group x s t i n h = ap (ask (On true AWord x ∷ [])) n.found ∙ asks_group x t.kind (text_of s.source.text t) t.offset (ahead (record s { at = i })) h n.seen
 
-pub within_group : (v : List ℕ) (s : State) (t : Token) (i : ℕ) → IsNext s t i → is_lparen t.kind ≡ true → ask (this_group v ∷ []) (ahead s) ≡ ask (this_word v ∷ []) (ahead (record s { at = i }))
-within_group v s t i n h =
-    ap (ask (this_group v ∷ [])) (n.found ∙ ap (λ k. token_of k (text_of s.source.text t) t.offset ++ ahead (record s { at = i })) (lparen_kind t.kind h))
-    ∙ group_word v t.offset (ahead (record s { at = i }))
+pub within_group : (x : Texts) (s : State) (t : Token) (i : ℕ) → IsNext s t i → is_lparen t.kind ≡ true → ask (On true AWord x ∷ []) (ahead s) ≡ ask (On false AWord x ∷ []) (ahead (record s { at = i }))
+within_group x s t i n h =
+    ap (ask (On true AWord x ∷ [])) (n.found ∙ ap (λ k. token_of k (text_of s.source.text t) t.offset ++ ahead (record s { at = i })) (lparen_kind t.kind h))
+    ∙ group_word x t.offset (ahead (record s { at = i }))

@@ -1,5 +1,5 @@
 //! Words that have values.
-ghost use Rattle.std.specs.Prelude.{◌≡◌, ℕ, List, [], ◌∷◌, map, option_map, false};
+ghost use Rattle.std.specs.Prelude.{◌≡◌, ℕ, List, [], ◌∷◌, map, option_map, false, true};
 ghost use Rattle.wast_grammar.specs.Spelling.{find_but};
 ghost use Rattle.wast_grammar.specs.Look.{ask, On, AWord, OneOf};
 ghost use Rattle.wast_grammar.specs.Grammar.{among};
@@ -8,7 +8,7 @@ ghost use Rattle.wast_parser_core.specs.Reading.{Gives, Asks};
 ghost use Rattle.wast_parser_core.specs.Cursors.{stands};
 
 use crate::cursor::Cursor;
-use crate::kind::is_keyword;
+use crate::kind::{is_keyword, is_lparen};
 use crate::parser::Parser;
 use wast_lexer::Span;
 use wast_parser_base::Error;
@@ -61,6 +61,16 @@ impl<'b, 'a> Cursor<'b, 'a> {
             Some((token, _)) if is_keyword(token.kind) => {
                 Ok(T::of(token.src(self.parser.text()).as_bytes()).is_some())
             }
+            _ => Ok(false),
+        }
+    }
+
+    /// Whether a parenthesis opens here and a word of a set stands behind it.
+    pub fn peek_group_among<T: WordSet>(self) -> Result<bool, Error>
+        ensures { Asks result (stands self.entry).source (ask (On true AWord (OneOf (map T.word T.entries) T.but) ∷ []) (ahead (stands self.entry))) }
+    {
+        match self.token()? {
+            Some((token, rest)) if is_lparen(token.kind) => rest.peek_among::<T>(),
             _ => Ok(false),
         }
     }

@@ -1,5 +1,5 @@
 use Rattle.std.proofs.Common.{subst, sym, ◌∙◌, ap, Ok, [], ◌∷◌}
-use Rattle.wast_grammar.specs.Look.{ask, this_word, this_group}
+use Rattle.wast_grammar.specs.Look.{ask, This, this_word, this_group}
 use Rattle.wast_parser_core.specs.State.{State, ahead}
 use Rattle.wast_parser_core.specs.Cursors.{stands, GivesToken}
 use Rattle.wast_parser_core.proofs.States.{asks_so}
@@ -13,7 +13,7 @@ returns-in-Some c =
     let d = c.in-Some.rest in
     let next = subst (λ o. GivesToken (Ok o) c.args.self) c.in-Some.is c.in_ok-token.ensures in
     let same = ap (λ (z : State). ask (this_word c.args.text.now ∷ []) (ahead (record z { at = d.at }))) next.1 in
-    let asked = same ∙ sym (within_group c.args.text.now s c.in-Some.token d.at next.0 (sym c.is_lparen.ensures ∙ c.if-is_lparen.true)) in
+    let asked = same ∙ sym (within_group (This c.args.text.now) s c.in-Some.token d.at next.0 (sym c.is_lparen.ensures ∙ c.if-is_lparen.true)) in
     asks_so c.peek_word.result _ _ _ _ (ap (λ (z : State). z.source) next.1) asked c.peek_word.ensures
 
 pub returns-in_default : goal.returns-in_default
@@ -22,7 +22,7 @@ returns-in_default c =
     elim c.in_default.branch [
       | in_default-via-in-Some+else-is_lparen w ↦
           let next = subst (λ o. GivesToken (Ok o) c.args.self) w.in-Some.is c.in_ok-token.ensures in
-          no_group c.args.text.now s w.in-Some.token _ next.0 (sym w.is_lparen.ensures ∙ w.if-is_lparen.false)
+          no_group (This c.args.text.now) s w.in-Some.token _ next.0 (sym w.is_lparen.ensures ∙ w.if-is_lparen.false)
       | in_default-via-in_default w ↦
           let none = subst (λ o. GivesToken (Ok o) c.args.self) w.in_default.is c.in_ok-token.ensures in
           ap (ask (this_group c.args.text.now ∷ [])) none
