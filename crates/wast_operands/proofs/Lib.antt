@@ -1,0 +1,2 @@
+pub mod OperandExamples
+pub mod OperandLaws

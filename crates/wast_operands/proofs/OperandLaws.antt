@@ -1,0 +1,145 @@
+-- The laws of the syntax of operands: each mirrors its production.
+use Rattle.std.proofs.Common.{◌≡◌, ℕ, Bool, true, false, [], Some, None, refl}
+use Rattle.std.specs.Prelude.{◌*◌, ◌-◌, ◌^◌, codes}
+use Rattle.std.specs.Int.{Width, byte_len}
+use Rattle.wast_parser.specs.Look.{apart, join, faults}
+use Rattle.wast_parser.specs.Grammar.{Syntax, wide, seq}
+use Rattle.wast_parser.specs.Integers.{unsigned, signed}
+use Rattle.wast_grammar.proofs.Looks.{sub_law}
+use Rattle.wast_parser.proofs.GrammarLaws.{Lawful, word_laws, among_laws, begun_laws, float_laws, nothing_laws, seen_laws, only_laws, seq_laws, next_laws, maybe_laws, many_laws, times_laws, either_laws, group_laws, bound_laws, wide_laws}
+use Rattle.wast_parser.proofs.IdentifierLaws.{identifier_laws, index_laws, item_ref_laws}
+use Rattle.wast_parser.proofs.IntegerLaws.{number_laws}
+use Rattle.wast_operands.specs.OperandTree.{Modifiers, Shape, I8x16, I16x8, I32x4, I64x2, F32x4, F64x2}
+use Rattle.wast_operands.specs.OperandSyntax.{u64_number, alignment, ordering_word, orderings, shape_word, shapes, integer_starts, id_starts, index_starts, float_starts, ordering_starts, offset_starts, align_starts, type_starts, handle_starts, lane_starts, is_bare, two_indices, u32_operand, index_count, label_table, optional_index, optional_indices, one_or_two, signed_literal, float_literal, lane, shuffle, integers, floats, lanes_of, shape, vector, ordering, optional_ordering, ordered, array_target, target, one_or_two_orderings, offset, align, modifiers, mem_arg, named_target, behind_integer, integer_first, behind_modifiers, mem_arg_lane, handled, handle_body, handle, handlers, resume, resume_throw}
+
+module _ {N P : Type 0} where
+  pub two_indices_laws : Lawful (two_indices {N = N} {P = P})
+  two_indices_laws = seq_laws _ _ index_laws index_laws refl
+
+  pub u32_laws : Lawful (u32_operand {N = N} {P = P})
+  u32_laws = seen_laws _ _ (number_laws (2 ^ 32 - 1) None unsigned)
+
+  pub index_count_laws : Lawful (index_count {N = N} {P = P})
+  index_count_laws = seq_laws _ _ index_laws u32_laws refl
+
+  pub label_table_laws : Lawful (label_table {N = N} {P = P})
+  label_table_laws = seen_laws _ _ (seq_laws _ _ index_laws (many_laws _ _ index_laws refl refl refl refl refl) refl)
+
+  pub optional_index_laws : Lawful (optional_index {N = N} {P = P})
+  optional_index_laws = maybe_laws index_starts _ index_laws refl refl refl
+
+  pub optional_indices_laws : Lawful (optional_indices {N = N} {P = P})
+  optional_indices_laws = maybe_laws index_starts _ two_indices_laws refl refl refl
+
+  pub one_or_two_laws : Lawful (one_or_two {N = N} {P = P})
+  one_or_two_laws = seen_laws _ _ (seq_laws _ _ index_laws optional_index_laws refl)
+
+  -- LITERALS
+  pub signed_literal_laws : (bits : ℕ) → Lawful (signed_literal {N = N} {P = P} bits)
+  signed_literal_laws bits = seen_laws _ _ (number_laws (2 ^ bits - 1) (Some (2 ^ (bits - 1))) (signed (2 ^ (bits - 1))))
+
+  pub float_literal_laws : Lawful (float_literal {N = N} {P = P})
+  float_literal_laws = seen_laws _ _ float_laws
+
+  pub lane_laws : Lawful (lane {N = N} {P = P})
+  lane_laws = seen_laws _ _ (number_laws (2 ^ 8 - 1) None unsigned)
+
+  pub shuffle_laws : Lawful (shuffle {N = N} {P = P})
+  shuffle_laws = times_laws lane lane_laws refl refl 16
+
+  -- VECTORS
+  pub integers_laws : (w : Width) (n : ℕ) → Lawful (integers {N = N} {P = P} w n)
+  integers_laws w n = seen_laws _ _ (times_laws (signed_literal (8 * byte_len w)) (signed_literal_laws (8 * byte_len w)) refl refl n)
+
+  pub floats_laws : (w : Width) (n : ℕ) → Lawful (floats {N = N} {P = P} w n)
+  floats_laws w n = seen_laws _ _ (times_laws float_literal float_literal_laws refl refl n)
+
+  bounded_integers : (w : Width) (n : ℕ) → (integers {N = N} {P = P} w n).empty ≡ false → Lawful (wide float_starts false [] (integers {N = N} {P = P} w n))
+  bounded_integers w n full = wide_laws (integers w n) float_starts false [] (integers_laws w n) (sub_law integer_starts float_starts refl) (λ e. cc) (sub_law [] [] refl)
+
+  lanes_laws : (s : Shape) → Lawful (wide float_starts false [] (lanes_of {N = N} {P = P} s))
+  lanes_laws I8x16 = bounded_integers _ 16 refl
+  lanes_laws I16x8 = bounded_integers _ 8 refl
+  lanes_laws I32x4 = bounded_integers _ 4 refl
+  lanes_laws I64x2 = bounded_integers _ 2 refl
+  lanes_laws F32x4 = floats_laws _ 4
+  lanes_laws F64x2 = floats_laws _ 2
+
+  pub shape_laws : Lawful (shape {N = N} {P = P})
+  shape_laws = among_laws shape_word shapes []
+
+  pub vector_laws : Lawful (vector {N = N} {P = P})
+  vector_laws = seen_laws _ _ (next_laws shape (λ s. lanes_of s.0) float_starts false [] shape_laws (λ s. lanes_laws s.0) refl)
+
+  -- ORDERINGS
+  pub ordering_laws : Lawful (ordering {N = N} {P = P})
+  ordering_laws = seen_laws _ _ (among_laws ordering_word orderings [])
+
+  pub optional_ordering_laws : Lawful (optional_ordering {N = N} {P = P})
+  optional_ordering_laws = maybe_laws ordering_starts _ ordering_laws refl refl refl
+
+  pub ordered_laws : {A : Type 0} (g : Syntax N P A) → Lawful g → apart (optional_ordering {N = N} {P = P}).stops g.starts ≡ true → Lawful (ordered g)
+  ordered_laws g lg d = seen_laws _ _ (seq_laws optional_ordering g optional_ordering_laws lg d)
+
+  -- MEMORY ARGUMENTS
+  pub array_target_laws : Lawful (array_target {N = N} {P = P})
+  array_target_laws = seen_laws _ _ (item_ref_laws (codes "type"))
+
+  pub target_laws : Lawful (target {N = N} {P = P})
+  target_laws = either_laws index_starts _ _ (seen_laws _ _ index_laws) (maybe_laws type_starts _ array_target_laws refl refl refl) refl refl refl refl
+
+  pub one_or_two_orderings_laws : Lawful (one_or_two_orderings {N = N} {P = P})
+  one_or_two_orderings_laws = maybe_laws ordering_starts _ (seq_laws _ _ ordering_laws optional_ordering_laws refl) refl refl refl
+
+  pub offset_laws : Lawful (offset {N = N} {P = P})
+  offset_laws = maybe_laws offset_starts _ (seen_laws _ _ (begun_laws (codes "offset=") u64_number)) refl refl refl
+
+  pub align_laws : Lawful (align {N = N} {P = P})
+  align_laws = maybe_laws align_starts _ (seen_laws _ _ (begun_laws (codes "align=") alignment)) refl refl refl
+
+  pub modifiers_laws : Lawful (modifiers {N = N} {P = P})
+  modifiers_laws = seen_laws _ _ (seq_laws _ _ one_or_two_orderings_laws (seq_laws _ _ offset_laws align_laws refl) refl)
+
+  pub mem_arg_laws : (natural : ℕ) → Lawful (mem_arg {N = N} {P = P} natural)
+  mem_arg_laws natural = seen_laws _ _ (seq_laws _ _ target_laws modifiers_laws refl)
+
+  -- A MEMORY ARGUMENT AND A LANE
+  named_target_laws : Lawful (named_target {N = N} {P = P})
+  named_target_laws = either_laws id_starts _ _ (seen_laws _ _ identifier_laws) array_target_laws refl refl refl refl
+
+  modified_laws : Lawful (seq {N = N} {P = P} modifiers lane)
+  modified_laws = seq_laws _ _ modifiers_laws lane_laws refl
+
+  behind_integer_laws : (natural : ℕ) (n : ℕ × P) → Lawful (wide lane_starts true (join (faults lane_starts) lane_starts) (behind_integer {N = N} natural n))
+  behind_integer_laws natural n = bound_laws _ _ _ (either_laws lane_starts _ _ (seen_laws _ _ modified_laws) (only_laws _ _ (seen_laws _ _ nothing_laws)) refl refl refl refl) refl refl
+
+  integer_first_laws : (natural : ℕ) → Lawful (integer_first {N = N} {P = P} natural)
+  integer_first_laws natural = seen_laws _ _ (next_laws _ (behind_integer natural) lane_starts true (join (faults lane_starts) lane_starts) (number_laws (2 ^ 32 - 1) None unsigned) (behind_integer_laws natural) refl)
+
+  behind_modifiers_laws : (natural : ℕ) (m : Modifiers) (b : Bool) → Lawful (wide integer_starts false (join (faults lane_starts) lane_starts) (behind_modifiers {N = N} {P = P} natural m b))
+  behind_modifiers_laws natural m true = integer_first_laws natural
+  behind_modifiers_laws natural m false = wide_laws _ integer_starts false _ (seen_laws _ _ lane_laws) (sub_law integer_starts integer_starts refl) (λ e. e) (sub_law [] (join (faults lane_starts) lane_starts) refl)
+
+  pub mem_arg_lane_laws : (natural : ℕ) → Lawful (mem_arg_lane {N = N} {P = P} natural)
+  mem_arg_lane_laws natural =
+      either_laws _ _ _ (seen_laws _ _ (seq_laws _ _ named_target_laws modified_laws refl))
+      (seen_laws _ _ (next_laws modifiers (λ m. behind_modifiers natural m (is_bare m)) integer_starts false (join (faults lane_starts) lane_starts) modifiers_laws (λ m. behind_modifiers_laws natural m (is_bare m)) refl)) refl refl refl refl
+
+  -- CONTINUATIONS
+  pub handled_laws : Lawful (handled {N = N} {P = P})
+  handled_laws = either_laws index_starts _ _ (seen_laws _ _ index_laws) (seen_laws _ _ (word_laws (codes "switch"))) refl refl refl refl
+
+  pub handle_body_laws : Lawful (handle_body {N = N} {P = P})
+  handle_body_laws = seen_laws _ _ (seq_laws _ _ index_laws handled_laws refl)
+
+  pub handle_laws : Lawful (handle {N = N} {P = P})
+  handle_laws = group_laws (codes "on") _ handle_body_laws refl
+
+  pub handlers_laws : Lawful (handlers {N = N} {P = P})
+  handlers_laws = many_laws handle_starts _ handle_laws refl refl refl refl refl
+
+  pub resume_laws : Lawful (resume {N = N} {P = P})
+  resume_laws = seq_laws _ _ index_laws handlers_laws refl
+
+  pub resume_throw_laws : Lawful (resume_throw {N = N} {P = P})
+  resume_throw_laws = seq_laws _ _ index_laws resume_laws refl

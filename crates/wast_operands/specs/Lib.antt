@@ -1,0 +1,2 @@
+pub mod OperandSyntax
+pub mod OperandTree

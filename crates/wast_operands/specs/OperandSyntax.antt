@@ -1,0 +1,264 @@
+-- The syntax of operands in which no type stands (WebAssembly 3.0, 6.5).
+use Rattle.std.specs.Prelude.{ℕ, ℤ, ◌*◌, ◌-◌, ◌^◌, ◌==◌, ◌&&◌, nat_lt, Bool, true, false, if◌then◌else◌, List, [], ◌∷◌, map, Option, Some, None, is_none, unwrap_or, codes}
+use Rattle.std.specs.Int.{Width, w8, w16, w32, w64, byte_len, is_power_of_two}
+use Rattle.wast_lexer.specs.Numbers.{is_base}
+use Rattle.wast_parser.specs.Tokens.{number, base_of}
+use Rattle.wast_parser.specs.Spelling.{◌>>=◌, after}
+use Rattle.wast_parser.specs.Look.{Test, On, OneOf, Begun, Any, AnId, AnInteger, AFloat, AWord, this_group, join, faults}
+use Rattle.wast_parser.specs.Grammar.{Syntax, among, begun, word, float, nothing, next, seq, seen, only, maybe, many, times, either, group}
+use Rattle.wast_parser.specs.Integers.{number_in, unsigned, signed}
+use Rattle.wast_parser.specs.Identifiers.{Reference, ByNumber, ByName, identifier, index, item_ref}
+use Rattle.wast_operands.specs.OperandTree.{Ordering, AcqRel, SeqCst, MemArgTarget, Memory, Array, Modifiers, MemArg, Vector, Integers, Floats, Shape, I8x16, I16x8, I32x4, I64x2, F32x4, F64x2, Handle, OnLabel, OnSwitch}
+
+-- NUMBERS IN WORDS, as in `offset=8`
+-- whether a text is digits of a base, with single `_` between them (6.3.1)
+abbrev pub are_digits : Bool → List ℕ → Bool
+are_digits hex [] = false
+are_digits hex (c ∷ []) = is_base hex c
+are_digits hex (c ∷ d ∷ text) = is_base hex c && (if d == 95 then are_digits hex text else are_digits hex (d ∷ text))
+
+-- the number that digits of a base say, where they are so and it has 64 bits
+abbrev pub digits_number : Bool → List ℕ → Option ℕ
+digits_number hex text = if are_digits hex text && nat_lt (number (base_of hex) text) (2 ^ 64) then Some (number (base_of hex) text) else None
+
+-- the number that the text of a u64 says: decimal digits, or hexadecimal ones behind `0x` (6.3.1)
+abbrev pub u64_number : List ℕ → Option ℕ
+u64_number text = elim (after (codes "0x") text) [ Some digits ↦ digits_number true digits | None ↦ digits_number false text ]
+
+-- the same of an alignment, which is a power of two (6.5.6)
+abbrev pub alignment : List ℕ → Option ℕ
+alignment text = u64_number text >>= λ n. if is_power_of_two n then Some n else None
+
+-- WORDS
+abbrev pub ordering_word : Ordering → List ℕ
+ordering_word AcqRel = codes "acq_rel"
+ordering_word SeqCst = codes "seq_cst"
+
+abbrev pub orderings : List Ordering
+orderings = AcqRel ∷ SeqCst ∷ []
+
+abbrev pub shape_word : Shape → List ℕ
+shape_word I8x16 = codes "i8x16"
+shape_word I16x8 = codes "i16x8"
+shape_word I32x4 = codes "i32x4"
+shape_word I64x2 = codes "i64x2"
+shape_word F32x4 = codes "f32x4"
+shape_word F64x2 = codes "f64x2"
+
+abbrev pub shapes : List Shape
+shapes = I8x16 ∷ I16x8 ∷ I32x4 ∷ I64x2 ∷ F32x4 ∷ F64x2 ∷ []
+
+-- WHAT THEY BEGIN WITH
+abbrev pub integer_starts : List Test
+integer_starts = On false AnInteger Any ∷ []
+
+abbrev pub id_starts : List Test
+id_starts = On false AnId Any ∷ []
+
+abbrev pub index_starts : List Test
+index_starts = On false AnInteger Any ∷ On false AnId Any ∷ []
+
+abbrev pub float_starts : List Test
+float_starts = On false AFloat Any ∷ On false AnInteger Any ∷ []
+
+abbrev pub ordering_starts : List Test
+ordering_starts = On false AWord (OneOf (map ordering_word orderings) []) ∷ []
+
+abbrev pub shape_starts : List Test
+shape_starts = On false AWord (OneOf (map shape_word shapes) []) ∷ []
+
+abbrev pub offset_starts : List Test
+offset_starts = On false AWord (Begun (codes "offset=")) ∷ []
+
+abbrev pub align_starts : List Test
+align_starts = On false AWord (Begun (codes "align=")) ∷ []
+
+abbrev pub modifier_starts : List Test
+modifier_starts = join ordering_starts (join offset_starts align_starts)
+
+abbrev pub type_starts : List Test
+type_starts = this_group (codes "type") ∷ []
+
+abbrev pub handle_starts : List Test
+handle_starts = this_group (codes "on") ∷ []
+
+-- the modifiers that stand in front of a lane, and the lane
+abbrev pub lane_starts : List Test
+lane_starts = join modifier_starts integer_starts
+
+-- WHAT PARTS STAND FOR
+-- the labels of br_table: all but the last, and the last
+abbrev pub but_last : {A : Type 0} → A → List A → List A × A
+but_last a [] = ([], a)
+but_last a (b ∷ more) = (a ∷ (but_last b more).0, (but_last b more).1)
+
+-- one index or two, of which the last must be there
+abbrev pub first_if_two : {A : Type 0} → A × Option A → Option A × A
+first_if_two (a, None) = (None, a)
+first_if_two (a, Some b) = (Some a, b)
+
+-- no modifiers
+abbrev pub bare : Modifiers
+bare = record { ordering = None; offset = None; align = None }
+
+abbrev pub is_bare : Modifiers → Bool
+is_bare m = is_none m.ordering && (is_none m.offset && is_none m.align)
+
+abbrev pub as_modifiers : Option (Ordering × Option Ordering) × (Option ℕ × Option ℕ) → Modifiers
+as_modifiers m = record { ordering = m.0; offset = m.1.0; align = m.1.1 }
+
+module _ {N P : Type 0} where
+  -- INDICES
+  -- index index
+  abbrev pub two_indices : Syntax N P (Reference N P × Reference N P)
+  two_indices = seq index index
+
+  -- index u32
+  abbrev pub u32_operand : Syntax N P ℕ
+  u32_operand = seen (λ n. n.0) (number_in (2 ^ 32 - 1) None unsigned)
+
+  abbrev pub index_count : Syntax N P (Reference N P × ℕ)
+  index_count = seq index u32_operand
+
+  -- index index*, the last of which is the default of br_table
+  abbrev pub label_table : Syntax N P (List (Reference N P) × Reference N P)
+  label_table = seen (λ x. but_last x.0 x.1) (seq index (many index_starts index))
+
+  -- index?
+  abbrev pub optional_index : Syntax N P (Option (Reference N P))
+  optional_index = maybe index_starts index
+
+  -- (index index)?
+  abbrev pub optional_indices : Syntax N P (Option (Reference N P × Reference N P))
+  optional_indices = maybe index_starts two_indices
+
+  -- index? index
+  abbrev pub one_or_two : Syntax N P (Option (Reference N P) × Reference N P)
+  one_or_two = seen first_if_two (seq index optional_index)
+
+  -- LITERALS (6.3.1, 6.3.2)
+  -- an integer of so many bits, which means a signed number
+  abbrev pub signed_literal : ℕ → Syntax N P ℤ
+  signed_literal bits = seen (λ n. n.0) (number_in (2 ^ bits - 1) (Some (2 ^ (bits - 1))) (signed (2 ^ (bits - 1))))
+
+  -- what may stand for a float, as it is written
+  abbrev pub float_literal : Syntax N P (List ℕ)
+  float_literal = seen (λ x. x.0) float
+
+  -- the number of a lane
+  abbrev pub lane : Syntax N P ℕ
+  lane = seen (λ n. n.0) (number_in (2 ^ 8 - 1) None unsigned)
+
+  -- sixteen of them
+  abbrev pub shuffle : Syntax N P (List ℕ)
+  shuffle = times 16 lane
+
+  -- VECTORS: a shape, and as many literals
+  abbrev pub integers : Width → ℕ → Syntax N P Vector
+  integers w n = seen (Integers w) (times n (signed_literal (8 * byte_len w)))
+
+  abbrev pub floats : Width → ℕ → Syntax N P Vector
+  floats w n = seen (Floats w) (times n float_literal)
+
+  abbrev pub lanes_of : Shape → Syntax N P Vector
+  lanes_of I8x16 = integers w8 16
+  lanes_of I16x8 = integers w16 8
+  lanes_of I32x4 = integers w32 4
+  lanes_of I64x2 = integers w64 2
+  lanes_of F32x4 = floats w32 4
+  lanes_of F64x2 = floats w64 2
+
+  abbrev pub shape : Syntax N P (Shape × P)
+  shape = among shape_word shapes []
+
+  abbrev pub vector : Syntax N P Vector
+  vector = seen (λ x. x.1) (next shape (λ s. lanes_of s.0) float_starts false [])
+
+  -- ORDERINGS
+  abbrev pub ordering : Syntax N P Ordering
+  ordering = seen (λ x. x.0) (among ordering_word orderings [])
+
+  abbrev pub optional_ordering : Syntax N P (Option Ordering)
+  optional_ordering = maybe ordering_starts ordering
+
+  -- ordering? and what follows it; where none is written it is seq_cst
+  abbrev pub ordered : {A : Type 0} → Syntax N P A → Syntax N P (Ordering × A)
+  ordered g = seen (λ x. (unwrap_or x.0 SeqCst, x.1)) (seq optional_ordering g)
+
+  -- MEMORY ARGUMENTS (6.5.6): index? offset=u64? align=u64?; beside that (type index) for the index, and orderings behind it
+  abbrev pub array_target : Syntax N P (MemArgTarget N P)
+  array_target = seen (λ x. Array x.1) (item_ref (codes "type"))
+
+  abbrev pub target : Syntax N P (Option (MemArgTarget N P))
+  target = either index_starts (seen (λ i. Some (Memory i)) index) (maybe type_starts array_target)
+
+  abbrev pub one_or_two_orderings : Syntax N P (Option (Ordering × Option Ordering))
+  one_or_two_orderings = maybe ordering_starts (seq ordering optional_ordering)
+
+  abbrev pub offset : Syntax N P (Option ℕ)
+  offset = maybe offset_starts (seen (λ x. x.0) (begun (codes "offset=") u64_number))
+
+  abbrev pub align : Syntax N P (Option ℕ)
+  align = maybe align_starts (seen (λ x. x.0) (begun (codes "align=") alignment))
+
+  abbrev pub modifiers : Syntax N P Modifiers
+  modifiers = seen as_modifiers (seq one_or_two_orderings (seq offset align))
+
+  -- the offset is 0 and the alignment the natural one where they aren't written
+  abbrev pub as_mem_arg : (natural : ℕ) → Option (MemArgTarget N P) → Modifiers → MemArg N P
+  as_mem_arg natural t m = record { target = t; ordering = m.ordering; offset = unwrap_or m.offset 0; align = unwrap_or m.align natural }
+
+  abbrev pub mem_arg : (natural : ℕ) → Syntax N P (MemArg N P)
+  mem_arg natural = seen (λ x. as_mem_arg natural x.0 x.1) (seq target modifiers)
+
+  -- A MEMORY ARGUMENT AND A LANE. Of an integer in front the rest says whether it is the memory or the lane.
+  -- a target that is no integer
+  abbrev pub named_target : Syntax N P (MemArgTarget N P)
+  named_target = either id_starts (seen (λ i. Memory (ByName i)) identifier) array_target
+
+  abbrev pub modified_lane : (natural : ℕ) → Option (MemArgTarget N P) → Syntax N P (MemArg N P × ℕ)
+  modified_lane natural t = seen (λ x. (as_mem_arg natural t x.0, x.1)) (seq modifiers lane)
+
+  -- behind an integer: modifiers and a lane, and it is the memory; or nothing, and it is the lane
+  abbrev pub behind_integer : (natural : ℕ) → ℕ × P → Syntax N P (MemArg N P × ℕ)
+  behind_integer natural n =
+      either lane_starts (modified_lane natural (Some (Memory (ByNumber n.0 n.1)))) (only (λ x. nat_lt x.1 (2 ^ 8)) (seen (λ _. (as_mem_arg natural None bare, n.0)) nothing))
+
+  abbrev pub integer_first : (natural : ℕ) → Syntax N P (MemArg N P × ℕ)
+  integer_first natural = seen (λ x. x.1) (next (number_in (2 ^ 32 - 1) None unsigned) (behind_integer natural) lane_starts true (join (faults lane_starts) lane_starts))
+
+  -- behind modifiers, which may be none
+  abbrev pub behind_modifiers : (natural : ℕ) → Modifiers → (bare : Bool) → Syntax N P (MemArg N P × ℕ)
+  behind_modifiers natural m true = integer_first natural
+  behind_modifiers natural m false = seen (λ n. (as_mem_arg natural None m, n)) lane
+
+  abbrev pub mem_arg_lane : (natural : ℕ) → Syntax N P (MemArg N P × ℕ)
+  mem_arg_lane natural =
+      either (join id_starts type_starts) (seen (λ x. (as_mem_arg natural (Some x.0) x.1.0, x.1.1)) (seq named_target (seq modifiers lane)))
+      (seen (λ x. x.1) (next modifiers (λ m. behind_modifiers natural m (is_bare m)) integer_starts false (join (faults lane_starts) lane_starts)))
+
+  -- CONTINUATIONS
+  -- (on index index), (on index switch)
+  abbrev pub as_handle : Reference N P × Option (Reference N P) → Handle N P
+  as_handle (tag, Some label) = OnLabel tag label
+  as_handle (tag, None) = OnSwitch tag
+
+  abbrev pub handled : Syntax N P (Option (Reference N P))
+  handled = either index_starts (seen Some index) (seen (λ _. None) (word (codes "switch")))
+
+  abbrev pub handle_body : Syntax N P (Handle N P)
+  handle_body = seen as_handle (seq index handled)
+
+  abbrev pub handle : Syntax N P (Handle N P)
+  handle = group (codes "on") handle_body
+
+  abbrev pub handlers : Syntax N P (List (Handle N P))
+  handlers = many handle_starts handle
+
+  -- index handle*
+  abbrev pub resume : Syntax N P (Reference N P × List (Handle N P))
+  resume = seq index handlers
+
+  -- index index handle*
+  abbrev pub resume_throw : Syntax N P (Reference N P × (Reference N P × List (Handle N P)))
+  resume_throw = seq index resume
