@@ -1,0 +1,5 @@
+mod Checks
+mod Entries
+mod Rows
+mod Search
+mod WordEntries
