@@ -6,6 +6,9 @@ use Rattle.wast_grammar.specs.Spelling.{find_by}
 use Rattle.wast_mnemonics.specs.TextTable.{TextOperands, Listed, Ordered, SelectTypes, AnyRef, Resume, ResumeThrow, TextEntry, text_entry, text_table}
 use Rattle.wast_mnemonics.specs.Mnemonics.{word_mnemonic, index_mnemonic, indices_mnemonic, optional_index_mnemonic, copy_mnemonic, init_mnemonic, memory_mnemonic, memory_lane_mnemonic}
 use Rattle.wast_mnemonics.specs.ProposalMnemonics.{index_proposal_mnemonic, indices_proposal_mnemonic, ordered_index_proposal_mnemonic, ordered_optional_index_proposal_mnemonic, ordered_indices_proposal_mnemonic}
+use Rattle.wast_mnemonics.specs.Heads as spec
+use Rattle.wast_mnemonics.specs.declared.group.GroupKind.{GroupKind}
+use Rattle.wast_mnemonics.specs.declared.group.GroupKind.TheVariants as kinds
 use Rattle.wast_mnemonics.specs.declared.word.Word.{Word}
 use Rattle.wast_mnemonics.specs.declared.word.Word.TheVariants as words
 use Rattle.wast_mnemonics.specs.declared.proposal.ProposalWord.{ProposalWord}
@@ -25,7 +28,7 @@ unfoldable pub syntax_at : List ℕ → OperandSyntax
 syntax_at w = syntax_in (find_by (λ t. t.mnemonic) w text_table)
 
 -- what its first index names, and its second; the natural alignment in bytes
-abbrev pub first_space : OperandSyntax → Space
+abbrev first_space : OperandSyntax → Space
 first_space (syntax.Index s) = s
 first_space (syntax.Indices s t) = s
 first_space (syntax.OptionalIndex s) = s
@@ -33,15 +36,18 @@ first_space (syntax.Copy s) = s
 first_space (syntax.Init s t) = s
 first_space _ = Labels
 
-abbrev pub second_space : OperandSyntax → Space
+abbrev second_space : OperandSyntax → Space
 second_space (syntax.Indices s t) = t
 second_space (syntax.Init s t) = t
 second_space _ = Labels
 
-abbrev pub alignment : OperandSyntax → ℕ
+abbrev alignment : OperandSyntax → ℕ
 alignment (syntax.Mem n) = n
 alignment (syntax.MemLane n) = n
 alignment _ = 0
+
+abbrev pub alignment_at : List ℕ → ℕ
+alignment_at w = alignment (syntax_at w)
 
 abbrev pub index_at : List ℕ → OperandSyntax
 index_at w = syntax.Index (first_space (syntax_at w))
@@ -51,6 +57,12 @@ indices_at w = syntax.Indices (first_space (syntax_at w)) (second_space (syntax_
 
 abbrev pub optional_index_at : List ℕ → OperandSyntax
 optional_index_at w = syntax.OptionalIndex (first_space (syntax_at w))
+
+abbrev pub copy_at : List ℕ → OperandSyntax
+copy_at w = syntax.Copy (first_space (syntax_at w))
+
+abbrev pub init_at : List ℕ → OperandSyntax
+init_at w = syntax.Init (first_space (syntax_at w)) (second_space (syntax_at w))
 
 -- what stands after a word
 abbrev pub proposal_operands : ProposalWord → TextOperands
@@ -77,8 +89,8 @@ word_operands words.ArrayNewFixed = Listed (syntax.IndexCount Types)
 word_operands words.BrTable = Listed syntax.BrTable
 word_operands (words.Indirect word) = Listed syntax.Indirect
 word_operands (words.OptionalIndex word) = Listed (optional_index_at (optional_index_mnemonic word))
-word_operands (words.Copy word) = Listed (syntax.Copy (first_space (syntax_at (copy_mnemonic word))))
-word_operands (words.Init word) = Listed (syntax.Init (first_space (syntax_at (init_mnemonic word))) (second_space (syntax_at (init_mnemonic word))))
+word_operands (words.Copy word) = Listed (copy_at (copy_mnemonic word))
+word_operands (words.Init word) = Listed (init_at (init_mnemonic word))
 word_operands words.RefNull = Listed syntax.Heap
 word_operands (words.Ref word) = AnyRef
 word_operands (words.Cast word) = Listed syntax.Cast
@@ -90,11 +102,16 @@ word_operands words.V128Const = Listed syntax.V128
 word_operands words.Select = SelectTypes
 word_operands (words.Lane word) = Listed syntax.Lane
 word_operands words.I8x16Shuffle = Listed syntax.Shuffle
-word_operands (words.Memory word) = Listed (syntax.Mem (alignment (syntax_at (memory_mnemonic word))))
-word_operands (words.MemoryLane word) = Listed (syntax.MemLane (alignment (syntax_at (memory_lane_mnemonic word))))
+word_operands (words.Memory word) = Listed (syntax.Mem (alignment_at (memory_mnemonic word)))
+word_operands (words.MemoryLane word) = Listed (syntax.MemLane (alignment_at (memory_lane_mnemonic word)))
 word_operands words.AtomicFence = Listed syntax.Fence
 word_operands (words.Proposal word) = proposal_operands word
 
 -- the entry of a word in the text's table
 abbrev pub entry_of : Word → TextEntry
 entry_of w = text_entry (word_mnemonic w) (word_operands w) (entries_of (word_mnemonic w) table)
+
+abbrev pub kind_view : GroupKind → spec.GroupKind
+kind_view kinds.Operands = spec.Operands
+kind_view kinds.Body = spec.Body
+kind_view kinds.Arms = spec.Arms
