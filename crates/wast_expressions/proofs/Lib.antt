@@ -1,0 +1,10 @@
+pub mod Apart
+pub mod ExpressionLaws
+pub mod FoldedLaws
+pub mod MachineLaws
+pub mod Outs
+pub mod PlainLaws
+pub mod Progress
+pub mod ReadLaws
+pub mod TurnLaws
+pub mod WholeLaws

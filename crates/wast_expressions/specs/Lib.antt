@@ -1,0 +1,5 @@
+pub mod Expressions
+pub mod Heeds
+pub mod Items
+pub mod Laws
+pub mod Machine
