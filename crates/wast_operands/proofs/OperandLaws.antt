@@ -1,15 +1,18 @@
 -- The laws of the syntax of operands: each mirrors its production.
-use Rattle.std.proofs.Common.{◌≡◌, ℕ, Bool, true, false, [], Some, None, refl}
+use Rattle.std.proofs.Common.{◌≡◌, ℕ, Bool, true, false, [], ◌∷◌, Some, None, inr, refl}
 use Rattle.std.specs.Prelude.{◌*◌, ◌-◌, ◌^◌, codes}
 use Rattle.std.specs.Int.{Width, byte_len}
+use Rattle.wast_parser.specs.Tokens.{Id, Word}
 use Rattle.wast_parser.specs.Look.{apart, join, faults}
-use Rattle.wast_parser.specs.Grammar.{Syntax, wide, seq}
+use Rattle.wast_parser.specs.Grammar.{Syntax, led, wide, seq}
+use Rattle.wast_parser.specs.Identifiers.{ByName}
 use Rattle.wast_parser.specs.Integers.{unsigned, signed}
 use Rattle.wast_grammar.proofs.Looks.{sub_law}
-use Rattle.wast_parser.proofs.GrammarLaws.{Lawful, word_laws, among_laws, begun_laws, float_laws, nothing_laws, seen_laws, only_laws, seq_laws, next_laws, maybe_laws, many_laws, times_laws, either_laws, group_laws, bound_laws, wide_laws}
+use Rattle.wast_parser.proofs.GrammarLaws.{Lawful, Leads, led_laws, word_laws, among_laws, begun_laws, float_laws, nothing_laws, seen_laws, only_laws, seq_laws, next_laws, maybe_laws, many_laws, times_laws, either_laws, group_laws, bound_laws, wide_laws}
+use Rattle.wast_parser.proofs.LeadLaws.{seen_leads, among_leads, group_leads}
 use Rattle.wast_parser.proofs.IdentifierLaws.{identifier_laws, index_laws, item_ref_laws}
 use Rattle.wast_parser.proofs.IntegerLaws.{number_laws}
-use Rattle.wast_operands.specs.OperandTree.{Modifiers, Shape, I8x16, I16x8, I32x4, I64x2, F32x4, F64x2}
+use Rattle.wast_operands.specs.OperandTree.{Modifiers, OnSwitch, Shape, I8x16, I16x8, I32x4, I64x2, F32x4, F64x2}
 use Rattle.wast_operands.specs.OperandSyntax.{u64_number, alignment, ordering_word, orderings, shape_word, shapes, integer_starts, id_starts, index_starts, float_starts, ordering_starts, offset_starts, align_starts, type_starts, handle_starts, lane_starts, is_bare, two_indices, u32_operand, index_count, label_table, optional_index, optional_indices, one_or_two, signed_literal, float_literal, lane, shuffle, integers, floats, lanes_of, shape, vector, ordering, optional_ordering, ordered, array_target, target, one_or_two_orderings, offset, align, modifiers, mem_arg, named_target, behind_integer, integer_first, behind_modifiers, mem_arg_lane, handled, handle_body, handle, handlers, resume, resume_throw}
 
 module _ {N P : Type 0} where
@@ -132,6 +135,9 @@ module _ {N P : Type 0} where
   pub handle_body_laws : Lawful (handle_body {N = N} {P = P})
   handle_body_laws = seen_laws _ _ (seq_laws _ _ index_laws handled_laws refl)
 
+  pub handle_led_laws : Lawful (led {N = N} {P = P} (codes "on") handle_body)
+  handle_led_laws = led_laws (codes "on") handle_body handle_body_laws
+
   pub handle_laws : Lawful (handle {N = N} {P = P})
   handle_laws = group_laws (codes "on") _ handle_body_laws refl
 
@@ -143,3 +149,14 @@ module _ {N P : Type 0} where
 
   pub resume_throw_laws : Lawful (resume_throw {N = N} {P = P})
   resume_throw_laws = seq_laws _ _ index_laws resume_laws refl
+
+  -- WHERE THEY BEGIN
+  pub ordering_leads : Leads (ordering {N = N} {P = P}).spells ordering_starts
+  ordering_leads = seen_leads _ _ ordering_starts (among_leads ordering_word orderings [])
+
+  -- `(on $n switch)`
+  pub handle_leads : N → P → Leads (handle {N = N} {P = P}).spells handle_starts
+  handle_leads n p =
+      let tag = ByName ((n, p), 0) in
+      group_leads (codes "on") handle_body handle_body_laws (OnSwitch tag) (Id (Some n) p ∷ Word (codes "switch") p ∷ [])
+      ((tag, None), refl, (Id (Some n) p ∷ [], Word (codes "switch") p ∷ [], refl, inr (((n, p), 0), refl, ((n, p), refl, (Id (Some n) p, refl, refl))), inr (p, refl, (Word (codes "switch") p, refl, refl))))

@@ -1,2 +1,3 @@
 pub mod OperandSyntax
 pub mod OperandTree
+pub mod OperandViews

@@ -1,2 +1,25 @@
 //! Operands of instructions in which no type stands (WebAssembly Core Specification 3.0, 6.5).
+//!
+//! Each type is read by its production; a memory argument, of which the natural alignment depends on the instruction, by a
+//! function of its own. An index that may be left out and is means index 0, and is `None`. So of `memory.copy 1 2` the operand
+//! is the pair of 1, where to, and 2, where from, and of `offset=8` before `i32.load`'s next instruction a memory argument
+//! with the offset 8 and the alignment 4.
+//!
+//! # What has to be believed
+//!
+//! | File of `specs/` | Says |
+//! |---|---|
+//! | `OperandTree`, `OperandSyntax` | the operands as trees, and the productions |
+//! | `OperandViews` | what the grammar sees of each type; the bytes of a vector |
 #![tactic(auto)]
+
+mod index;
+mod ordering;
+mod resume;
+
+pub use index::{
+    ArrayCopy, ArrayFill, ArrayInit, ArrayNewData, ArrayNewElem, ArrayNewFixed, BrTableIndices,
+    MemoryArg, MemoryCopy, MemoryInit, StructAccess, TableArg, TableCopy, TableInit,
+};
+pub use ordering::{Ordered, Ordering, Unordered};
+pub use resume::{ContBind, Handle, Resume, ResumeTable, ResumeThrow, ResumeThrowRef, Switch};

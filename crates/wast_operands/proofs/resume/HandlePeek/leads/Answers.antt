@@ -1,0 +1,6 @@
+use Rattle.std.proofs.Common.{[]}
+use Rattle.wast_operands.proofs.OperandLaws.{handle_leads}
+use Rattle.wast_operands.proofs.resume.HandlePeek.leads.Goals as goal
+
+pub returns : goal.returns
+returns c = handle_leads [] 0
