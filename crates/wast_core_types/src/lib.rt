@@ -1,0 +1,2 @@
+//! Types.
+#![tactic(auto)]
