@@ -1,5 +1,6 @@
 -- The syntax of signatures, composite types, type definitions and type uses (WebAssembly 3.0, 6.4 and 6.6).
-use Rattle.std.specs.Prelude.{ℕ, Bool, true, false, List, [], ◌∷◌, ◌++◌, map, Option, Some, None, codes}
+use Rattle.std.specs.Prelude.{ℕ, Bool, true, false, List, [], ◌∷◌, map, Option, Some, None, codes}
+use Rattle.std.specs.List.{flat_map}
 use Rattle.wast_parser.specs.Look.{Test, On, AnId, Any, this_group, this_annotation, join}
 use Rattle.wast_parser.specs.Grammar.{Syntax, word, seen, seq, maybe, many, either, group, paren}
 use Rattle.wast_parser.specs.Recursion.{fix}
@@ -32,8 +33,7 @@ type_starts = this_group (codes "type") ∷ []
 
 -- lists, one after the other
 abbrev pub joined : {A : Type 0} → List (List A) → List A
-joined [] = []
-joined (xs ∷ more) = xs ++ joined more
+joined xss = flat_map (λ xs. xs) xss
 
 module _ {N P : Type 0} where
   abbrev pub given_name : Syntax N P (List ℕ)

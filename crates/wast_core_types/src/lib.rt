@@ -1,2 +1,5 @@
 //! Types.
 #![tactic(auto)]
+
+mod group;
+pub use group::{Body, Group};
