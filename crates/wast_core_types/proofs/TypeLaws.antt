@@ -29,7 +29,7 @@ module _ {N P : Type 0} where
   result_laws = group_laws (codes "result") _ val_types_laws refl
 
   pub bare_param_laws : Lawful (bare_param {N = N} {P = P})
-  bare_param_laws = seen_laws _ _ (group_laws (codes "param") _ val_types_laws refl)
+  bare_param_laws = group_laws (codes "param") _ val_types_laws refl
 
   pub sig_groups_laws : Lawful (sig_groups {N = N} {P = P} param)
   sig_groups_laws = seq_laws _ _ (many_laws _ _ (locals_laws (codes "param")) refl refl refl refl refl) (many_laws _ _ result_laws refl refl refl refl refl) refl

@@ -46,36 +46,39 @@ params = this_group (codes "param") ∷ []
 abbrev results : List Test
 results = this_group (codes "result") ∷ []
 
-module _ {N P : Type 0} (r : Reader N P (List (Local N P))) (q : Reader N P (List (ValType N P))) where
-  abbrev first : Reader N P (List (List (Local N P)))
+module _ {N P A : Type 0} (f : List (List A) × List (List (ValType N P)) → Sig N P) (r : Reader N P (List A)) (q : Reader N P (List (ValType N P))) where
+  abbrev Groups : Type 0
+  Groups = List (List A) × List (List (ValType N P))
+
+  abbrev first : Reader N P (List (List A))
   first ts = many_reads params r (length ts) ts
 
   abbrev later : Reader N P (List (List (ValType N P)))
   later ts = many_reads results q (length ts) ts
 
-  abbrev groups : Reader N P (List (List (Local N P)) × List (List (ValType N P)))
+  abbrev groups : Reader N P Groups
   groups = seq_reads first (λ _. later)
 
   abbrev whole : Reader N P (Option (Sig N P))
-  whole = map_reads as_inline groups
+  whole = map_reads (as_inline f) groups
 
   abbrev looked : Reader N P (Option (Sig N P))
-  looked = maybe_reads sig_starts (map_reads as_sig groups)
+  looked = maybe_reads sig_starts (map_reads f groups)
 
   -- behind parameters
-  abbrev both : List (List (Local N P)) → List (List (ValType N P)) × List (SignificantToken N P) → Option ((List (List (Local N P)) × List (List (ValType N P))) × List (SignificantToken N P))
+  abbrev both : List (List A) → List (List (ValType N P)) × List (SignificantToken N P) → Option (Groups × List (SignificantToken N P))
   both xs b = Some ((xs, b.0), b.1)
 
-  abbrev in_use : (List (List (Local N P)) × List (List (ValType N P))) × List (SignificantToken N P) → Option (Option (Sig N P) × List (SignificantToken N P))
-  in_use x = Some (as_inline x.0, x.1)
+  abbrev in_use : Groups × List (SignificantToken N P) → Option (Option (Sig N P) × List (SignificantToken N P))
+  in_use x = Some (as_inline f x.0, x.1)
 
-  abbrev in_sig : (List (List (Local N P)) × List (List (ValType N P))) × List (SignificantToken N P) → Option (Sig N P × List (SignificantToken N P))
-  in_sig x = Some (as_sig x.0, x.1)
+  abbrev in_sig : Groups × List (SignificantToken N P) → Option (Sig N P × List (SignificantToken N P))
+  in_sig x = Some (f x.0, x.1)
 
   abbrev there : Sig N P × List (SignificantToken N P) → Option (Option (Sig N P) × List (SignificantToken N P))
   there x = Some (Some x.0, x.1)
 
-  behind : (a : List (Local N P)) (xs : List (List (Local N P))) (o : Option (List (List (ValType N P)) × List (SignificantToken N P))) → ((o >>= both (a ∷ xs)) >>= in_use) ≡ (((o >>= both (a ∷ xs)) >>= in_sig) >>= there)
+  behind : (a : List A) (xs : List (List A)) (o : Option (List (List (ValType N P)) × List (SignificantToken N P))) → ((o >>= both (a ∷ xs)) >>= in_use) ≡ (((o >>= both (a ∷ xs)) >>= in_sig) >>= there)
   behind a xs None = refl
   behind a xs (Some b) = refl
 

@@ -63,24 +63,27 @@ module _ {N P : Type 0} where
   result = group (codes "result") val_types
 
   -- groups of parameters, and then groups of results
-  abbrev pub sig_groups : Syntax N P (List (Local N P)) → Syntax N P (List (List (Local N P)) × List (List (ValType N P)))
+  abbrev pub sig_groups : {A : Type 0} → Syntax N P (List A) → Syntax N P (List (List A) × List (List (ValType N P)))
   sig_groups param = seq (many (this_group (codes "param") ∷ []) param) (many (this_group (codes "result") ∷ []) result)
-
-  abbrev pub as_sig : List (List (Local N P)) × List (List (ValType N P)) → Sig N P
-  as_sig s = record { params = joined s.0; results = joined s.1 }
 
   abbrev pub param : Syntax N P (List (Local N P))
   param = locals (codes "param")
 
-  -- a group without identifiers and names
-  abbrev pub bare_param : Syntax N P (List (Local N P))
-  bare_param = seen (map unnamed) (group (codes "param") val_types)
+  abbrev pub as_sig : List (List (Local N P)) × List (List (ValType N P)) → Sig N P
+  as_sig s = record { params = joined s.0; results = joined s.1 }
 
   abbrev pub sig : Syntax N P (Sig N P)
   sig = seen as_sig (sig_groups param)
 
+  -- the same without identifiers and names
+  abbrev pub bare_param : Syntax N P (List (ValType N P))
+  bare_param = group (codes "param") val_types
+
+  abbrev pub as_bare : List (List (ValType N P)) × List (List (ValType N P)) → Sig N P
+  as_bare s = record { params = map unnamed (joined s.0); results = joined s.1 }
+
   abbrev pub bare_sig : Syntax N P (Sig N P)
-  bare_sig = seen as_sig (sig_groups bare_param)
+  bare_sig = seen as_bare (sig_groups bare_param)
 
   -- COMPOSITE TYPES (6.4.6): (field id ft), (field ft*)
   abbrev pub as_field : Named N P × FieldType N P → List (StructField N P)
@@ -156,19 +159,19 @@ module _ {N P : Type 0} where
   rec_group = paren rec_body
 
   -- TYPE USES (6.6.3): (type index)? sig, where the signature is there if any group of it is
-  abbrev pub as_inline : List (List (Local N P)) × List (List (ValType N P)) → Option (Sig N P)
-  as_inline ([], []) = None
-  as_inline s = Some (as_sig s)
+  abbrev pub as_inline : {A : Type 0} → (List (List A) × List (List (ValType N P)) → Sig N P) → List (List A) × List (List (ValType N P)) → Option (Sig N P)
+  as_inline f ([], []) = None
+  as_inline f s = Some (f s)
 
   abbrev pub as_use : Option (Reference N P) × Option (Sig N P) → TypeUse N P
   as_use u = record { index = u.0; inline = u.1 }
 
-  abbrev pub use_by : Syntax N P (List (Local N P)) → Syntax N P (TypeUse N P)
-  use_by param = seen as_use (seq (index_of (codes "type")) (seen as_inline (sig_groups param)))
+  abbrev pub use_of : Syntax N P (Option (Sig N P)) → Syntax N P (TypeUse N P)
+  use_of inline = seen as_use (seq (index_of (codes "type")) inline)
 
   abbrev pub type_use : Syntax N P (TypeUse N P)
-  type_use = use_by param
+  type_use = use_of (seen (as_inline as_sig) (sig_groups param))
 
   -- the same without identifiers and names
   abbrev pub bare_use : Syntax N P (TypeUse N P)
-  bare_use = use_by bare_param
+  bare_use = use_of (seen (as_inline as_bare) (sig_groups bare_param))

@@ -2,4 +2,6 @@
 #![tactic(auto)]
 
 mod group;
+mod join;
 pub use group::{Body, Group};
+pub use join::Several;

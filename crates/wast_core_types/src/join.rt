@@ -1,0 +1,36 @@
+//! Lists in parts.
+ghost use Rattle.std.specs.Prelude.{◌≡◌, ◌++◌, IfOk, OnOk};
+ghost use Rattle.std.specs.List.{flat_map};
+
+use crate::group::Group;
+use std::alloc::{AllocError, Global};
+
+/// What a group holds of a list.
+#[derive(Drop)]
+pub struct Several<T> {
+    pub items: Vec<T>,
+}
+
+/// The items of groups, one after the other.
+pub(crate) fn join<N: Drop, T: Drop>(
+    alloc: Global,
+    groups: Vec<Group<N, Several<T>>>,
+) -> Result<Vec<T>, AllocError>
+    ensures { IfOk result (λ all. all.items ≡ flat_map (λ g. g.value.items.items) groups.items) }
+{
+    let mut all = Vec::new(alloc);
+    for group in groups {
+        append(&mut all, group.value.items)?;
+    }
+    Ok(all)
+}
+
+/// Adds items at the end.
+fn append<T: Drop>(all: &mut Vec<T>, items: Vec<T>) -> Result<(), AllocError>
+    ensures { OnOk result (all.new.items ≡ all.old.items ++ items.items) }
+{
+    for item in items {
+        all.push(item)?;
+    }
+    Ok(())
+}
