@@ -3,7 +3,7 @@ use Rattle.std.proofs.Common.{false, List, [], ◌∷◌, Some, None, refl, ℕ,
 use Rattle.std.specs.Prelude.{◌-◌, ◌^◌, codes}
 use Rattle.wasm_encoder_base.specs.Types.{FuncHeap}
 use Rattle.wast_parser.specs.Tokens.{SignificantToken, Id, Word}
-use Rattle.wast_parser.specs.Look.{this_word, this_group}
+use Rattle.wast_parser.specs.Look.{this_word, this_group, join}
 use Rattle.wast_parser.specs.Grammar.{word}
 use Rattle.wast_parser.specs.Integers.{unsigned}
 use Rattle.wast_parser.specs.Identifiers.{Reference, ByName, index}
@@ -11,8 +11,8 @@ use Rattle.wast_parser.proofs.GrammarLaws.{Lawful, Leads, word_laws, among_laws,
 use Rattle.wast_parser.proofs.LeadLaws.{word_leads, paren_leads, seen_leads, among_leads, either_leads, group_leads}
 use Rattle.wast_parser.proofs.IdentifierLaws.{index_laws, index_leads}
 use Rattle.wast_parser.proofs.IntegerLaws.{number_laws}
-use Rattle.wast_value_types.specs.ValueTree.{Abstract, Known}
-use Rattle.wast_value_types.specs.ValueSyntax.{number_words, heap_words, short_words, packed_words, address_words, keywords, index_starts, heap_starts, ref_starts, val_starts, mut_starts, page_starts, keyword, optional, alone, u32, u64, heap_type, as_ref, ref_body, ref_type, val_type, storage_type, field_type, shared_global, global_type, address_type, limits, table_type, power_of_two, page_size, memory_type}
+use Rattle.wast_value_types.specs.ValueTree.{Abstract, Known, Packed, I8}
+use Rattle.wast_value_types.specs.ValueSyntax.{number_words, heap_words, short_words, packed_words, address_words, keywords, index_starts, heap_starts, ref_starts, val_starts, mut_starts, field_starts, page_starts, keyword, optional, alone, u32, u64, heap_type, as_ref, ref_body, ref_type, val_type, storage_type, field_type, shared_global, global_type, address_type, limits, table_type, power_of_two, page_size, memory_type}
 
 module _ {N P : Type 0} where
   pub keyword_laws : {A : Type 0} (entries : List (List ℕ × A)) → Lawful (keyword {N = N} {P = P} entries)
@@ -120,3 +120,15 @@ module _ {N P : Type 0} where
 
   pub alone_leads : (w : List ℕ) → Leads (alone {N = N} {P = P} w).spells (this_group w ∷ [])
   alone_leads w = seen_leads _ _ (this_group w ∷ []) (paren_leads (word w) (word_laws w) (this_word w ∷ []) (word_leads w) refl refl refl refl refl)
+
+  storage_type_leads : P → Leads (storage_type {N = N} {P = P}).spells (join (keywords packed_words) val_starts)
+  storage_type_leads p = either_leads _ _ (keywords packed_words) val_starts (seen_leads _ _ (keywords packed_words) (keyword_leads packed_words)) (seen_leads _ _ val_starts (val_type_leads p)) refl refl refl
+
+  pub i8_spelled : (p : P) → (storage_type {N = N} {P = P}).spells (Packed I8) (Word (codes "i8") p ∷ [])
+  i8_spelled p = inl (I8, refl, (((codes "i8", I8), p), refl, (Word (codes "i8") p, refl, refl)))
+
+  pub field_type_leads : P → Leads (field_type {N = N} {P = P}).spells field_starts
+  field_type_leads p =
+      either_leads _ _ mut_starts (join (keywords packed_words) val_starts)
+      (seen_leads _ _ mut_starts (group_leads (codes "mut") storage_type storage_type_laws (Packed I8) (Word (codes "i8") p ∷ []) (i8_spelled p)))
+      (seen_leads _ _ (join (keywords packed_words) val_starts) (storage_type_leads p)) refl refl refl

@@ -85,6 +85,9 @@ val_starts = join (keywords number_words) ref_starts
 abbrev pub mut_starts : List Test
 mut_starts = this_group (codes "mut") ∷ []
 
+abbrev pub field_starts : List Test
+field_starts = join mut_starts (join (keywords packed_words) val_starts)
+
 abbrev pub page_starts : List Test
 page_starts = this_group (codes "pagesize") ∷ []
 

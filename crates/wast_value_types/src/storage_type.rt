@@ -1,17 +1,22 @@
 //! Storage types and field types.
-ghost use Rattle.std.specs.Prelude.{◌≡◌, ℕ, List, IfOk};
-ghost use Rattle.wast_parser.specs.Lawful.{Lawful};
+ghost use Rattle.std.specs.Prelude.{◌≡◌, ℕ, List, IfOk, refl};
+ghost use Rattle.wast_parser.specs.Look.{ask};
+ghost use Rattle.wast_parser.specs.Lawful.{Lawful, Leads};
+ghost use Rattle.wast_parser.specs.State.{ahead};
+ghost use Rattle.wast_parser.specs.Reading.{Asks};
+ghost use Rattle.wast_parser.specs.Cursors.{stands};
 ghost use Rattle.wast_value_types.specs.ValueTree.{Packed};
 ghost use Rattle.wast_value_types.specs.ValueTree as spec;
-ghost use Rattle.wast_value_types.specs.ValueSyntax.{packed_words, storage_type, field_type};
+ghost use Rattle.wast_value_types.specs.ValueSyntax.{packed_words, field_starts, storage_type, field_type};
 ghost use Rattle.wast_value_types.specs.ValueViews.{packed_type, packed_text, storage_tree, field_tree};
 
 use crate::group::{Group, group_of};
 use crate::keyword::Mut;
+use crate::look::or_peek;
 use crate::val_type::ValType;
 use crate::word::{Word, Words, Written, find};
 use std::alloc::{AllocError, Global};
-use wast_parser::{Error, Meaning, Parse, Parser};
+use wast_parser::{Cursor, Error, Item, Meaning, Parse, Parser, Peek};
 
 /// A storage type (6.4.6): what a field holds.
 #[derive(Debug, Drop)]
@@ -87,6 +92,32 @@ impl<'a> Parse<'a> for FieldType<'a> {
         };
         Ok(FieldType { mutable, ty })
     }
+}
+
+impl<'a> Peek for FieldType<'a> {
+    ghost plain = { refl };
+
+    ghost sure = { refl };
+
+    fn leads()
+        ensures { Leads (field_type {N = List ℕ} {P = ℕ}).spells field_starts }
+    {}
+
+    fn peek(cursor: Cursor<'_, '_>) -> Result<bool, Error>
+        ensures { Asks result (stands cursor.entry).source (ask field_starts (ahead (stands cursor.entry))) }
+    {
+        let found = Group::<Mut>::peek(cursor);
+        let found = or_peek::<Word<PackedType>>(found, cursor);
+        or_peek::<ValType>(found, cursor)
+    }
+
+    fn display() -> &'static str {
+        "a field type"
+    }
+}
+
+impl<'a> Item for FieldType<'a> {
+    ghost inside = { refl };
 }
 
 /// A packed type (6.4.6).
