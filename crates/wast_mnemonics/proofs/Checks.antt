@@ -1,11 +1,10 @@
 -- Tests of texts that the check computes, and what they show.
 use Rattle.std.specs.List.{list_any}
-use Rattle.std.proofs.lemmas.Bool.{leb-true}
-use Rattle.std.proofs.Common.{◌||◌, ◌++◌, replicate, nat_le, ◌≡◌, ℕ, zero, suc, ◌<◌, Bool, true, false, List, [], ◌∷◌, length, get_or, refl, sym, ◌∙◌, ap, cond, nat_eq, nat_cmp, is_lt, arith, true≢false}
+use Rattle.std.proofs.Common.{◌||◌, ◌++◌, replicate, ◌≡◌, ℕ, zero, suc, ◌<◌, Bool, true, false, List, [], ◌∷◌, length, get_or, refl, sym, ◌∙◌, ap, cond, nat_eq, nat_cmp, is_lt, arith, true≢false}
 use Rattle.std.specs.Cmp.Lexicographic.{slice_cmp, bytes_decides}
 use Rattle.wasm_encoder_base.specs.Distinct.{is_among}
 use Rattle.wast_grammar.specs.Spelling.{same_text, any_is}
-use Rattle.wast_mnemonics.specs.Rows.{padded}
+use Rattle.wast_mnemonics.specs.Rows.{padded, is_clean}
 
 -- SORTED
 -- each text is at least the one before
@@ -34,9 +33,9 @@ unfoldable pub covered : List (List ℕ) → List (List ℕ) → Bool
 covered ts [] = true
 covered ts (u ∷ us) = elim (is_among (padded u) ts) [ true ↦ covered ts us | false ↦ false ]
 
-covered-step : (b : Bool) (r : Bool) → elim b [ true ↦ r | false ↦ false ] ≡ true → (b ≡ true) × (r ≡ true)
-covered-step true r h = (refl, h)
-covered-step false r h = absurd (true≢false (sym h))
+both-step : (b : Bool) (r : Bool) → elim b [ true ↦ r | false ↦ false ] ≡ true → (b ≡ true) × (r ≡ true)
+both-step true r h = (refl, h)
+both-step false r h = absurd (true≢false (sym h))
 
 neither : (c r : Bool) → (c ≡ true → ⊥) → r ≡ false → cond c true r ≡ false
 neither true r n e = absurd (n refl)
@@ -47,38 +46,23 @@ pub not_covered : (ts us : List (List ℕ)) (t : List ℕ) → covered ts us ≡
 unfolding covered
 not_covered ts [] t h n = refl
 not_covered ts (u ∷ us) t h n =
-    let step = covered-step (is_among (padded u) ts) (covered ts us) h in
+    let step = both-step (is_among (padded u) ts) (covered ts us) h in
     neither (same_text t u) (any_is t us)
     (λ q. true≢false (sym step.0 ∙ ap (λ m. is_among (padded m) ts) (sym ((bytes_decides t u).0 q)) ∙ n))
     (not_covered ts us t step.1 n)
 
--- CLEAN: without blanks, and of at most 35 bytes
+-- CLEAN: each of them fits a row
 unfoldable pub all_clean : List (List ℕ) → Bool
 all_clean [] = true
-all_clean (u ∷ us) = elim (nat_le (length u) 35) [ true ↦ elim (list_any (λ c. nat_eq c 32) u) [ true ↦ false | false ↦ all_clean us ] | false ↦ false ]
+all_clean (u ∷ us) = elim (is_clean u) [ true ↦ all_clean us | false ↦ false ]
 
-clean-step : (a b r : Bool) → elim a [ true ↦ elim b [ true ↦ false | false ↦ r ] | false ↦ false ] ≡ true → (a ≡ true) × (b ≡ false) × (r ≡ true)
-clean-step true true r h = absurd (true≢false (sym h))
-clean-step true false r h = (refl, refl, h)
-clean-step false b r h = absurd (true≢false (sym h))
-
-pub too_long : (us : List (List ℕ)) (t : List ℕ) → all_clean us ≡ true → 35 < length t → any_is t us ≡ false
+-- a text that doesn't fit a row is none of them
+pub unclean : (us : List (List ℕ)) (t : List ℕ) → all_clean us ≡ true → is_clean t ≡ false → any_is t us ≡ false
 unfolding all_clean
-too_long [] t h n = refl
-too_long (u ∷ us) t h n =
-    let step = clean-step (nat_le (length u) 35) (list_any (λ c. nat_eq c 32) u) (all_clean us) h in
-    neither (same_text t u) (any_is t us)
-    (λ q. let same = ap (λ m. length m) ((bytes_decides t u).0 q) in let short = leb-true (length u) 35 step.0 in omega arith)
-    (too_long us t step.2 n)
-
-pub has_blank : (us : List (List ℕ)) (t : List ℕ) → all_clean us ≡ true → list_any (λ c. nat_eq c 32) t ≡ true → any_is t us ≡ false
-unfolding all_clean
-has_blank [] t h n = refl
-has_blank (u ∷ us) t h n =
-    let step = clean-step (nat_le (length u) 35) (list_any (λ c. nat_eq c 32) u) (all_clean us) h in
-    neither (same_text t u) (any_is t us)
-    (λ q. true≢false (sym n ∙ ap (λ m. list_any (λ c. nat_eq c 32) m) ((bytes_decides t u).0 q) ∙ step.1))
-    (has_blank us t step.2 n)
+unclean [] t h n = refl
+unclean (u ∷ us) t h n =
+    let step = both-step (is_clean u) (all_clean us) h in
+    neither (same_text t u) (any_is t us) (λ q. true≢false (sym step.0 ∙ ap is_clean (sym ((bytes_decides t u).0 q)) ∙ n)) (unclean us t step.1 n)
 
 -- TRIMMED: what stands before the blanks
 unfoldable pub trimmed : List ℕ → List ℕ

@@ -1,5 +1,5 @@
 -- The sorted rows and the text's table.
-use Rattle.std.proofs.Common.{◌≡◌, ℕ, suc, ◌+◌, ◌-◌, ◌<◌, ◌⊎◌, inl, inr, true, false, List, [], map, length, get_or, Option, Some, None, IfSome, IfNone, option_map, refl, sym, ap, ◌∙◌, subst, subst₂, nat_eq, nat_cmp, is_lt, arith, add-one, is_some}
+use Rattle.std.proofs.Common.{Bool, ◌≡◌, ℕ, suc, ◌+◌, ◌-◌, ◌<◌, true, false, List, [], map, length, get_or, Option, Some, None, IfSome, IfNone, option_map, refl, sym, ap, ◌∙◌, subst, subst₂, nat_eq, nat_cmp, nat_le, not, ◌&&◌, is_lt, arith, add-one, is_some}
 use Rattle.std.proofs.lemmas.List.{get_or-map, length-map}
 use Rattle.std.specs.List.{list_any}
 use Rattle.std.specs.Cmp.Lexicographic.{slice_cmp}
@@ -11,12 +11,12 @@ use Rattle.wast_grammar.specs.Spelling.{find_by, any_is}
 use Rattle.wast_grammar.proofs.GrammarLaws.{any_found}
 use Rattle.wast_mnemonics.specs.declared.word.Word.{Word}
 use Rattle.wast_mnemonics.specs.declared.word.Word.TheVariants as words
-use Rattle.wast_mnemonics.specs.declared.table.TheConstants.{WORDS}
+use Rattle.wast_mnemonics.specs.declared.table.TheConstants.{LONGEST, WORDS}
 use Rattle.wast_mnemonics.specs.TextTable.{TextEntry, text_table}
 use Rattle.wast_mnemonics.specs.Mnemonics.{word_mnemonic}
 use Rattle.wast_mnemonics.specs.Words.{entry_of}
-use Rattle.wast_mnemonics.specs.Rows.{Row, key_of, padded, AreSorted, StandsAt}
-use Rattle.wast_mnemonics.proofs.Checks.{sorted_from, covered, trimmed, all_clean, sorted-tail, trimmed-padded, not_covered, too_long, has_blank}
+use Rattle.wast_mnemonics.specs.Rows.{is_clean, Row, key_of, padded, AreSorted, StandsAt}
+use Rattle.wast_mnemonics.proofs.Checks.{sorted_from, covered, trimmed, all_clean, sorted-tail, trimmed-padded, not_covered, unclean}
 use Rattle.wast_mnemonics.proofs.WordEntries.{every_word}
 
 abbrev mnemonic : TextEntry → List ℕ
@@ -49,13 +49,21 @@ are_sorted k d low lt =
     subst (λ n. is_lt (slice_cmp nat_cmp (get_or (map key_of WORDS) n []) (get_or (map key_of WORDS) k [])) ≡ false) (sym (add-one k)) (sorted-tail [] (map key_of WORDS) rows_sorted k l') in
     subst₂ (λ a b. is_lt (slice_cmp nat_cmp a b) ≡ false) next here stands
 
+blank-none : (a b : Bool) → (a && not b) ≡ true → b ≡ false
+blank-none true b h = by_not b h
+  where
+    by_not : (b : Bool) → not b ≡ true → b ≡ false
+    by_not false h = refl
+    by_not true h = cc
+blank-none false b h = cc
+
 -- the word that stands at a text, padded, is the one of that mnemonic
-found : (t : List ℕ) (w : Word) → list_any (λ c. nat_eq c 32) t ≡ false → StandsAt WORDS (padded t) w → find_by mnemonic t text_table ≡ Some (entry_of w)
+found : (t : List ℕ) (w : Word) → is_clean t ≡ true → StandsAt WORDS (padded t) w → find_by mnemonic t text_table ≡ Some (entry_of w)
 found t w clean at =
     let d : Row = ([], words.Select) in
     let row : get_or WORDS at.0 d ≡ (padded t, w) = at.2 d in
     let named = sym (get_or-map (λ r. trimmed (key_of r)) WORDS at.0 d [] at.1) ∙ ap (λ l. get_or l at.0 []) rows_named ∙ get_or-map (λ (r : Row). word_mnemonic r.1) WORDS at.0 d [] at.1 in
-    let same : t ≡ word_mnemonic w = sym (trimmed-padded t (35 - length t) clean) ∙ ap (λ (r : Row). trimmed (key_of r)) (sym row) ∙ named ∙ ap (λ (r : Row). word_mnemonic r.1) row in
+    let same : t ≡ word_mnemonic w = sym (trimmed-padded t (LONGEST - length t) (blank-none (nat_le (length t) LONGEST) (list_any (λ c. nat_eq c 32) t) clean)) ∙ ap (λ (r : Row). trimmed (key_of r)) (sym row) ∙ named ∙ ap (λ (r : Row). word_mnemonic r.1) row in
     ap (λ m. find_by mnemonic m text_table) same ∙ every_word w
 
 none_of : (o : Option TextEntry) → is_some o ≡ false → o ≡ None
@@ -66,10 +74,9 @@ not_found : (t : List ℕ) → any_is t (map mnemonic text_table) ≡ false → 
 not_found t e = none_of (find_by mnemonic t text_table) (sym (any_found mnemonic t text_table) ∙ e)
 
 -- the answer of the search is that of the table
-pub searched : (t : List ℕ) (r : Option Word) → list_any (λ c. nat_eq c 32) t ≡ false → IfSome r (StandsAt WORDS (padded t)) → IfNone r (is_among (padded t) (map key_of WORDS) ≡ false) → option_map entry_of r ≡ find_by mnemonic t text_table
+pub searched : (t : List ℕ) (r : Option Word) → is_clean t ≡ true → IfSome r (StandsAt WORDS (padded t)) → IfNone r (is_among (padded t) (map key_of WORDS) ≡ false) → option_map entry_of r ≡ find_by mnemonic t text_table
 searched t (Some w) clean h n = sym (found t w clean h)
 searched t None clean h n = sym (not_found t (not_covered (map key_of WORDS) (map mnemonic text_table) t rows_cover n))
 
-pub no_word : (t : List ℕ) → (35 < length t) ⊎ (list_any (λ c. nat_eq c 32) t ≡ true) → None ≡ find_by mnemonic t text_table
-no_word t (inl long) = sym (not_found t (too_long (map mnemonic text_table) t mnemonics_clean long))
-no_word t (inr blanks) = sym (not_found t (has_blank (map mnemonic text_table) t mnemonics_clean blanks))
+pub no_word : (t : List ℕ) → is_clean t ≡ false → None ≡ find_by mnemonic t text_table
+no_word t n = sym (not_found t (unclean (map mnemonic text_table) t mnemonics_clean n))

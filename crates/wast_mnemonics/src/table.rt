@@ -13,8 +13,11 @@ use wasm_encoder_opcodes::{
     VectorNarrowOp, VectorOp, VectorWideOp,
 };
 
+/// The length of the longest mnemonic in bytes.
+pub const LONGEST: usize = 35;
+
 /// A mnemonic, blanks after it, and its word.
-pub type Row = ([u8; 35], Word);
+pub type Row = ([u8; LONGEST], Word);
 
 #[rattlefmt::skip]
 pub static WORDS: [Row; 623] = [
