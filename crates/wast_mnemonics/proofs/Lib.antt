@@ -2,4 +2,4 @@ mod Checks
 mod Entries
 mod Rows
 mod Search
-mod WordEntries
+mod WordRows

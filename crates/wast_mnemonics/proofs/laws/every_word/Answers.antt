@@ -1,4 +1,4 @@
-use Rattle.wast_mnemonics.proofs.WordEntries.{every_word}
+use Rattle.wast_mnemonics.proofs.Rows.{every_word}
 use Rattle.wast_mnemonics.proofs.laws.every_word.Goals as goal
 
 pub returns : goal.returns
