@@ -1,0 +1,234 @@
+//! Exports.
+ghost use Rattle.std.specs.Prelude.{◌≡◌, ℕ, List, [], ◌∷◌, refl, codes, false};
+ghost use Rattle.wast_parser.specs.Lawful.{Lawful, Leads};
+ghost use Rattle.wast_parser.specs.Identifiers.{Reference, index_tree};
+ghost use Rattle.wast_customs.specs.Exports as spec;
+ghost use Rattle.wast_customs.specs.Exports.{export_word, export_kinds, export_kind, exported_body, exported, export_body, export};
+ghost use Rattle.wast_customs.specs.ExportViews.{kind_view, export_tree};
+
+use crate::inside::Inside;
+use crate::kw;
+use crate::word::{Spelled, find_among};
+use std::alloc::Global;
+use std::borrow::CowStr;
+use wast_lexer::Span;
+use wast_parser::{Cursor, Error, Index, Keyword, Meaning, Parse, Parser, Peek, WordSet};
+
+/// An export: `(export "name" (func $f))` (6.6.10).
+#[derive(Drop)]
+pub struct Export<'a> {
+    /// Where the word `export` stands.
+    pub span: Span,
+    pub name: CowStr<'a, Global>,
+    pub kind: ExportKind,
+    pub item: Index<'a>,
+}
+
+/// What may be exported.
+#[derive(Clone, Copy, Debug, PartialEq, Eq)]
+pub enum ExportKind {
+    Func,
+    Table,
+    Memory,
+    Global,
+    Tag,
+}
+
+const KINDS: [ExportKind; 5] = [
+    ExportKind::Func,
+    ExportKind::Table,
+    ExportKind::Memory,
+    ExportKind::Global,
+    ExportKind::Tag,
+];
+
+impl WordSet for ExportKind {
+    ghost Entry = { spec.ExportKind };
+
+    ghost entry = { kind_view };
+
+    ghost word = { export_word };
+
+    ghost entries = { export_kinds };
+
+    fn of(text: &[u8]) -> Option<Self> {
+        find_among(&KINDS, text)
+    }
+}
+
+impl Spelled for ExportKind {
+    ghost Letter = { spec.ExportKind };
+
+    ghost letter = { kind_view };
+
+    ghost spelled = { export_word };
+
+    fn text(self) -> &'static str {
+        match self {
+            ExportKind::Func => "func",
+            ExportKind::Table => "table",
+            ExportKind::Memory => "memory",
+            ExportKind::Global => "global",
+            ExportKind::Tag => "tag",
+        }
+    }
+}
+
+impl Meaning for ExportKind {
+    ghost Tree = { spec.ExportKind };
+
+    ghost tree = { kind_view };
+
+    ghost syntax = { export_kind };
+
+    fn lawful() {}
+}
+
+impl<'a> Parse<'a> for ExportKind {
+    fn parse(parser: &mut Parser<'a>) -> Result<Self, Error> {
+        let (kind, _) = parser.among("expected `func`, `table`, `memory`, `global` or `tag`")?;
+        Ok(kind)
+    }
+}
+
+impl Peek for ExportKind {
+    ghost plain = { refl };
+
+    ghost full = { refl };
+
+    ghost sure = { refl };
+
+    fn leads() {}
+
+    fn peek(cursor: Cursor<'_, '_>) -> Result<bool, Error> {
+        cursor.peek_among::<ExportKind>()
+    }
+
+    fn display() -> &'static str {
+        "a kind of export"
+    }
+}
+
+impl<'a> Meaning for Export<'a> {
+    ghost Tree = { spec.Export (List ℕ) ℕ };
+
+    ghost tree = { export_tree };
+
+    ghost syntax = { export };
+
+    fn lawful()
+        ensures { Lawful (export {N = List ℕ} {P = ℕ}) }
+    {}
+}
+
+impl<'a> Parse<'a> for Export<'a> {
+    fn parse(parser: &mut Parser<'a>) -> Result<Self, Error> {
+        let export: Inside<Export> = parser.parens_of()?;
+        Ok(export.value)
+    }
+}
+
+impl<'a> Meaning for Inside<Export<'a>> {
+    ghost Tree = { spec.Export (List ℕ) ℕ };
+
+    ghost tree = { λ b. export_tree b.value };
+
+    ghost syntax = { export_body };
+
+    fn lawful()
+        ensures { Lawful (export_body {N = List ℕ} {P = ℕ}) }
+    {}
+}
+
+impl<'a> Parse<'a> for Inside<Export<'a>> {
+    fn parse(parser: &mut Parser<'a>) -> Result<Self, Error> {
+        let span = parser.word("export")?;
+        let name = parser.name()?;
+        let exported: Exported = parser.parens_of()?;
+        Ok(Inside {
+            value: Export {
+                span,
+                name,
+                kind: exported.kind,
+                item: exported.item,
+            },
+        })
+    }
+}
+
+/// What is exported, in parentheses.
+#[derive(Drop)]
+struct Exported<'a> {
+    kind: ExportKind,
+    item: Index<'a>,
+}
+
+impl<'a> Meaning for Exported<'a> {
+    ghost Tree = { spec.ExportKind × Reference (List ℕ) ℕ };
+
+    ghost tree = { λ e. (kind_view e.kind, index_tree e.item) };
+
+    ghost syntax = { exported_body };
+
+    fn lawful()
+        ensures { Lawful (exported_body {N = List ℕ} {P = ℕ}) }
+    {}
+}
+
+impl<'a> Parse<'a> for Exported<'a> {
+    fn parse(parser: &mut Parser<'a>) -> Result<Self, Error> {
+        let kind = ExportKind::parse(parser)?;
+        let item = Index::parse(parser)?;
+        Ok(Exported { kind, item })
+    }
+}
+
+impl From<Keyword<kw::Func>> for ExportKind {
+    ghost use Rattle.wast_customs.specs.declared.export.ExportKind.TheVariants as kinds;
+
+    ghost from_gives = { λ _ kind. kind ≡ kinds.Func };
+
+    fn from(_keyword: Keyword<kw::Func>) -> Self {
+        ExportKind::Func
+    }
+}
+
+impl From<Keyword<kw::Table>> for ExportKind {
+    ghost use Rattle.wast_customs.specs.declared.export.ExportKind.TheVariants as kinds;
+
+    ghost from_gives = { λ _ kind. kind ≡ kinds.Table };
+
+    fn from(_keyword: Keyword<kw::Table>) -> Self {
+        ExportKind::Table
+    }
+}
+
+impl From<Keyword<kw::Memory>> for ExportKind {
+    ghost use Rattle.wast_customs.specs.declared.export.ExportKind.TheVariants as kinds;
+
+    ghost from_gives = { λ _ kind. kind ≡ kinds.Memory };
+
+    fn from(_keyword: Keyword<kw::Memory>) -> Self {
+        ExportKind::Memory
+    }
+}
+
+impl From<Keyword<kw::Global>> for ExportKind {
+    ghost use Rattle.wast_customs.specs.declared.export.ExportKind.TheVariants as kinds;
+
+    ghost from_gives = { λ _ kind. kind ≡ kinds.Global };
+
+    fn from(_keyword: Keyword<kw::Global>) -> Self {
+        ExportKind::Global
+    }
+}
+
+impl From<Keyword<kw::Tag>> for ExportKind {
+    ghost use Rattle.wast_customs.specs.declared.export.ExportKind.TheVariants as kinds;
+
+    ghost from_gives = { λ _ kind. kind ≡ kinds.Tag };
+
+    fn from(_keyword: Keyword<kw::Tag>) -> Self {
+        ExportKind::Tag
+    }
+}

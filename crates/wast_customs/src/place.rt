@@ -1,0 +1,236 @@
+//! Where a custom section stands among the others.
+ghost use Rattle.std.specs.Prelude.{◌≡◌, ℕ, List, [], ◌∷◌, refl, true, false, map, codes};
+ghost use Rattle.wast_parser.specs.State.{ahead, Keeps};
+ghost use Rattle.wast_parser.specs.Reading.{Gives};
+ghost use Rattle.wast_customs.specs.CustomTree as spec;
+ghost use Rattle.wast_customs.specs.CustomSyntax as syntax;
+ghost use Rattle.wast_customs.specs.CustomSyntax.{anchor, anchors, anchor_word, sides, side_word, place_on, place_body, custom_place};
+ghost use Rattle.wast_customs.specs.CustomViews.{anchor_view, side_view, place_tree};
+
+use crate::inside::Inside;
+use crate::kw;
+use crate::word::{Spelled, find_among};
+use wast_parser::{Cursor, Error, Keyword, Meaning, Parse, Parser, Peek, WordSet};
+
+/// A section that a place names.
+#[derive(Clone, Copy, Debug, PartialEq, Eq)]
+pub enum CustomPlaceAnchor {
+    TypeItem,
+    Import,
+    Func,
+    Table,
+    Memory,
+    Global,
+    Export,
+    Start,
+    Elem,
+    Code,
+    Data,
+    Tag,
+}
+
+/// Before the first section, before or after one, or after the last.
+#[derive(Clone, Copy, Debug, PartialEq, Eq)]
+pub enum CustomPlace {
+    BeforeFirst,
+    Before(CustomPlaceAnchor),
+    After(CustomPlaceAnchor),
+    AfterLast,
+}
+
+const ANCHORS: [CustomPlaceAnchor; 12] = [
+    CustomPlaceAnchor::TypeItem,
+    CustomPlaceAnchor::Import,
+    CustomPlaceAnchor::Func,
+    CustomPlaceAnchor::Table,
+    CustomPlaceAnchor::Memory,
+    CustomPlaceAnchor::Global,
+    CustomPlaceAnchor::Export,
+    CustomPlaceAnchor::Start,
+    CustomPlaceAnchor::Elem,
+    CustomPlaceAnchor::Code,
+    CustomPlaceAnchor::Data,
+    CustomPlaceAnchor::Tag,
+];
+
+impl WordSet for CustomPlaceAnchor {
+    ghost Entry = { spec.Anchor };
+
+    ghost entry = { anchor_view };
+
+    ghost word = { anchor_word };
+
+    ghost entries = { anchors };
+
+    fn of(text: &[u8]) -> Option<Self> {
+        find_among(&ANCHORS, text)
+    }
+}
+
+impl Spelled for CustomPlaceAnchor {
+    ghost Letter = { spec.Anchor };
+
+    ghost letter = { anchor_view };
+
+    ghost spelled = { anchor_word };
+
+    fn text(self) -> &'static str {
+        match self {
+            CustomPlaceAnchor::TypeItem => "type",
+            CustomPlaceAnchor::Import => "import",
+            CustomPlaceAnchor::Func => "func",
+            CustomPlaceAnchor::Table => "table",
+            CustomPlaceAnchor::Memory => "memory",
+            CustomPlaceAnchor::Global => "global",
+            CustomPlaceAnchor::Export => "export",
+            CustomPlaceAnchor::Start => "start",
+            CustomPlaceAnchor::Elem => "elem",
+            CustomPlaceAnchor::Code => "code",
+            CustomPlaceAnchor::Data => "data",
+            CustomPlaceAnchor::Tag => "tag",
+        }
+    }
+}
+
+impl Meaning for CustomPlaceAnchor {
+    ghost Tree = { spec.Anchor };
+
+    ghost tree = { anchor_view };
+
+    ghost syntax = { anchor };
+
+    fn lawful() {}
+}
+
+impl<'a> Parse<'a> for CustomPlaceAnchor {
+    fn parse(parser: &mut Parser<'a>) -> Result<Self, Error> {
+        let (anchor, _) = parser.among("expected a section")?;
+        Ok(anchor)
+    }
+}
+
+/// The two sides of a section.
+#[derive(Clone, Copy)]
+pub(crate) enum Side {
+    Before,
+    After,
+}
+
+const SIDES: [Side; 2] = [Side::Before, Side::After];
+
+impl WordSet for Side {
+    ghost Entry = { syntax.Side };
+
+    ghost entry = { side_view };
+
+    ghost word = { side_word };
+
+    ghost entries = { sides };
+
+    fn of(text: &[u8]) -> Option<Self> {
+        find_among(&SIDES, text)
+    }
+}
+
+impl Spelled for Side {
+    ghost Letter = { syntax.Side };
+
+    ghost letter = { side_view };
+
+    ghost spelled = { side_word };
+
+    fn text(self) -> &'static str {
+        match self {
+            Side::Before => "before",
+            Side::After => "after",
+        }
+    }
+}
+
+impl Meaning for CustomPlace {
+    ghost Tree = { spec.CustomPlace };
+
+    ghost tree = { place_tree };
+
+    ghost syntax = { custom_place };
+
+    fn lawful() {}
+}
+
+impl<'a> Parse<'a> for CustomPlace {
+    fn parse(parser: &mut Parser<'a>) -> Result<Self, Error> {
+        let place: Inside<CustomPlace> = parser.parens_of()?;
+        Ok(place.value)
+    }
+}
+
+impl Peek for CustomPlace {
+    ghost plain = { refl };
+
+    ghost full = { refl };
+
+    ghost sure = { refl };
+
+    fn leads() {}
+
+    fn peek(cursor: Cursor<'_, '_>) -> Result<bool, Error> {
+        cursor.peek_group_among::<Side>()
+    }
+
+    fn display() -> &'static str {
+        "a place"
+    }
+}
+
+impl Meaning for Inside<CustomPlace> {
+    ghost Tree = { spec.CustomPlace };
+
+    ghost tree = { λ b. place_tree b.value };
+
+    ghost syntax = { place_body };
+
+    fn lawful() {}
+}
+
+impl<'a> Parse<'a> for Inside<CustomPlace> {
+    fn parse(parser: &mut Parser<'a>) -> Result<Self, Error> {
+        let (side, _) = parser.among("expected `before` or `after`")?;
+        let value = parse_place(parser, side)?;
+        Ok(Inside { value })
+    }
+}
+
+/// The place on this side of what is named.
+fn parse_place(parser: &mut Parser<'_>, side: Side) -> Result<CustomPlace, Error>
+    ensures read { Gives place_tree result parser.new ((place_on (side_view side)).reads (ahead parser.old)) }
+    ensures keeps { Keeps parser.old parser.new }
+{
+    match side {
+        Side::Before => parse_before(parser),
+        Side::After => parse_after(parser),
+    }
+}
+
+fn parse_before(parser: &mut Parser<'_>) -> Result<CustomPlace, Error>
+    ensures read { Gives place_tree result parser.new ((place_on syntax.Ahead).reads (ahead parser.old)) }
+    ensures keeps { Keeps parser.old parser.new }
+{
+    if parser.peek::<Keyword<kw::First>>()? {
+        parser.word("first")?;
+        Ok(CustomPlace::BeforeFirst)
+    } else {
+        Ok(CustomPlace::Before(CustomPlaceAnchor::parse(parser)?))
+    }
+}
+
+fn parse_after(parser: &mut Parser<'_>) -> Result<CustomPlace, Error>
+    ensures read { Gives place_tree result parser.new ((place_on syntax.Behind).reads (ahead parser.old)) }
+    ensures keeps { Keeps parser.old parser.new }
+{
+    if parser.peek::<Keyword<kw::Last>>()? {
+        parser.word("last")?;
+        Ok(CustomPlace::AfterLast)
+    } else {
+        Ok(CustomPlace::After(CustomPlaceAnchor::parse(parser)?))
+    }
+}
