@@ -1,3 +1,4 @@
+mod Equal
 mod Exponents
 pub mod JoinedLooks
 pub mod ValueLaws

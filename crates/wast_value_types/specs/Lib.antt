@@ -1,3 +1,5 @@
 pub mod ValueTree
 pub mod ValueSyntax
 pub mod ValueViews
+pub mod Unplaced
+pub mod Laws

@@ -6,6 +6,7 @@ mod global_type;
 mod group;
 mod heap_type;
 pub mod keyword;
+pub mod laws;
 mod limits;
 mod look;
 mod ref_type;
