@@ -3,23 +3,26 @@ use Rattle.std.specs.Prelude.{codes}
 use Rattle.std.proofs.Common.{◌≡◌, ℕ, suc, Bool, cond, true, false, List, [], ◌∷◌, refl, sym, ◌∙◌, subst}
 use Rattle.wast_grammar.specs.Spelling.{that_text, that_one}
 use Rattle.wast_grammar.specs.Look.{On, Any, AWord, AString, fits, this_word, this_group, this_annotation, holds, OneOf, apart, any_end, join}
-use Rattle.wast_grammar.specs.Grammar.{Syntax, wide, seq, seen, only, maybe, many, either, paren, group, word, string}
+use Rattle.wast_grammar.specs.Grammar.{Syntax, wide, seq, seen, only, maybe, many, either, paren, group, word, string, mark}
 use Rattle.wast_grammar.specs.Behind.{row}
 use Rattle.wast_grammar.specs.Lawful.{Lawful, LawfulBut, Paired}
 use Rattle.wast_grammar.proofs.Looks.{join_left, within_self}
-use Rattle.wast_grammar.proofs.GrammarLaws.{word_laws, string_laws, seen_laws, seq_laws, only_laws, maybe_laws, many_laws, group_laws, annotation_laws, paren_laws, fenced_laws, either_laws}
+use Rattle.wast_grammar.proofs.GrammarLaws.{word_laws, string_laws, mark_laws, seen_laws, seq_laws, only_laws, maybe_laws, many_laws, group_laws, paren_laws, fenced_laws, either_laws}
 use Rattle.wast_grammar.proofs.Twins.{token_twins, seen_twins, only_twins, seq_twins, maybe_twin, many_twin, paren_twins, fenced_twins, group_twins, annotation_twins, either_twins, wide_twins}
 use Rattle.wast_grammar.proofs.RecursionLaws.{Under, Steps, under_self, under_seen, under_only, under_seq, under_led, under_next_but, under_maybe, under_many, under_row, under_either, under_paren, under_fenced, under_less, fix_laws, fix_twins}
 use Rattle.wast_grammar.proofs.BehindLaws.{Second, but_of, seen_but, only_but, seq_but, either_but, next_but_laws, row_laws, next_but_twins, row_twin}
 use Rattle.wast_expressions.specs.Items.{Items, Made}
-use Rattle.wast_expressions.specs.Expressions.{GroupKind, OfOperands, OfBlock, OfArms, Heads, hint_mark, hint_tests, is_hint, hint_value, hint, Group, Item, Alone, Grouped, chain, one_hint, ins_tests, group_tests, item_tests, then_tests, else_tests, inside_tests, one_ins, own_item, item, items_over, arms_of, arms, inside, group_of, group_step, groups, items, expression, plain_of, plain_step, plain, led_or_plain, without_hints, folded_of, folded_instruction, data_offset}
+use Rattle.wast_expressions.specs.Expressions.{GroupKind, OfOperands, OfBlock, OfArms, Heads, hint_mark, hint_tests, is_hint, hint_value, hint_body, hint, Group, Item, Alone, Grouped, chain, one_hint, ins_tests, group_tests, item_tests, then_tests, else_tests, inside_tests, one_ins, own_item, item, items_over, arms_of, arms, inside, group_of, group_step, groups, items, expression, plain_of, plain_step, plain, led_or_plain, without_hints, folded_of, folded_instruction, data_offset}
 use Rattle.wast_expressions.specs.Heeds.{Heeds}
 use Rattle.wast_expressions.proofs.Apart.{join_nil, apart_left, apart_right}
 
 -- HINTS
 module _ {N P : Type 0} where
+  pub hint_body_laws : Lawful (hint_body {N = N} {P = P})
+  hint_body_laws = seen_laws (λ x. x.1) _ (seq_laws (mark hint_mark) (only is_hint string) (mark_laws hint_mark) (only_laws is_hint string string_laws) refl)
+
   pub hint_laws : Lawful (hint {N = N} {P = P})
-  hint_laws = seen_laws hint_value _ (annotation_laws hint_mark (only is_hint string) (only_laws is_hint string string_laws) refl)
+  hint_laws = seen_laws hint_value _ (paren_laws hint_body hint_body_laws refl refl)
 
   pub maybe_hint_laws : Lawful (maybe hint_tests (hint {N = N} {P = P}))
   maybe_hint_laws = maybe_laws hint_tests hint hint_laws refl refl refl

@@ -1,10 +1,14 @@
 pub mod Apart
 pub mod ExpressionLaws
 pub mod FoldedLaws
+pub mod Hinted
 pub mod MachineLaws
 pub mod Outs
+pub mod Peeks
 pub mod PlainLaws
 pub mod Progress
 pub mod ReadLaws
+pub mod Tokens
 pub mod TurnLaws
+pub mod Turned
 pub mod WholeLaws

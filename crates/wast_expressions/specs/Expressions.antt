@@ -1,7 +1,7 @@
 -- The syntax of expressions (WebAssembly 3.0, 6.5, with branch hints), over any syntax of instructions with their operands.
 use Rattle.std.specs.Prelude.{ℕ, Bool, true, false, List, [], ◌∷◌, ◌++◌, Option, Some, None, codes, nat_lt}
 use Rattle.wast_grammar.specs.Look.{Test, On, AWord, OneOf, this_group, this_annotation, join}
-use Rattle.wast_grammar.specs.Grammar.{Syntax, word, string, paren, fenced, seq, seen, only, maybe, many, either, group, annotation, wide}
+use Rattle.wast_grammar.specs.Grammar.{Syntax, word, mark, string, paren, fenced, seq, seen, only, maybe, many, either, group, wide}
 use Rattle.wast_grammar.specs.Recursion.{fix}
 use Rattle.wast_grammar.specs.Behind.{next_but, row}
 use Rattle.wast_expressions.specs.Items.{Items, Done, Plain, Folded, Block, IfThen, IfElse, Made, unfolded, Expression, expression_of}
@@ -43,8 +43,12 @@ abbrev pub hint_value : List ℕ → ℕ
 hint_value (c ∷ cs) = c
 hint_value [] = 0
 
+-- what stands between its parentheses
+abbrev pub hint_body : {N P : Type 0} → Syntax N P (List ℕ)
+hint_body = seen (λ x. x.1) (seq (mark hint_mark) (only is_hint string))
+
 abbrev pub hint : {N P : Type 0} → Syntax N P ℕ
-hint = seen hint_value (annotation hint_mark (only is_hint string))
+hint = seen hint_value (paren hint_body)
 
 -- ITEMS
 -- what stands behind the head of a group

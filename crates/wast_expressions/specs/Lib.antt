@@ -3,3 +3,5 @@ pub mod Heeds
 pub mod Items
 pub mod Laws
 pub mod Machine
+pub mod Partial
+pub mod Views

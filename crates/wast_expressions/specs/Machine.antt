@@ -34,6 +34,16 @@ abbrev pub both_hints : Option ℕ → Option ℕ → Bool
 both_hints (Some v) (Some u) = true
 both_hints g h = false
 
+-- Items are read where no group is open and an end stands there.
+abbrev pub done : {N P L : Type 0} → List L → List (SignificantToken N P) → Bool
+done [] ts = not (at (NotEnd ∷ []) ts)
+done (l ∷ st) ts = false
+
+-- A folded instruction is read where no group is open.
+abbrev pub none_open : {L : Type 0} → List L → Bool
+none_open [] = true
+none_open (l ∷ st) = false
+
 module _ {N P I : Type 0} (ins : Syntax N P I) (heads : Heads I) (m : Made P I) where
   abbrev pub Turn : Type 0
   Turn = List (Level I) → List (Option ℕ × I) → List (SignificantToken N P) → Option (State N P I)
@@ -50,8 +60,11 @@ module _ {N P I : Type 0} (ins : Syntax N P I) (heads : Heads I) (m : Made P I) 
   abbrev pub open_group : List (Level I) → List (Option ℕ × I) → Option ℕ → List (SignificantToken N P) → Option (State N P I)
   open_group st out h ts = one_of that_open ts >>= λ o. (one_ins ins heads).reads o.1 >>= λ i. Some (headed (heads.kind i.0) st out h i.0 i.1)
 
+  abbrev pub plain_item : Option ℕ → Turn
+  plain_item h st out ts = (one_ins ins heads).reads ts >>= λ i. Some (state st (out ++ (h, i.0) ∷ []) i.1)
+
   abbrev pub one_item : Turn
-  one_item st out ts = (maybe hint_tests hint).reads ts >>= λ h. ask (ins_tests heads) h.1 >>= λ b. if b then ((one_ins ins heads).reads h.1 >>= λ i. Some (state st (out ++ (h.0, i.0) ∷ []) i.1)) else open_group st out h.0 h.1
+  one_item st out ts = (maybe hint_tests hint).reads ts >>= λ h. ask (ins_tests heads) h.1 >>= λ b. if b then plain_item h.0 st out h.1 else open_group st out h.0 h.1
 
   -- where items stand no more
   abbrev pub close_level : Level I → Turn
@@ -87,18 +100,8 @@ module _ {N P I : Type 0} (ins : Syntax N P I) (heads : Heads I) (m : Made P I) 
   abbrev pub step : State N P I → Option (State N P I)
   step s = turn s.stack s.out s.rest
 
-  -- Items are read where no group is open and an end stands there.
-  abbrev pub done : List (Level I) → List (SignificantToken N P) → Bool
-  done [] ts = not (at (NotEnd ∷ []) ts)
-  done (l ∷ st) ts = false
-
   abbrev pub is_done : State N P I → Bool
   is_done s = done s.stack s.rest
-
-  -- A folded instruction is read where no group is open.
-  abbrev pub none_open : List (Level I) → Bool
-  none_open [] = true
-  none_open (l ∷ st) = false
 
   abbrev pub is_folded : State N P I → Bool
   is_folded s = none_open s.stack

@@ -1,2 +1,17 @@
 //! Expressions, folded and flat (WebAssembly Core Specification 3.0, 6.5), over any syntax of instructions.
 #![tactic(auto)]
+
+mod expression;
+mod hint;
+mod look;
+mod operation;
+mod stack;
+mod steps;
+mod token;
+mod turn;
+
+pub use expression::{parse_counted, parse_items};
+pub use hint::BranchHint;
+pub use operation::{GroupKind, Operation};
+pub use stack::Instructions;
+pub use steps::Steps;

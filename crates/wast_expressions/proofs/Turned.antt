@@ -1,0 +1,178 @@
+-- What the turns of the code answer, by those of the machine.
+use Rattle.std.proofs.Common.{◌≡◌, ℕ, ◌<◌, Bool, true, false, not, List, [], ◌∷◌, ◌++◌, length, suc, map, Option, Some, None, inl, inr, refl, sym, ◌∙◌, ap, subst, cond, arith}
+use Rattle.std.specs.Prelude.{Result, Ok, Err, OnOk, IfErr, codes}
+use Rattle.std.proofs.lemmas.Bool.{cases_lt}
+use Rattle.std.proofs.lemmas.List.{map-append}
+use Rattle.wast_grammar.specs.Tokens.{Open, Close, Id, Word, Mark, Integer, Float, Text, Reserved, Broken}
+use Rattle.wast_grammar.specs.Significant.{TextToken}
+use Rattle.wast_grammar.specs.Spelling.{◌>>=◌, that_open, that_one}
+use Rattle.wast_grammar.specs.Look.{NotEnd, at, ask}
+use Rattle.wast_grammar.specs.Grammar.{Syntax, maybe, one_of}
+use Rattle.wast_grammar.proofs.BehindLaws.{opens_on}
+use Rattle.wast_parser_base.specs.Problem.{Problem}
+use Rattle.wast_parser_core.specs.State.{State, ahead, Keeps}
+use Rattle.wast_parser_core.specs.Reading.{Refuses, out_of_memory, ends_here}
+use Rattle.wast_expressions.specs.Items.{Made, either_hint, expression_of, hint_at, hints_from}
+use Rattle.wast_expressions.specs.Expressions.{Heads, hint_tests, hint, group_tests, item_tests}
+use Rattle.wast_expressions.specs.Machine as machine
+use Rattle.wast_expressions.specs.Machine.{Reach, Here, More, step, done, both_hints, open_group, one_item, close_level, row_turn, then_turn, else_turn, turn}
+use Rattle.wast_expressions.specs.Partial.{Partial, expression}
+use Rattle.wast_expressions.specs.declared.stack.Instructions.{Instructions}
+use Rattle.wast_expressions.specs.declared.stack.Level.{Level}
+use Rattle.wast_expressions.specs.declared.stack.Level.TheVariants as levels
+use Rattle.wast_expressions.specs.Views.{here, instructions_tree, level_tree, levels_tree, out_tree, Turns, arm_word}
+use Rattle.wast_expressions.proofs.ReadLaws.{bind_bind}
+
+pub on_ok : {X E P Q : Type 0} (r : Result X E) → (P → Q) → OnOk r P → OnOk r Q
+on_ok (Ok x) f p = f p
+on_ok (Err e) f p = tt
+
+-- what succeeds has turned, what fails wants memory
+pub turned : {A N P T : Type 0} (r : Result A Problem) (gives : Option (machine.State N P T)) (new : machine.State N P T) → OnOk r (gives ≡ Some new) → IfErr r (λ e. e ≡ out_of_memory) → Turns r gives new
+turned (Ok x) gives new f g = f
+turned (Err e) gives new f g = inl g
+
+pub turns_so : {A N P T : Type 0} (r : Result A Problem) (gives others : Option (machine.State N P T)) (new : machine.State N P T) → gives ≡ others → Turns r gives new → Turns r others new
+turns_so r gives others new e t = subst (λ z. Turns r z new) e t
+
+pub refused_so : {A B : Type 0} (p : Problem) (o : Option A) (q : Option B) → (o ≡ None → q ≡ None) → Refuses p o → Refuses p q
+refused_so p o q f r = elim r [ inl m ↦ inl m | inr n ↦ inr (f n) ]
+
+-- one instruction more
+pub out_more : {I T : Type 0} (tree : I → T) (out : List (Option ℕ × I)) (h : Option ℕ) (i : I) → out_tree tree (out ++ (h, i) ∷ []) ≡ out_tree tree out ++ (h, tree i) ∷ []
+out_more tree out h i = map-append (λ x. (x.0, tree x.1)) out ((h, i) ∷ [])
+
+-- where a group or the text ends
+pub ends_so : (ts : List TextToken) → ends_here ts ≡ not (at (NotEnd ∷ []) ts)
+ends_so [] = refl
+ends_so (Close p ∷ ts) = refl
+ends_so (Open p ∷ ts) = rw (opens_on p ts) refl
+ends_so (Id n p ∷ ts) = refl
+ends_so (Word w p ∷ ts) = refl
+ends_so (Mark w p ∷ ts) = refl
+ends_so (Integer n w p ∷ ts) = refl
+ends_so (Float w p ∷ ts) = refl
+ends_so (Text s p ∷ ts) = refl
+ends_so (Reserved w p ∷ ts) = refl
+ends_so (Broken ∷ ts) = refl
+
+-- behind a word that leads a group
+pub behind_word : {B : Type 0} (w : List ℕ) (ts : List TextToken) (f : ℕ × List TextToken → Option B) → (one_of that_open ts >>= λ o. one_of (that_one w) o.1 >>= f) ≡ (arm_word w ts >>= f)
+behind_word w ts f = sym (bind_bind (one_of that_open ts) (λ o. one_of (that_one w) o.1) f)
+
+module _ {I T : Type 0} (tree : I → T) (ins : Syntax (List ℕ) ℕ T) (heads : Heads T) (m : Made ℕ T) where
+  -- where items stand
+  pub row_item : (u w : Partial I) (l : Level I) (ts : List TextToken) → w ≡ record u { stack = l ∷ u.stack } → ask (item_tests heads) ts ≡ Some true → one_item ins heads m (levels_tree tree w.stack) (out_tree tree w.out) ts ≡ row_turn ins heads m (level_tree tree l ∷ levels_tree tree u.stack) (out_tree tree u.out) ts
+  row_item u w l ts e f = ap (λ (z : Partial I). one_item ins heads m (levels_tree tree z.stack) (out_tree tree z.out) ts) e ∙ sym (rw f refl)
+
+  pub row_close : (u : Partial I) (l : Level I) (ts : List TextToken) → ask (item_tests heads) ts ≡ Some false → close_level ins heads m (level_tree tree l) (levels_tree tree u.stack) (out_tree tree u.out) ts ≡ row_turn ins heads m (level_tree tree l ∷ levels_tree tree u.stack) (out_tree tree u.out) ts
+  row_close u l ts f = sym (rw f refl)
+
+  pub row_none : (u : Partial I) (ts : List TextToken) → u.stack ≡ [] → ask (item_tests heads) ts ≡ Some false → row_turn ins heads m (levels_tree tree u.stack) (out_tree tree u.out) ts ≡ None
+  row_none u ts e f = ap (λ st. row_turn ins heads m (levels_tree tree st) (out_tree tree u.out) ts) e ∙ rw f refl
+
+  -- a turn by what the stack waits for
+  pub turn_top : (u v : Partial I) (k l : Level I) (ts : List TextToken) → u ≡ record v { stack = k ∷ v.stack } → k ≡ l → turn ins heads m (level_tree tree l ∷ levels_tree tree v.stack) (out_tree tree v.out) ts ≡ turn ins heads m (levels_tree tree u.stack) (out_tree tree u.out) ts
+  turn_top u v k l ts e f =
+      ap (λ z. turn ins heads m (level_tree tree z ∷ levels_tree tree v.stack) (out_tree tree v.out) ts) (sym f)
+      ∙ sym (ap (λ (z : Partial I). turn ins heads m (levels_tree tree z.stack) (out_tree tree z.out) ts) e)
+
+  pub turn_none : (u v : Partial I) (ts : List TextToken) → u.stack ≡ [] → v ≡ u → row_turn ins heads m (levels_tree tree v.stack) (out_tree tree v.out) ts ≡ turn ins heads m (levels_tree tree u.stack) (out_tree tree u.out) ts
+  turn_none u v ts e f =
+      ap (λ (z : Partial I). row_turn ins heads m (levels_tree tree z.stack) (out_tree tree z.out) ts) f
+      ∙ ap (λ st. row_turn ins heads m (levels_tree tree st) (out_tree tree u.out) ts) e
+      ∙ sym (ap (λ st. turn ins heads m (levels_tree tree st) (out_tree tree u.out) ts) e)
+
+  -- one more condition
+  pub more_condition : (u w : Partial I) (h : Option ℕ) (i : I) (ts : List TextToken) → w ≡ record u { stack = levels.Conditions h i ∷ u.stack } → ask (group_tests heads) ts ≡ Some true → open_group ins heads m (levels_tree tree w.stack) (out_tree tree w.out) None ts ≡ turn ins heads m (machine.Conditions h (tree i) ∷ levels_tree tree u.stack) (out_tree tree u.out) ts
+  more_condition u w h i ts e f = ap (λ (z : Partial I). open_group ins heads m (levels_tree tree z.stack) (out_tree tree z.out) None ts) e ∙ sym (rw f refl)
+
+  -- a group opens
+  abbrev headed_by : List (machine.Level T) → List (Option ℕ × T) → Option ℕ → T × List TextToken → Option (machine.State (List ℕ) ℕ T)
+  headed_by st out h i = Some (machine.headed ins heads m (heads.kind i.0) st out h i.0 i.1)
+
+  pub group_opened : (st : List (machine.Level T)) (out : List (Option ℕ × T)) (h : Option ℕ) (p : ℕ) (t : T) (ts us rest : List TextToken) → one_of that_open ts ≡ Some (p, us) → ins.reads us ≡ Some (t, rest) → open_group ins heads m st out h ts ≡ Some (machine.headed ins heads m (heads.kind t) st out h t rest)
+  group_opened st out h p t ts us rest e f = ap (λ z. z >>= λ o. ins.reads o.1 >>= headed_by st out h) e ∙ ap (λ z. z >>= headed_by st out h) f
+
+  -- an arm opens
+  pub arm_here : (u v w : Partial I) (l : Level I) (h g : Option ℕ) (i : I) (t : T) (rest : List TextToken) → v ≡ record u { out = u.out ++ (h, i) ∷ [] } → w ≡ record v { stack = levels.Arm ∷ l ∷ v.stack } → h ≡ g → tree i ≡ t → machine.state (machine.Arm ∷ level_tree tree l ∷ levels_tree tree u.stack) (out_tree tree u.out ++ (g, t) ∷ []) rest ≡ here tree w rest
+  arm_here u v w l h g i t rest e f p q = sym (
+      ap (λ (z : Partial I). here tree z rest) f
+      ∙ ap (λ (z : Partial I). here tree (record { stack = levels.Arm ∷ l ∷ z.stack; out = z.out }) rest) e
+      ∙ ap (λ z. machine.state (machine.Arm ∷ level_tree tree l ∷ levels_tree tree u.stack) z rest) (out_more tree u.out h i ∙ ap (λ k. out_tree tree u.out ++ (k, tree i) ∷ []) p ∙ ap (λ k. out_tree tree u.out ++ (g, k) ∷ []) q))
+
+  -- the arms
+  abbrev arm_state : List (Option ℕ × T) → machine.Level T → List (machine.Level T) → ℕ × List TextToken → Option (machine.State (List ℕ) ℕ T)
+  arm_state out l st w = Some (machine.state (machine.Arm ∷ l ∷ st) out w.1)
+
+  abbrev else_state : List (machine.Level T) → List (Option ℕ × T) → ℕ × List TextToken → Option (machine.State (List ℕ) ℕ T)
+  else_state st out w = Some (machine.state (machine.Arm ∷ machine.AfterElse ∷ st) (out ++ (None, m.else_at w.0) ∷ []) w.1)
+
+  pub else_word : (st : List (machine.Level T)) (out : List (Option ℕ × T)) (ts rest : List TextToken) (p : ℕ) → arm_word (codes "else") ts ≡ Some (p, rest) → else_turn ins heads m st out ts ≡ Some (machine.state (machine.Arm ∷ machine.AfterElse ∷ st) (out ++ (None, m.else_at p) ∷ []) rest)
+  else_word st out ts rest p e = behind_word (codes "else") ts (else_state st out) ∙ ap (λ z. z >>= else_state st out) e
+
+  pub else_none : (st : List (machine.Level T)) (out : List (Option ℕ × T)) (ts : List TextToken) → arm_word (codes "else") ts ≡ None → else_turn ins heads m st out ts ≡ None
+  else_none st out ts e = behind_word (codes "else") ts (else_state st out) ∙ ap (λ z. z >>= else_state st out) e
+
+  abbrev then_word_of : Option ℕ → T → List (machine.Level T) → List (Option ℕ × T) → Option ℕ → List TextToken → Option (machine.State (List ℕ) ℕ T)
+  then_word_of h i st out g ts = cond (both_hints h g) None (arm_word (codes "then") ts >>= arm_state (out ++ (either_hint h g, i) ∷ []) machine.AfterThen st)
+
+  then_hint : (h : Option ℕ) (i : T) (st : List (machine.Level T)) (out : List (Option ℕ × T)) (ts us : List TextToken) (g : Option ℕ) → (maybe hint_tests hint).reads ts ≡ Some (g, us) → then_turn ins heads m h i st out ts ≡ then_word_of h i st out g us
+  then_hint h i st out ts us g e = rw e (ap (λ z. cond (both_hints h g) None z) (behind_word (codes "then") us (arm_state (out ++ (either_hint h g, i) ∷ []) machine.AfterThen st)))
+
+  pub then_word : (h : Option ℕ) (i : T) (st : List (machine.Level T)) (out : List (Option ℕ × T)) (ts us rest : List TextToken) (g : Option ℕ) (p : ℕ) → (maybe hint_tests hint).reads ts ≡ Some (g, us) → both_hints h g ≡ false → arm_word (codes "then") us ≡ Some (p, rest) → then_turn ins heads m h i st out ts ≡ Some (machine.state (machine.Arm ∷ machine.AfterThen ∷ st) (out ++ (either_hint h g, i) ∷ []) rest)
+  then_word h i st out ts us rest g p e n f = then_hint h i st out ts us g e ∙ ap (λ b. cond b None (arm_word (codes "then") us >>= arm_state (out ++ (either_hint h g, i) ∷ []) machine.AfterThen st)) n ∙ ap (λ z. z >>= arm_state (out ++ (either_hint h g, i) ∷ []) machine.AfterThen st) f
+
+  pub then_none : (h : Option ℕ) (i : T) (st : List (machine.Level T)) (out : List (Option ℕ × T)) (ts us : List TextToken) (g : Option ℕ) → (maybe hint_tests hint).reads ts ≡ Some (g, us) → arm_word (codes "then") us ≡ None → then_turn ins heads m h i st out ts ≡ None
+  then_none h i st out ts us g e f = then_hint h i st out ts us g e ∙ ap (λ z. cond (both_hints h g) None (z >>= arm_state (out ++ (either_hint h g, i) ∷ []) machine.AfterThen st)) f ∙ either_none (both_hints h g)
+    where
+      either_none : {A : Type 0} (b : Bool) → cond {A = Option A} b None None ≡ None
+      either_none true = refl
+      either_none false = refl
+
+-- one turn more
+pub further : {N P T : Type 0} (ins : Syntax N P T) (heads : Heads T) (m : Made P T) (ends : machine.State N P T → Bool) {s t u : machine.State N P T} → Reach ins heads m ends s t → ends t ≡ false → step ins heads m t ≡ Some u → Reach ins heads m ends s u
+further ins heads m ends Here n e = More n e Here
+further ins heads m ends (More k f r) n e = More k f (further ins heads m ends r n e)
+
+-- whether items are read, by the stack of the code
+pub done_tree : {I T : Type 0} (tree : I → T) (u : Partial I) (ts : List TextToken) (b : Bool) → done u.stack ts ≡ b → done (levels_tree tree u.stack) ts ≡ b
+done_tree tree u ts b e = go u.stack e
+  where
+    go : (st : List (Level _)) → done st ts ≡ b → done (levels_tree tree st) ts ≡ b
+    go [] e = e
+    go (l ∷ st) e = e
+
+-- what was unfolded, as an expression
+hints_kept : {I T : Type 0} (tree : I → T) (n : ℕ) (xs : List (Option ℕ × I)) → hints_from n xs ≡ hints_from n (out_tree tree xs)
+hints_kept tree n [] = refl
+hints_kept tree n (x ∷ xs) = ap (λ z. hint_at n x.0 ++ z) (hints_kept tree (suc n) xs)
+
+instrs_kept : {I T : Type 0} (tree : I → T) (xs : List (Option ℕ × I)) → map tree (map (λ x. x.1) xs) ≡ map (λ x. x.1) (out_tree tree xs)
+instrs_kept tree [] = refl
+instrs_kept tree (x ∷ xs) = ap (λ z. tree x.1 ∷ z) (instrs_kept tree xs)
+
+pub finished : {I T : Type 0} (tree : I → T) (r : Instructions I) (out : List (Option ℕ × I)) → expression r ≡ expression_of out → expression_of (out_tree tree out) ≡ instructions_tree tree r
+finished tree r out e = sym (
+    ap (λ z. record { instrs = map tree z.instrs; hints = z.hints }) e
+    ∙ ap (λ z. record { instrs = z; hints = hints_from 0 out }) (instrs_kept tree out)
+    ∙ ap (λ z. record { instrs = map (λ x. x.1) (out_tree tree out); hints = z }) (hints_kept tree 0 out))
+
+-- two hints
+pub joined_some : {A : Type 0} (b : Bool) (x y : A) → cond b None (Some x) ≡ Some y → (b ≡ false) × (x ≡ y)
+joined_some true x y e = cc
+joined_some false x y e = (refl, cc)
+
+-- PROGRESS
+-- where fewer tokens are left, one was taken
+pub moved : (a b : State) → Keeps a b → length (ahead b) < length (ahead a) → a.at < b.at
+moved a b k l = elim (cases_lt a.at b.at) [
+  | inl p ↦ p
+  | inr q ↦ (
+      let o = k.onward in
+      let s : b.at ≡ a.at = omega (arith, q, o) in
+      let same : ahead b ≡ ahead a = rw (k.source, k.names, s) refl in
+      let n : length (ahead b) ≡ length (ahead a) = ap length same in
+      let no : ⊥ = omega (arith, l, n) in
+      absurd no)
+]

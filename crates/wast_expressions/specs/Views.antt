@@ -1,0 +1,71 @@
+-- What the grammar sees of the types of the code.
+use Rattle.std.specs.Prelude.{◌≡◌, ℕ, true, false, if◌then◌else◌, List, [], ◌∷◌, map, Option, Some, None, Result, Ok, Err}
+use Rattle.wast_parser.specs.Reading.{Refuses}
+use Rattle.wast_parser.specs.State.{ahead}
+use Rattle.wast_parser.specs.Cursors.{stands, Follows}
+use Rattle.wast_parser.specs.Grammar.{Syntax, words, one_of}
+use Rattle.wast_parser.specs.Look.{OneOf, holds}
+use Rattle.wast_parser.specs.Significant.{TextToken}
+use Rattle.wast_parser.specs.Spelling.{◌>>=◌, that_open, that_one}
+use Rattle.wast_parser_core.specs.declared.cursor.Cursor.{Cursor}
+use Rattle.wast_parser_base.specs.Problem.{Problem}
+use Rattle.wast_expressions.specs.declared.operation.GroupKind.{GroupKind}
+use Rattle.wast_expressions.specs.declared.operation.GroupKind.TheVariants as kinds
+use Rattle.wast_expressions.specs.declared.stack.Level.{Level}
+use Rattle.wast_expressions.specs.declared.stack.Level.TheVariants as levels
+use Rattle.wast_expressions.specs.declared.stack.Instructions.{Instructions}
+use Rattle.wast_expressions.specs.Items.{Expression}
+use Rattle.wast_expressions.specs.Partial.{Partial, hint_tree}
+use Rattle.wast_expressions.specs.Expressions as spec
+use Rattle.wast_expressions.specs.Expressions.{is_hint}
+use Rattle.wast_expressions.specs.Machine as machine
+
+abbrev pub kind_of : GroupKind → spec.GroupKind
+kind_of kinds.Operands = spec.OfOperands
+kind_of kinds.Block = spec.OfBlock
+kind_of kinds.Arms = spec.OfArms
+
+-- a hint's bytes, and their value
+abbrev pub IsHintOf : List ℕ → Option ℕ → Type 0
+IsHintOf bytes None = is_hint bytes ≡ false
+IsHintOf bytes (Some v) = (is_hint bytes ≡ true) × (bytes ≡ v ∷ [])
+
+-- a word of an instruction
+abbrev pub any_word : {I : Type 0} → spec.Heads I → Syntax (List ℕ) ℕ (List ℕ × ℕ)
+any_word heads = words (λ w. if holds (OneOf heads.words heads.but) w then Some w else None) (OneOf heads.words heads.but)
+
+module _ {I T : Type 0} (tree : I → T) where
+  abbrev pub instructions_tree : Instructions I → Expression T
+  instructions_tree x = record { instrs = map tree x.instrs.items; hints = map hint_tree x.hints.items }
+
+  abbrev pub out_tree : List (Option ℕ × I) → List (Option ℕ × T)
+  out_tree xs = map (λ x. (x.0, tree x.1)) xs
+
+  abbrev pub level_tree : Level I → machine.Level T
+  level_tree (levels.EndWith h i) = machine.EndWith h (tree i)
+  level_tree levels.BlockEnd = machine.BlockEnd
+  level_tree (levels.Conditions h i) = machine.Conditions h (tree i)
+  level_tree levels.Arm = machine.Arm
+  level_tree levels.AfterThen = machine.AfterThen
+  level_tree levels.AfterElse = machine.AfterElse
+
+  abbrev pub levels_tree : List (Level I) → List (machine.Level T)
+  levels_tree ls = map level_tree ls
+
+-- where a loop is
+abbrev pub here : {I T : Type 0} → (I → T) → Partial I → List TextToken → machine.State (List ℕ) ℕ T
+here tree u ts = machine.state (levels_tree tree u.stack) (out_tree tree u.out) ts
+
+-- what a turn answers and leaves
+abbrev pub Turns : {A N P T : Type 0} → Result A Problem → Option (machine.State N P T) → machine.State N P T → Type 0
+Turns (Ok x) gives new = gives ≡ Some new
+Turns (Err p) gives new = Refuses p gives
+
+-- a cursor's call takes a token that says something, or refuses where there is none
+abbrev pub Passes : {Y U : Type 0} → (TextToken → Option Y) → Cursor → Result (U × Cursor) Problem → Type 0
+Passes {Y} f c (Ok (u, d)) = (y : Y) × (one_of f (ahead (stands c)) ≡ Some (y, ahead (stands d))) × Follows c d
+Passes f c (Err p) = Refuses p (one_of f (ahead (stands c)))
+
+-- what is read behind a parenthesis that opens: a word
+abbrev pub arm_word : List ℕ → List TextToken → Option (ℕ × List TextToken)
+arm_word w ts = one_of that_open ts >>= λ o. one_of (that_one w) o.1

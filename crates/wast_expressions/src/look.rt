@@ -1,0 +1,101 @@
+//! What stands before a parser.
+ghost use Rattle.std.specs.Prelude.{◌≡◌, ℕ, List, [], ◌∷◌, false, refl, codes};
+ghost use Rattle.wast_parser.specs.Look.{ask, join, unders, On, AWord, Texts};
+ghost use Rattle.wast_parser.specs.Lawful.{Lawful, Leads};
+ghost use Rattle.wast_parser.specs.State.{ahead};
+ghost use Rattle.wast_parser.specs.Reading.{Asks};
+ghost use Rattle.wast_parser.specs.Cursors.{stands};
+ghost use Rattle.wast_expressions.specs.Expressions.{hint_tests, ins_tests, group_tests, item_tests};
+ghost use Rattle.wast_expressions.specs.Views.{any_word};
+
+use crate::hint::HintValue;
+use crate::operation::Operation;
+use std::marker::PhantomData;
+use wast_parser::{Cursor, Error, KeywordName, LParen, Meaning, Parser, Peek};
+
+/// A word of an instruction.
+#[derive(Drop)]
+pub(crate) struct Word<I> {
+    of: PhantomData<I>,
+}
+
+impl<I: Operation> Meaning for Word<I> {
+    ghost Tree = { List ℕ × ℕ };
+
+    ghost tree = { λ w. ([], 0) };
+
+    ghost syntax = { any_word I.heads };
+
+    fn lawful() {}
+}
+
+impl<I: Operation> Peek for Word<I> {
+    ghost plain = { refl };
+
+    ghost full = { refl };
+
+    ghost sure = { refl };
+
+    fn leads() {}
+
+    fn peek(cursor: Cursor<'_, '_>) -> Result<bool, Error> {
+        I::peek_word(cursor)
+    }
+
+    fn display() -> &'static str {
+        "an instruction"
+    }
+}
+
+/// The word that leads the second arm of an `if`.
+#[derive(Drop)]
+pub(crate) struct Else;
+
+impl KeywordName for Else {
+    ghost word = { codes "else" };
+
+    fn text() -> &'static str {
+        "else"
+    }
+}
+
+/// Whether a parenthesis opens here and such a word stands behind it.
+pub(crate) fn peek_led<T: Peek>(parser: &Parser<'_>) -> Result<bool, Error>
+    requires { (t : Texts) × (T.syntax.starts ≡ On false AWord t ∷ []) }
+    ensures { Asks result parser.now.source (ask (unders T.syntax.starts) (ahead parser.now)) }
+{
+    match parser.peek::<LParen>() {
+        Ok(true) => parser.peek2::<T>(),
+        Ok(false) => Ok(false),
+        Err(e) => Err(e),
+    }
+}
+
+/// Whether a group begins here.
+pub(crate) fn peek_group<I: Operation>(parser: &Parser<'_>) -> Result<bool, Error>
+    ensures { Asks result parser.now.source (ask (group_tests I.heads) (ahead parser.now)) }
+{
+    peek_led::<Word<I>>(parser)
+}
+
+/// Whether an item begins here: an instruction, a hint or a group.
+pub(crate) fn peek_item<I: Operation>(parser: &Parser<'_>) -> Result<bool, Error>
+    ensures { Asks result parser.now.source (ask (item_tests I.heads) (ahead parser.now)) }
+{
+    match parser.peek::<Word<I>>() {
+        Ok(true) => Ok(true),
+        Ok(false) => peek_hinted::<I>(parser),
+        Err(e) => Err(e),
+    }
+}
+
+/// The same where no instruction begins here.
+fn peek_hinted<I: Operation>(parser: &Parser<'_>) -> Result<bool, Error>
+    ensures { Asks result parser.now.source (ask (join hint_tests (group_tests I.heads)) (ahead parser.now)) }
+{
+    match parser.peek::<HintValue>() {
+        Ok(true) => Ok(true),
+        Ok(false) => peek_group::<I>(parser),
+        Err(e) => Err(e),
+    }
+}
