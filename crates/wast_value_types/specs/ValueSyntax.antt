@@ -151,7 +151,7 @@ module _ {N P : Type 0} where
   abbrev pub field_type : Syntax N P (FieldType N P)
   field_type = either mut_starts (seen (as_field true) (group (codes "mut") storage_type)) (seen (as_field false) storage_type)
 
-  -- GLOBAL TYPES (6.4.9): val_type, (mut val_type), (shared mut? val_type)
+  -- GLOBAL TYPES (6.4.10): val_type, (mut val_type), (shared mut? val_type)
   abbrev pub as_global : (mutable shared : Bool) → ValType N P → GlobalType N P
   as_global mutable shared t = record { val_type = t; mutable = mutable; shared = shared }
 
@@ -170,14 +170,14 @@ module _ {N P : Type 0} where
   abbrev pub limits : Syntax N P Limits
   limits = seen as_limits (seq address_type (seq u64 (maybe (On false AnInteger Any ∷ []) u64)))
 
-  -- TABLE TYPES (6.4.11): shared? limits ref_type
+  -- TABLE TYPES (6.4.12): shared? limits ref_type
   abbrev pub as_table : Bool × (Limits × RefType N P) → TableType N P
   as_table t = record { limits = t.1.0; shared = t.0; element = t.1.1 }
 
   abbrev pub table_type : Syntax N P (TableType N P)
   table_type = seen as_table (seq (optional (codes "shared")) (seq limits ref_type))
 
-  -- MEMORY TYPES (6.4.10): limits shared? (pagesize u32)?, the page size being a power of two
+  -- MEMORY TYPES (6.4.11): limits shared? (pagesize u32)?, the page size being a power of two
   abbrev pub power_of_two : Syntax N P ℕ
   power_of_two = seen (λ n. unwrap_or (exponent n) 0) (only (λ n. is_some (exponent n)) u32)
 

@@ -53,19 +53,19 @@ pub record Limits : Type 0 where
   pub minimum : ℕ
   pub maximum : Option ℕ
 
--- table types (6.4.11); a shared one is that of a proposal
+-- table types (6.4.12); a shared one is that of a proposal
 pub record TableType (N P : Type 0) : Type 0 where
   pub limits : Limits
   pub shared : Bool
   pub element : RefType N P
 
--- memory types (6.4.10); the page size, where one is written, is 2 to this power
+-- memory types (6.4.11); the page size, where one is written, is 2 to this power
 pub record MemoryType : Type 0 where
   pub limits : Limits
   pub shared : Bool
   pub page : Option ℕ
 
--- global types (6.4.9); a shared one is that of a proposal
+-- global types (6.4.10); a shared one is that of a proposal
 pub record GlobalType (N P : Type 0) : Type 0 where
   pub val_type : ValType N P
   pub mutable : Bool

@@ -11,7 +11,7 @@ use crate::val_type::ValType;
 use std::alloc::{AllocError, Global};
 use wast_parser::{Error, Meaning, Parse, Parser};
 
-/// A global type (6.4.9); a shared one is that of a proposal.
+/// A global type (6.4.10); a shared one is that of a proposal.
 #[derive(Debug, Drop)]
 pub struct GlobalType<'a> {
     pub ty: ValType<'a>,

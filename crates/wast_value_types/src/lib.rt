@@ -1,5 +1,22 @@
-//! The types of values, heaps, tables, memories and globals (WebAssembly Core Specification 3.0, 6.4). A part of the crate
-//! `wast_core_types`.
+//! The types of values, heaps, tables, memories and globals as trees, and their syntax (WebAssembly Core Specification 3.0,
+//! 6.4). A part of the crate `wast_core_types`.
+//!
+//! [`ValType`], [`RefType`], [`HeapType`] and [`AbstractHeapType`] are read and looked for, the others are read. Types of
+//! proposals, which are shared, exact or of continuations, are read into the tree too. Indices in types are not resolved.
+//! Two types are equal exactly where they are written alike, wherever their indices stand ([`laws::equal_types`]); equal ones
+//! hash alike.
+//!
+//! For the crates above, [`Words`] reads values that are one keyword each, [`group_of`] a value behind a word in parentheses,
+//! and [`Group`] and [`or_peek`] look ahead.
+//!
+//! # What has to be believed
+//!
+//! | File of `specs/` | Says |
+//! |---|---|
+//! | `ValueTree` | the trees |
+//! | `ValueSyntax` | which tokens spell them, and what they begin with |
+//! | `ValueViews` | what the grammar sees of each Rust type |
+//! | `Unplaced`, `Laws` | types without places; the statement of the law function |
 #![tactic(auto)]
 
 mod global_type;

@@ -181,7 +181,7 @@ impl<'a> Parse<'a> for RefType<'a> {
             Ok(body.ref_type)
         } else {
             let short: Word<ShortForm> = parser.parse()?;
-            Ok(RefType::nullable(short.value.ty))
+            Ok(RefType::nullable(short.value.0))
         }
     }
 }
@@ -240,65 +240,35 @@ impl<'a> Parse<'a> for RefBody<'a> {
 
 /// The abbreviation of the nullable reference type of an abstract heap type.
 #[derive(Clone, Copy)]
-struct ShortForm {
-    ty: AbstractHeapType,
-}
+struct ShortForm(AbstractHeapType);
 
 /// The abbreviations in the order of their keywords.
 const SHORT_FORMS: [ShortForm; 14] = [
-    ShortForm {
-        ty: AbstractHeapType::Func,
-    },
-    ShortForm {
-        ty: AbstractHeapType::Extern,
-    },
-    ShortForm {
-        ty: AbstractHeapType::Exn,
-    },
-    ShortForm {
-        ty: AbstractHeapType::Cont,
-    },
-    ShortForm {
-        ty: AbstractHeapType::Any,
-    },
-    ShortForm {
-        ty: AbstractHeapType::Eq,
-    },
-    ShortForm {
-        ty: AbstractHeapType::Struct,
-    },
-    ShortForm {
-        ty: AbstractHeapType::Array,
-    },
-    ShortForm {
-        ty: AbstractHeapType::I31,
-    },
-    ShortForm {
-        ty: AbstractHeapType::NoFunc,
-    },
-    ShortForm {
-        ty: AbstractHeapType::NoExtern,
-    },
-    ShortForm {
-        ty: AbstractHeapType::None,
-    },
-    ShortForm {
-        ty: AbstractHeapType::NoExn,
-    },
-    ShortForm {
-        ty: AbstractHeapType::NoCont,
-    },
+    ShortForm(AbstractHeapType::Func),
+    ShortForm(AbstractHeapType::Extern),
+    ShortForm(AbstractHeapType::Exn),
+    ShortForm(AbstractHeapType::Cont),
+    ShortForm(AbstractHeapType::Any),
+    ShortForm(AbstractHeapType::Eq),
+    ShortForm(AbstractHeapType::Struct),
+    ShortForm(AbstractHeapType::Array),
+    ShortForm(AbstractHeapType::I31),
+    ShortForm(AbstractHeapType::NoFunc),
+    ShortForm(AbstractHeapType::NoExtern),
+    ShortForm(AbstractHeapType::None),
+    ShortForm(AbstractHeapType::NoExn),
+    ShortForm(AbstractHeapType::NoCont),
 ];
 
 impl Written for ShortForm {
     ghost Tree = { HeapWord };
 
-    ghost entry = { λ s. (short_text s.ty, heap_word s.ty) };
+    ghost entry = { λ s. (short_text s.0, heap_word s.0) };
 
     ghost entries = { short_words };
 
     fn text(self) -> &'static str {
-        match self.ty {
+        match self.0 {
             AbstractHeapType::Func => "funcref",
             AbstractHeapType::Extern => "externref",
             AbstractHeapType::Exn => "exnref",

@@ -14,7 +14,7 @@ use crate::ref_type::RefType;
 use std::alloc::{AllocError, Global};
 use wast_parser::{Error, Meaning, Parse, Parser};
 
-/// A table type (6.4.11); a shared one is that of a proposal.
+/// A table type (6.4.12); a shared one is that of a proposal.
 #[derive(Debug, Drop)]
 pub struct TableType<'a> {
     pub limits: Limits,
@@ -60,7 +60,7 @@ impl<'a> Parse<'a> for TableType<'a> {
     }
 }
 
-/// A memory type (6.4.10). The page size, where one is written, is 2 to this power, in bytes.
+/// A memory type (6.4.11). The page size, where one is written, is 2 to this power, in bytes.
 #[derive(Clone, Copy, Debug, PartialEq, Eq, Hash)]
 pub struct MemoryType {
     pub limits: Limits,
