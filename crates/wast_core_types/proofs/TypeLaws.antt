@@ -7,8 +7,8 @@ use Rattle.wast_parser.proofs.GrammarLaws.{Lawful, word_laws, seen_laws, seq_law
 use Rattle.wast_parser.proofs.RecursionLaws.{Steps, fix_laws, under_self, under_seen, under_group, under_either}
 use Rattle.wast_parser.proofs.IdentifierLaws.{identifier_laws, index_laws, name_annotation_laws, maybe_name_laws}
 use Rattle.wast_value_types.proofs.ValueLaws.{optional_laws, val_type_laws, field_type_laws}
-use Rattle.wast_value_types.specs.ValueSyntax.{index_starts}
-use Rattle.wast_core_types.specs.TypeSyntax.{id_starts, given_starts, field_type_starts, shared_starts, comp_starts, type_starts, given_name, val_types, named_locals, locals, result, sig_groups, param, bare_param, sig, bare_sig, named_fields, fields, struct_type, inner_type, as_shared, unshared, comp_step, comp_type, index_of, described, sub_type, type_def, type_body, type_item, rec_body, rec_group, type_use, bare_use}
+use Rattle.wast_value_types.specs.ValueSyntax.{index_starts, field_starts}
+use Rattle.wast_core_types.specs.TypeSyntax.{id_starts, given_starts, shared_starts, comp_starts, type_starts, given_name, val_types, named_locals, locals, result, sig_groups, param, bare_param, sig, bare_sig, named_fields, fields, struct_type, inner_type, as_shared, unshared, comp_step, comp_type, index_of, described, sub_type, type_def, type_body, type_item, rec_body, rec_group, type_use, bare_use}
 
 module _ {N P : Type 0} where
   pub given_name_laws : Lawful (given_name {N = N} {P = P})
@@ -44,7 +44,7 @@ module _ {N P : Type 0} where
   bare_sig_laws = seen_laws _ _ bare_groups_laws
 
   pub named_fields_laws : Lawful (named_fields {N = N} {P = P})
-  named_fields_laws = either_laws id_starts _ _ (seen_laws _ _ (seq_laws _ _ identifier_laws field_type_laws refl)) (seen_laws _ _ (many_laws field_type_starts _ field_type_laws refl refl refl refl refl)) refl refl refl refl
+  named_fields_laws = either_laws id_starts _ _ (seen_laws _ _ (seq_laws _ _ identifier_laws field_type_laws refl)) (seen_laws _ _ (many_laws field_starts _ field_type_laws refl refl refl refl refl)) refl refl refl refl
 
   pub fields_laws : Lawful (fields {N = N} {P = P})
   fields_laws = group_laws (codes "field") _ named_fields_laws refl

@@ -4,9 +4,9 @@ use Rattle.wast_parser.specs.Tokens.{SignificantToken}
 use Rattle.wast_parser.specs.Spelling.{◌>>=◌}
 use Rattle.wast_parser.specs.Look.{Test, this_group, look, fits, at, ask, faults}
 use Rattle.wast_parser.specs.Grammar.{Reader, seq_reads, map_reads, many_reads, maybe_reads}
-use Rattle.wast_core_types.specs.TypeTree.{Local, Sig}
+use Rattle.wast_core_types.specs.TypeTree.{Sig}
 use Rattle.wast_value_types.specs.ValueTree.{ValType}
-use Rattle.wast_core_types.specs.TypeSyntax.{sig_starts, as_sig, as_inline}
+use Rattle.wast_core_types.specs.TypeSyntax.{sig_starts, as_inline}
 
 -- what repeating reads where none begins, where none can be told, and where one does
 module _ {N P A : Type 0} (starts : List Test) (r : Reader N P A) (ts : List (SignificantToken N P)) where

@@ -1,12 +1,12 @@
 -- The syntax of signatures, composite types, type definitions and type uses (WebAssembly 3.0, 6.4 and 6.6).
 use Rattle.std.specs.Prelude.{ℕ, Bool, true, false, List, [], ◌∷◌, map, Option, Some, None, codes}
 use Rattle.std.specs.List.{flat_map}
-use Rattle.wast_parser.specs.Look.{Test, On, AnId, Any, this_group, this_annotation, join}
+use Rattle.wast_parser.specs.Look.{Test, On, AnId, Any, this_group, this_annotation}
 use Rattle.wast_parser.specs.Grammar.{Syntax, word, seen, seq, maybe, many, either, group, paren}
 use Rattle.wast_parser.specs.Recursion.{fix}
 use Rattle.wast_parser.specs.Identifiers.{Named, Reference, identifier, index, name_annotation}
 use Rattle.wast_value_types.specs.ValueTree.{ValType, FieldType}
-use Rattle.wast_value_types.specs.ValueSyntax.{optional, val_type, field_type, packed_words, keywords, mut_starts, index_starts, val_starts}
+use Rattle.wast_value_types.specs.ValueSyntax.{optional, val_type, field_type, index_starts, val_starts, field_starts}
 use Rattle.wast_core_types.specs.TypeTree.{Local, Sig, StructField, InnerType, FuncType, StructType, ArrayType, ContType, CompType, TypeDef, TypeItem, Rec, TypeUse}
 
 -- WHERE THEY BEGIN
@@ -15,9 +15,6 @@ id_starts = On false AnId Any ∷ []
 
 abbrev pub given_starts : List Test
 given_starts = this_annotation (codes "name") ∷ []
-
-abbrev pub field_type_starts : List Test
-field_type_starts = join mut_starts (join (keywords packed_words) val_starts)
 
 abbrev pub sig_starts : List Test
 sig_starts = this_group (codes "param") ∷ this_group (codes "result") ∷ []
@@ -93,7 +90,7 @@ module _ {N P : Type 0} where
   unnamed_field t = record { id = None; field_type = t }
 
   abbrev pub named_fields : Syntax N P (List (StructField N P))
-  named_fields = either id_starts (seen as_field (seq identifier field_type)) (seen (map unnamed_field) (many field_type_starts field_type))
+  named_fields = either id_starts (seen as_field (seq identifier field_type)) (seen (map unnamed_field) (many field_starts field_type))
 
   abbrev pub fields : Syntax N P (List (StructField N P))
   fields = group (codes "field") named_fields

@@ -1,5 +1,5 @@
 //! Groups behind a word.
-ghost use Rattle.std.specs.Prelude.{◌≡◌, ℕ, List, [], ◌∷◌, Option, Some, false, refl};
+ghost use Rattle.std.specs.Prelude.{◌≡◌, ℕ, List, [], ◌∷◌, Option, Some, false, option_map, refl};
 ghost use Rattle.wast_parser.specs.Significant.{TextToken};
 ghost use Rattle.wast_parser.specs.Look.{any_end, ask, this_group};
 ghost use Rattle.wast_parser.specs.Grammar.{Syntax, group, led};
@@ -23,12 +23,12 @@ pub trait Body: Meaning {
 
 /// `(word ..)`.
 #[derive(Drop)]
-pub struct Group<N, T> {
+pub struct Grouped<N, T> {
     pub value: T,
     of: PhantomData<N>,
 }
 
-impl<N: KeywordName, T: Body> Meaning for Group<N, T> {
+impl<N: KeywordName, T: Body> Meaning for Grouped<N, T> {
     ghost Tree = { T.Tree };
 
     ghost tree = { λ g. T.tree g.value };
@@ -40,17 +40,17 @@ impl<N: KeywordName, T: Body> Meaning for Group<N, T> {
     }
 }
 
-impl<'a, N: KeywordName, T: Parse<'a> + Body> Parse<'a> for Group<N, T> {
+impl<'a, N: KeywordName, T: Parse<'a> + Body> Parse<'a> for Grouped<N, T> {
     fn parse(parser: &mut Parser<'a>) -> Result<Self, Error> {
         let led: Led<N, T> = parser.parens_of()?;
-        Ok(Group {
+        Ok(Grouped {
             value: led.value,
             of: PhantomData,
         })
     }
 }
 
-impl<N: KeywordName, T: Body> Peek for Group<N, T> {
+impl<N: KeywordName, T: Body> Peek for Grouped<N, T> {
     ghost plain = { refl };
 
     ghost sure = { refl };
@@ -69,8 +69,18 @@ impl<N: KeywordName, T: Body> Peek for Group<N, T> {
     }
 }
 
-impl<N: KeywordName, T: Body> Item for Group<N, T> {
+impl<N: KeywordName, T: Body> Item for Grouped<N, T> {
     ghost inside = { refl };
+}
+
+/// What a group holds, where there is one.
+pub(crate) fn value_of<N: Drop, T>(group: Option<Grouped<N, T>>) -> Option<T>
+    ensures { result ≡ option_map (λ g. g.value) group }
+{
+    match group {
+        Some(group) => Some(group.value),
+        None => None,
+    }
 }
 
 /// What stands between the parentheses of a group.

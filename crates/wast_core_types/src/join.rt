@@ -2,7 +2,7 @@
 ghost use Rattle.std.specs.Prelude.{◌≡◌, ◌++◌, IfOk, OnOk};
 ghost use Rattle.std.specs.List.{flat_map};
 
-use crate::group::Group;
+use crate::group::Grouped;
 use std::alloc::{AllocError, Global};
 
 /// What a group holds of a list.
@@ -14,7 +14,7 @@ pub struct Several<T> {
 /// The items of groups, one after the other.
 pub(crate) fn join<N: Drop, T: Drop>(
     alloc: Global,
-    groups: Vec<Group<N, Several<T>>>,
+    groups: Vec<Grouped<N, Several<T>>>,
 ) -> Result<Vec<T>, AllocError>
     ensures { IfOk result (λ all. all.items ≡ flat_map (λ g. g.value.items.items) groups.items) }
 {
