@@ -13,7 +13,7 @@ use Rattle.wast_parser.proofs.LeadLaws.{seen_leads, among_leads, group_leads}
 use Rattle.wast_parser.proofs.IdentifierLaws.{identifier_laws, index_laws, item_ref_laws}
 use Rattle.wast_parser.proofs.IntegerLaws.{number_laws}
 use Rattle.wast_operands.specs.OperandTree.{Modifiers, OnSwitch, Shape, I8x16, I16x8, I32x4, I64x2, F32x4, F64x2}
-use Rattle.wast_operands.specs.OperandSyntax.{u64_number, alignment, ordering_word, orderings, shape_word, shapes, integer_starts, id_starts, index_starts, float_starts, ordering_starts, offset_starts, align_starts, type_starts, handle_starts, lane_starts, is_bare, two_indices, u32_operand, index_count, label_table, optional_index, optional_indices, one_or_two, signed_literal, float_literal, lane, shuffle, integers, floats, lanes_of, shape, vector, ordering, optional_ordering, ordered, array_target, target, one_or_two_orderings, offset, align, modifiers, mem_arg, named_target, behind_integer, integer_first, behind_modifiers, mem_arg_lane, handled, handle_body, handle, handlers, resume, resume_throw}
+use Rattle.wast_operands.specs.OperandSyntax.{u64_number, alignment, ordering_word, orderings, shape_word, shapes, integer_starts, id_starts, index_starts, float_starts, ordering_starts, offset_starts, align_starts, type_starts, handle_starts, lane_starts, is_bare, two_indices, u32_operand, index_count, label_table, optional_index, optional_indices, one_or_two, signed_literal, float_literal, lane, shuffle, integers, floats, lanes_of, shape, vector, ordering, optional_ordering, ordered, array_target, target, one_or_two_orderings, offset, align, modifiers, mem_arg, behind_integer, integer_first, behind_modifiers, untargeted_lane, mem_arg_lane, handled, handle_body, handle, handlers, resume, resume_throw}
 
 module _ {N P : Type 0} where
   pub two_indices_laws : Lawful (two_indices {N = N} {P = P})
@@ -107,9 +107,6 @@ module _ {N P : Type 0} where
   mem_arg_laws natural = seen_laws _ _ (seq_laws _ _ target_laws modifiers_laws refl)
 
   -- A MEMORY ARGUMENT AND A LANE
-  named_target_laws : Lawful (named_target {N = N} {P = P})
-  named_target_laws = either_laws id_starts _ _ (seen_laws _ _ identifier_laws) array_target_laws refl refl refl refl
-
   modified_laws : Lawful (seq {N = N} {P = P} modifiers lane)
   modified_laws = seq_laws _ _ modifiers_laws lane_laws refl
 
@@ -123,10 +120,13 @@ module _ {N P : Type 0} where
   behind_modifiers_laws natural m true = integer_first_laws natural
   behind_modifiers_laws natural m false = wide_laws _ integer_starts false _ (seen_laws _ _ lane_laws) (sub_law integer_starts integer_starts refl) (λ e. e) (sub_law [] (join (faults lane_starts) lane_starts) refl)
 
+  untargeted_laws : (natural : ℕ) → Lawful (untargeted_lane {N = N} {P = P} natural)
+  untargeted_laws natural = seen_laws _ _ (next_laws modifiers (λ m. behind_modifiers natural m (is_bare m)) integer_starts false (join (faults lane_starts) lane_starts) modifiers_laws (λ m. behind_modifiers_laws natural m (is_bare m)) refl)
+
   pub mem_arg_lane_laws : (natural : ℕ) → Lawful (mem_arg_lane {N = N} {P = P} natural)
   mem_arg_lane_laws natural =
-      either_laws _ _ _ (seen_laws _ _ (seq_laws _ _ named_target_laws modified_laws refl))
-      (seen_laws _ _ (next_laws modifiers (λ m. behind_modifiers natural m (is_bare m)) integer_starts false (join (faults lane_starts) lane_starts) modifiers_laws (λ m. behind_modifiers_laws natural m (is_bare m)) refl)) refl refl refl refl
+      either_laws id_starts _ _ (seen_laws _ _ (seq_laws _ _ (seen_laws _ _ identifier_laws) modified_laws refl))
+      (either_laws type_starts _ _ (seen_laws _ _ (seq_laws _ _ array_target_laws modified_laws refl)) (untargeted_laws natural) refl refl refl refl) refl refl refl refl
 
   -- CONTINUATIONS
   pub handled_laws : Lawful (handled {N = N} {P = P})

@@ -212,12 +212,12 @@ module _ {N P : Type 0} where
   mem_arg natural = seen (λ x. as_mem_arg natural x.0 x.1) (seq target modifiers)
 
   -- A MEMORY ARGUMENT AND A LANE. Of an integer in front the rest says whether it is the memory or the lane.
-  -- a target that is no integer
-  abbrev pub named_target : Syntax N P (MemArgTarget N P)
-  named_target = either id_starts (seen (λ i. Memory (ByName i)) identifier) array_target
-
+  -- modifiers and a lane, behind the target where there is one
   abbrev pub modified_lane : (natural : ℕ) → Option (MemArgTarget N P) → Syntax N P (MemArg N P × ℕ)
   modified_lane natural t = seen (λ x. (as_mem_arg natural t x.0, x.1)) (seq modifiers lane)
+
+  abbrev pub targeted_lane : (natural : ℕ) → Syntax N P (MemArgTarget N P) → Syntax N P (MemArg N P × ℕ)
+  targeted_lane natural g = seen (λ x. (as_mem_arg natural (Some x.0) x.1.0, x.1.1)) (seq g (seq modifiers lane))
 
   -- behind an integer: modifiers and a lane, and it is the memory; or nothing, and it is the lane
   abbrev pub behind_integer : (natural : ℕ) → ℕ × P → Syntax N P (MemArg N P × ℕ)
@@ -232,10 +232,14 @@ module _ {N P : Type 0} where
   behind_modifiers natural m true = integer_first natural
   behind_modifiers natural m false = seen (λ n. (as_mem_arg natural None m, n)) lane
 
+  abbrev pub untargeted_lane : (natural : ℕ) → Syntax N P (MemArg N P × ℕ)
+  untargeted_lane natural = seen (λ x. x.1) (next modifiers (λ m. behind_modifiers natural m (is_bare m)) integer_starts false (join (faults lane_starts) lane_starts))
+
+  -- by an identifier, by (type index), or by an integer or nothing
   abbrev pub mem_arg_lane : (natural : ℕ) → Syntax N P (MemArg N P × ℕ)
   mem_arg_lane natural =
-      either (join id_starts type_starts) (seen (λ x. (as_mem_arg natural (Some x.0) x.1.0, x.1.1)) (seq named_target (seq modifiers lane)))
-      (seen (λ x. x.1) (next modifiers (λ m. behind_modifiers natural m (is_bare m)) integer_starts false (join (faults lane_starts) lane_starts)))
+      either id_starts (targeted_lane natural (seen (λ i. Memory (ByName i)) identifier))
+      (either type_starts (targeted_lane natural array_target) (untargeted_lane natural))
 
   -- CONTINUATIONS
   -- (on index index), (on index switch)

@@ -14,12 +14,17 @@
 #![tactic(auto)]
 
 mod index;
+mod mem_arg;
+mod number;
 mod ordering;
 mod resume;
+mod vector;
 
 pub use index::{
     ArrayCopy, ArrayFill, ArrayInit, ArrayNewData, ArrayNewElem, ArrayNewFixed, BrTableIndices,
     MemoryArg, MemoryCopy, MemoryInit, StructAccess, TableArg, TableCopy, TableInit,
 };
+pub use mem_arg::{LoadOrStoreLane, MemArg, MemArgOrdering, MemArgTarget};
 pub use ordering::{Ordered, Ordering, Unordered};
 pub use resume::{ContBind, Handle, Resume, ResumeTable, ResumeThrow, ResumeThrowRef, Switch};
+pub use vector::{FloatLit, I8x16Shuffle, LaneArg, V128Const};
