@@ -13,6 +13,7 @@
 //! | `OperandViews` | what the grammar sees of each type; the bytes of a vector |
 #![tactic(auto)]
 
+mod bytes;
 mod index;
 mod mem_arg;
 mod number;
