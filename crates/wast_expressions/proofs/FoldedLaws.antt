@@ -7,8 +7,7 @@ use Rattle.wast_grammar.specs.Lawful.{LawfulBut}
 use Rattle.wast_expressions.specs.Items.{Items, Made, unfolded, Expression, expression_of}
 use Rattle.wast_expressions.specs.Expressions.{Heads, one_ins, items, folded_of, folded_instruction}
 use Rattle.wast_expressions.specs.Heeds.{Heeds}
-use Rattle.wast_expressions.specs.Machine.{Level, State, state, turn, step, is_folded, Reach, Here, More, folded_start}
-use Rattle.wast_grammar.proofs.Looks.{some_one}
+use Rattle.wast_expressions.specs.Machine.{Level, State, state, turn, step, is_folded, Reach, Here, More, EndWith, folded_head}
 use Rattle.wast_expressions.proofs.MachineLaws as laws
 use Rattle.wast_expressions.proofs.TurnLaws.{level_outcome}
 
@@ -49,6 +48,9 @@ module _ {N P I : Type 0} (ins : Syntax N P I) (heads : Heads I) (m : Made P I) 
   abbrev shown : Out × Toks → Option (Expression I × Toks)
   shown x = Some (expression_of x.0, x.1)
 
+  abbrev started : I × Toks → State N P I
+  started i = state (EndWith None i.0 ∷ []) [] i.1
+
   abbrev beside : I → Items P I × Toks → Option ((I × Items P I) × Toks)
   beside i x = Some ((i, x.0), x.1)
 
@@ -72,45 +74,36 @@ module _ {N P I : Type 0} (ins : Syntax N P I) (heads : Heads I) (m : Made P I) 
   abbrev with_items : I × Toks → Option ((I × Items P I) × Toks)
   with_items i = all_items i.1 >>= beside i.0
 
-  ins_part : (p : Option (I × Toks)) → (((p >>= with_items) >>= fence_off) >>= folded) ≡ ((p >>= λ i. outcome (folded_start ins heads m i)) >>= shown)
+  ins_part : (p : Option (I × Toks)) → (((p >>= with_items) >>= fence_off) >>= folded) ≡ ((p >>= λ i. outcome (started i)) >>= shown)
   ins_part None = refl
   ins_part (Some i) = items_part i.0 (all_items i.1)
 
-  open_part : (o : Option (P × Toks)) → ((o >>= λ o. (one o.1 >>= with_items) >>= fence_off) >>= folded) ≡ ((o >>= λ o. one o.1 >>= λ i. outcome (folded_start ins heads m i)) >>= shown)
+  open_part : (o : Option (P × Toks)) → ((o >>= λ o. (one o.1 >>= with_items) >>= fence_off) >>= folded) ≡ ((o >>= λ o. one o.1 >>= λ i. outcome (started i)) >>= shown)
   open_part None = refl
   open_part (Some o) = ins_part (one o.1)
 
   -- what is read is the outcome of a loop behind the head
-  pub folded_reads : (ts : Toks) → (folded_instruction ins heads m).reads ts ≡ ((one_of that_open ts >>= λ o. one o.1 >>= λ i. outcome (folded_start ins heads m i)) >>= shown)
+  pub folded_reads : (ts : Toks) → (folded_instruction ins heads m).reads ts ≡ ((one_of that_open ts >>= λ o. one o.1 >>= λ i. outcome (started i)) >>= shown)
   folded_reads ts = open_part (one_of that_open ts)
 
+  begun : (ts : Toks) → (folded_instruction ins heads m).reads ts ≡ ((folded_head ins heads [] [] ts >>= outcome) >>= shown)
+  begun ts = folded_reads ts ∙ ap (λ z. z >>= shown) (opened (one_of that_open ts))
+    where
+      head_opened : (p : Option (I × Toks)) → (p >>= λ i. outcome (started i)) ≡ ((p >>= λ i. Some (started i)) >>= outcome)
+      head_opened None = refl
+      head_opened (Some i) = refl
+
+      opened : (o : Option (P × Toks)) → (o >>= λ o. one o.1 >>= λ i. outcome (started i)) ≡ ((o >>= λ o. one o.1 >>= λ i. Some (started i)) >>= outcome)
+      opened None = refl
+      opened (Some o) = head_opened (one o.1)
+
   -- where no parenthesis opens, or no instruction stands behind it
-  pub folded_none : (ts : Toks) → (one_of that_open ts >>= λ o. one o.1) ≡ None → (folded_instruction ins heads m).reads ts ≡ None
-  folded_none ts e = folded_reads ts ∙ ap (λ z. z >>= shown) (lost (one_of that_open ts) e)
-    where
-      head_lost : (p : Option (I × Toks)) → p ≡ None → (p >>= λ i. outcome (folded_start ins heads m i)) ≡ None
-      head_lost None e = refl
-      head_lost (Some i) e = cc
-
-      lost : (o : Option (P × Toks)) → (o >>= λ o. one o.1) ≡ None → (o >>= λ o. one o.1 >>= λ i. outcome (folded_start ins heads m i)) ≡ None
-      lost None e = refl
-      lost (Some o) e = head_lost (one o.1) e
-
-  -- behind its head
-  behind_head : (ts : Toks) (i : I × Toks) → (one_of that_open ts >>= λ o. one o.1) ≡ Some i → (folded_instruction ins heads m).reads ts ≡ (outcome (folded_start ins heads m i) >>= shown)
-  behind_head ts i e = folded_reads ts ∙ ap (λ z. z >>= shown) (found (one_of that_open ts) e)
-    where
-      head_found : (p : Option (I × Toks)) → p ≡ Some i → (p >>= λ i. outcome (folded_start ins heads m i)) ≡ outcome (folded_start ins heads m i)
-      head_found None e = cc
-      head_found (Some j) e = ap (λ z. outcome (folded_start ins heads m z)) (some_one _ _ e)
-
-      found : (o : Option (P × Toks)) → (o >>= λ o. one o.1) ≡ Some i → (o >>= λ o. one o.1 >>= λ i. outcome (folded_start ins heads m i)) ≡ outcome (folded_start ins heads m i)
-      found None e = cc
-      found (Some o) e = head_found (one o.1) e
+  pub folded_none : (ts : Toks) → folded_head ins heads [] [] ts ≡ None → (folded_instruction ins heads m).reads ts ≡ None
+  folded_none ts e = begun ts ∙ ap (λ z. (z >>= outcome) >>= shown) e
 
   -- WHAT THE LOOP ANSWERS behind the head is what the production reads.
-  pub folded_answers : (ts : Toks) (i : I × Toks) (t : State N P I) → (one_of that_open ts >>= λ o. one o.1) ≡ Some i → Reach ins heads m (is_folded ins heads m) (folded_start ins heads m i) t → is_folded ins heads m t ≡ true → (folded_instruction ins heads m).reads ts ≡ Some (expression_of t.out, t.rest)
-  folded_answers ts i t e r n = behind_head ts i e ∙ ap (λ z. z >>= shown) (reach_outcome r ∙ closed_outcome t.stack t.out t.rest n)
+  pub folded_answers : (ts : Toks) (s t : State N P I) → folded_head ins heads [] [] ts ≡ Some s → Reach ins heads m (is_folded ins heads m) s t → is_folded ins heads m t ≡ true → (folded_instruction ins heads m).reads ts ≡ Some (expression_of t.out, t.rest)
+  folded_answers ts s t e r n = begun ts ∙ ap (λ z. (z >>= outcome) >>= shown) e ∙ ap (λ z. z >>= shown) (reach_outcome r ∙ closed_outcome t.stack t.out t.rest n)
 
-  pub folded_refuses : (ts : Toks) (i : I × Toks) (t : State N P I) → (one_of that_open ts >>= λ o. one o.1) ≡ Some i → Reach ins heads m (is_folded ins heads m) (folded_start ins heads m i) t → is_folded ins heads m t ≡ false → step ins heads m t ≡ None → (folded_instruction ins heads m).reads ts ≡ None
-  folded_refuses ts i t h r n e = behind_head ts i h ∙ ap (λ z. z >>= shown) (reach_outcome r ∙ open_outcome t.stack t.out t.rest n ∙ ap (λ z. z >>= outcome) e)
+  pub folded_refuses : (ts : Toks) (s t : State N P I) → folded_head ins heads [] [] ts ≡ Some s → Reach ins heads m (is_folded ins heads m) s t → is_folded ins heads m t ≡ false → step ins heads m t ≡ None → (folded_instruction ins heads m).reads ts ≡ None
+  folded_refuses ts s t h r n e = begun ts ∙ ap (λ z. (z >>= outcome) >>= shown) h ∙ ap (λ z. z >>= shown) (reach_outcome r ∙ open_outcome t.stack t.out t.rest n ∙ ap (λ z. z >>= outcome) e)

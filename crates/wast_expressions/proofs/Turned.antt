@@ -15,7 +15,7 @@ use Rattle.wast_parser_core.specs.Reading.{Refuses, out_of_memory, ends_here}
 use Rattle.wast_expressions.specs.Items.{Made, either_hint, expression_of, hint_at, hints_from}
 use Rattle.wast_expressions.specs.Expressions.{Heads, hint_tests, hint, group_tests, item_tests}
 use Rattle.wast_expressions.specs.Machine as machine
-use Rattle.wast_expressions.specs.Machine.{Reach, Here, More, step, done, both_hints, open_group, one_item, close_level, row_turn, then_turn, else_turn, turn}
+use Rattle.wast_expressions.specs.Machine.{Reach, Here, More, step, done, none_open, both_hints, open_group, one_item, close_level, row_turn, then_turn, else_turn, turn}
 use Rattle.wast_expressions.specs.Partial.{Partial, expression}
 use Rattle.wast_expressions.specs.declared.stack.Instructions.{Instructions}
 use Rattle.wast_expressions.specs.declared.stack.Level.{Level}
@@ -94,6 +94,13 @@ module _ {I T : Type 0} (tree : I → T) (ins : Syntax (List ℕ) ℕ T) (heads 
   pub group_opened : (st : List (machine.Level T)) (out : List (Option ℕ × T)) (h : Option ℕ) (p : ℕ) (t : T) (ts us rest : List TextToken) → one_of that_open ts ≡ Some (p, us) → ins.reads us ≡ Some (t, rest) → open_group ins heads m st out h ts ≡ Some (machine.headed ins heads m (heads.kind t) st out h t rest)
   group_opened st out h p t ts us rest e f = ap (λ z. z >>= λ o. ins.reads o.1 >>= headed_by st out h) e ∙ ap (λ z. z >>= headed_by st out h) f
 
+  -- the head of a folded instruction
+  abbrev ended_by : List (machine.Level T) → List (Option ℕ × T) → T × List TextToken → Option (machine.State (List ℕ) ℕ T)
+  ended_by st out i = Some (machine.state (machine.EndWith None i.0 ∷ st) out i.1)
+
+  pub head_opened : (st : List (machine.Level T)) (out : List (Option ℕ × T)) (p : ℕ) (t : T) (ts us rest : List TextToken) → one_of that_open ts ≡ Some (p, us) → ins.reads us ≡ Some (t, rest) → machine.folded_head ins heads st out ts ≡ Some (machine.state (machine.EndWith None t ∷ st) out rest)
+  head_opened st out p t ts us rest e f = ap (λ z. z >>= λ o. ins.reads o.1 >>= ended_by st out) e ∙ ap (λ z. z >>= ended_by st out) f
+
   -- an arm opens
   pub arm_here : (u v w : Partial I) (l : Level I) (h g : Option ℕ) (i : I) (t : T) (rest : List TextToken) → v ≡ record u { out = u.out ++ (h, i) ∷ [] } → w ≡ record v { stack = levels.Arm ∷ l ∷ v.stack } → h ≡ g → tree i ≡ t → machine.state (machine.Arm ∷ level_tree tree l ∷ levels_tree tree u.stack) (out_tree tree u.out ++ (g, t) ∷ []) rest ≡ here tree w rest
   arm_here u v w l h g i t rest e f p q = sym (
@@ -142,6 +149,18 @@ done_tree tree u ts b e = go u.stack e
     go : (st : List (Level _)) → done st ts ≡ b → done (levels_tree tree st) ts ≡ b
     go [] e = e
     go (l ∷ st) e = e
+
+-- whether no group is open, by the stack of the code
+pub none_tree : {I T : Type 0} (tree : I → T) (st : List (Level I)) (b : Bool) → none_open st ≡ b → none_open (levels_tree tree st) ≡ b
+none_tree tree [] b e = e
+none_tree tree (l ∷ st) b e = e
+
+pub none_is : {I : Type 0} (st : List (Level I)) → st ≡ [] → none_open st ≡ true
+none_is st e = rw e refl
+
+pub some_is : {I : Type 0} (st : List (Level I)) → (st ≡ [] → ⊥) → none_open st ≡ false
+some_is [] f = absurd (f refl)
+some_is (l ∷ st) f = refl
 
 -- what was unfolded, as an expression
 hints_kept : {I T : Type 0} (tree : I → T) (n : ℕ) (xs : List (Option ℕ × I)) → hints_from n xs ≡ hints_from n (out_tree tree xs)

@@ -114,9 +114,9 @@ module _ {N P I : Type 0} (ins : Syntax N P I) (heads : Heads I) (m : Made P I) 
   abbrev pub start : List (SignificantToken N P) → State N P I
   start ts = state [] [] ts
 
-  -- behind the head of a folded instruction
-  abbrev pub folded_start : I × List (SignificantToken N P) → State N P I
-  folded_start i = state (EndWith None i.0 ∷ []) [] i.1
+-- a folded instruction, behind its head
+abbrev pub folded_head : {N P I : Type 0} → Syntax N P I → Heads I → List (Level I) → List (Option ℕ × I) → List (SignificantToken N P) → Option (State N P I)
+folded_head ins heads st out ts = one_of that_open ts >>= λ o. (one_ins ins heads).reads o.1 >>= λ i. Some (state (EndWith None i.0 ∷ st) out i.1)
 
 -- PLAIN: a stack of the instructions whose operands are not yet all read
 pub record PlainState (N P I : Type 0) : Type 0 where

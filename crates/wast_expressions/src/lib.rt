@@ -4,6 +4,7 @@
 mod expression;
 mod hint;
 mod look;
+mod offset;
 mod operation;
 mod stack;
 mod steps;
@@ -12,6 +13,7 @@ mod turn;
 
 pub use expression::{parse_counted, parse_items};
 pub use hint::BranchHint;
+pub use offset::parse_folded_instruction;
 pub use operation::{GroupKind, Operation};
 pub use stack::Instructions;
 pub use steps::Steps;
