@@ -1,12 +1,12 @@
 -- Expressions keep the laws, if their instructions do.
 use Rattle.std.specs.Prelude.{codes}
-use Rattle.std.proofs.Common.{◌≡◌, ℕ, suc, Bool, cond, true, false, List, [], ◌∷◌, refl, sym, ◌∙◌, subst}
+use Rattle.std.proofs.Common.{◌≡◌, ℕ, suc, Bool, cond, true, false, List, [], ◌∷◌, refl, sym, ◌∙◌, subst, Some, ap}
 use Rattle.wast_grammar.specs.Spelling.{that_text, that_one}
 use Rattle.wast_grammar.specs.Look.{On, Any, AWord, AString, fits, this_word, this_group, this_annotation, holds, OneOf, apart, any_end, join}
 use Rattle.wast_grammar.specs.Grammar.{Syntax, wide, seq, seen, only, maybe, many, either, paren, group, word, string, mark}
 use Rattle.wast_grammar.specs.Behind.{row}
 use Rattle.wast_grammar.specs.Lawful.{Lawful, LawfulBut, Paired}
-use Rattle.wast_grammar.proofs.Looks.{join_left, within_self}
+use Rattle.wast_grammar.proofs.Looks.{join_left, within_self, some_one}
 use Rattle.wast_grammar.proofs.GrammarLaws.{word_laws, string_laws, mark_laws, seen_laws, seq_laws, only_laws, maybe_laws, many_laws, group_laws, paren_laws, fenced_laws, either_laws}
 use Rattle.wast_grammar.proofs.Twins.{token_twins, seen_twins, only_twins, seq_twins, maybe_twin, many_twin, paren_twins, fenced_twins, group_twins, annotation_twins, either_twins, wide_twins}
 use Rattle.wast_grammar.proofs.RecursionLaws.{Under, Steps, under_self, under_seen, under_only, under_seq, under_led, under_next_but, under_maybe, under_many, under_row, under_either, under_paren, under_fenced, under_less, fix_laws, fix_twins}
@@ -14,6 +14,7 @@ use Rattle.wast_grammar.proofs.BehindLaws.{Second, but_of, seen_but, only_but, s
 use Rattle.wast_expressions.specs.Items.{Items, Made}
 use Rattle.wast_expressions.specs.Expressions.{GroupKind, OfOperands, OfBlock, OfArms, Heads, hint_mark, hint_tests, is_hint, hint_value, hint_body, hint, Group, Item, Alone, Grouped, chain, one_hint, ins_tests, group_tests, item_tests, then_tests, else_tests, inside_tests, one_ins, own_item, item, items_over, arms_of, arms, inside, group_of, group_step, groups, items, expression, plain_of, plain_step, plain, led_or_plain, without_hints, folded_of, folded_instruction, data_offset}
 use Rattle.wast_expressions.specs.Heeds.{Heeds}
+use Rattle.wast_expressions.specs.Laws.{OneReading}
 use Rattle.wast_expressions.proofs.Apart.{join_nil, apart_left, apart_right}
 
 -- HINTS
@@ -139,6 +140,12 @@ module _ {N P I : Type 0} (ins : Syntax N P I) (heads : Heads I) (li : LawfulBut
 
   pub expression_laws : (m : Made P I) → Lawful (expression ins heads m)
   expression_laws m = seen_laws _ (items ins heads) items_laws
+
+  pub one_reading : OneReading ins heads
+  one_reading x y front rest back tail e er et s t =
+      let q : Some (x, rest) ≡ Some (y, tail) = sym (items_laws.complete x front rest s er) ∙ ap (items ins heads).reads e ∙ items_laws.complete y back tail t et in
+      let p : (x, rest) ≡ (y, tail) = some_one (x, rest) (y, tail) q in
+      (ap (λ z. z.0) p, ap (λ z. z.1) p)
 
   -- of plain
   pub plain_row_laws : (g : Syntax N P (List I)) → Lawful (wide (group_tests heads) false [] g) → Lawful (row (group_tests heads) (wide (group_tests heads) false [] g) (λ _. []))

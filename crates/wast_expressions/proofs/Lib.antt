@@ -6,6 +6,7 @@ pub mod MachineLaws
 pub mod Outs
 pub mod Peeks
 pub mod PlainLaws
+pub mod PlainOutcome
 pub mod Progress
 pub mod ReadLaws
 pub mod Tokens

@@ -1,17 +1,31 @@
 -- (ins plain*) is read by a loop too: a stack of the instructions whose operands are not yet all read.
-use Rattle.std.proofs.Common.{◌≡◌, ◌<◌, Bool, true, false, List, [], ◌∷◌, ◌++◌, length, Option, Some, None, refl, sym, ◌∙◌, ap, cond, append_assoc, append-nil}
+use Rattle.std.proofs.Common.{◌≡◌, ℕ, suc, map, ◌<◌, Bool, true, false, List, [], ◌∷◌, ◌++◌, length, Option, Some, None, refl, sym, ◌∙◌, ap, cond, append_assoc, append-nil}
 use Rattle.wast_grammar.specs.Tokens.{SignificantToken, Open, Close, Id, Word, Mark, Integer, Float, Text, Reserved, Broken}
 use Rattle.wast_grammar.specs.Spelling.{◌>>=◌, that_open, that_close}
 use Rattle.wast_grammar.specs.Look.{NotEnd, at, ask}
-use Rattle.wast_grammar.specs.Grammar.{Syntax, Reader, one_of}
+use Rattle.wast_grammar.specs.Grammar.{Syntax, Reader, seen, one_of}
 use Rattle.wast_grammar.specs.Behind.{row}
 use Rattle.wast_grammar.specs.Lawful.{LawfulBut}
-use Rattle.wast_expressions.specs.Expressions.{Heads, group_tests, one_ins, all_of, plain_of, plain_step, plain}
+use Rattle.wast_expressions.specs.Expressions.{Heads, group_tests, one_ins, all_of, plain_of, plain_step, plain, without_hints}
+use Rattle.wast_expressions.specs.Items.{Made, expression_of, hints_from}
 use Rattle.wast_expressions.specs.Heeds.{Heeds}
-use Rattle.wast_expressions.specs.Machine.{PlainState, plain_state, plain_open, plain_turn, plain_step_of, PlainReach, PlainHere, PlainMore}
+use Rattle.wast_expressions.specs.Machine.{EndWith, State, state, folded_head, plain_turn}
+use Rattle.std.proofs.lemmas.List.{map-append}
+use Rattle.wast_grammar.proofs.Looks.{some_one}
 use Rattle.wast_grammar.proofs.GrammarLaws.{shrinks}
 use Rattle.wast_expressions.proofs.ExpressionLaws.{plain_laws, plain_steps}
+use Rattle.wast_expressions.proofs.PlainOutcome as spec
+use Rattle.wast_expressions.proofs.PlainOutcome.{levels, outs, Standing}
 use Rattle.wast_expressions.proofs.ReadLaws.{row_turns, fix_reads}
+
+-- the loop, over instructions alone
+pub record PlainState (N P I : Type 0) : Type 0 where
+  pub stack : List I
+  pub out : List I
+  pub rest : List (SignificantToken N P)
+
+abbrev pub plain_state : {N P I : Type 0} → List I → List I → List (SignificantToken N P) → PlainState N P I
+plain_state st out ts = record { stack = st; out = out; rest = ts }
 
 module _ {N P I : Type 0} (ins : Syntax N P I) (heads : Heads I) (li : LawfulBut (one_ins ins heads) heads.own) (heeds : Heeds heads) where
   abbrev Toks : Type 0
@@ -32,14 +46,21 @@ module _ {N P I : Type 0} (ins : Syntax N P I) (heads : Heads I) (li : LawfulBut
   abbrev operands : Reader N P (List (List I))
   operands = (row (group_tests heads) Plain (λ _. [])).reads
 
-  -- operands, the parenthesis that closes, their instruction, and then k
   abbrev operands_then : I → Cont → Cont
-  operands_then i k out ts = operands ts >>= λ x. closed x.1 >>= λ c. k ((out ++ all_of ins heads x.0) ++ i ∷ []) c.1
+  operands_then i k out ts = spec.operands_then ins heads i k out ts
 
-  -- a stack of instructions, the innermost first
-  abbrev pub finish : List I → Cont
-  finish [] = λ out ts. Some (out, ts)
-  finish (i ∷ st) = operands_then i (finish st)
+  abbrev finish : List I → Cont
+  finish st out ts = spec.finish ins heads st out ts
+
+  abbrev open_next : List I → List I → Toks → Option (PlainState N P I)
+  open_next st out ts = one_of that_open ts >>= λ o. one o.1 >>= λ i. Some (plain_state (i.0 ∷ st) out i.1)
+
+  abbrev close_next : I → List I → List I → Toks → Option (PlainState N P I)
+  close_next i st out ts = closed ts >>= λ c. Some (plain_state st (out ++ i ∷ []) c.1)
+
+  abbrev pub next_turn : List I → List I → Toks → Option (PlainState N P I)
+  next_turn [] out ts = None
+  next_turn (i ∷ st) out ts = ask (group_tests heads) ts >>= λ b. cond b (open_next (i ∷ st) out ts) (close_next i st out ts)
 
   abbrev pub outcome : PlainState N P I → Option (List I × Toks)
   outcome s = finish s.stack s.out s.rest
@@ -125,20 +146,17 @@ module _ {N P I : Type 0} (ins : Syntax N P I) (heads : Heads I) (li : LawfulBut
   branch i st out ts (Some true) None e = ap (λ z. z >>= then_k (finish (i ∷ st)) out) (sym e) ∙ plain_then (finish (i ∷ st)) out ts ∙ states i st out (one_of that_open ts)
   branch i st out ts (Some true) (Some x) e = more_part i st out x.0 (operands x.1) ∙ ap (λ z. z >>= then_k (finish (i ∷ st)) out) (sym e) ∙ plain_then (finish (i ∷ st)) out ts ∙ states i st out (one_of that_open ts)
 
-  turn_outcome : (i : I) (st out : List I) (ts : Toks) → finish (i ∷ st) out ts ≡ (plain_turn ins heads (i ∷ st) out ts >>= outcome)
+  turn_outcome : (i : I) (st out : List I) (ts : Toks) → finish (i ∷ st) out ts ≡ (next_turn (i ∷ st) out ts >>= outcome)
   turn_outcome i st out ts = row_turns (group_tests heads) Plain.reads plain_shrinks (λ y. closed y.1 >>= λ c. finish st ((out ++ all_of ins heads y.0) ++ i ∷ []) c.1) ts ∙ branch i st out ts (ask (group_tests heads) ts) (Plain.reads ts) refl
 
   -- RUNS
-  step_outcome : (st out : List I) (ts : Toks) (t : PlainState N P I) → plain_turn ins heads st out ts ≡ Some t → finish st out ts ≡ outcome t
+  pub step_outcome : (st out : List I) (ts : Toks) (t : PlainState N P I) → next_turn st out ts ≡ Some t → finish st out ts ≡ outcome t
   step_outcome [] out ts t e = cc
   step_outcome (i ∷ st) out ts t e = turn_outcome i st out ts ∙ ap (λ z. z >>= outcome) e
 
-  reach_outcome : {s t : PlainState N P I} → PlainReach ins heads s t → outcome s ≡ outcome t
-  reach_outcome PlainHere = refl
-  reach_outcome (PlainMore {s = s} {t = t} e r) = step_outcome s.stack s.out s.rest t e ∙ reach_outcome r
-
-  stuck_outcome : (i : I) (st out : List I) (ts : Toks) → plain_turn ins heads (i ∷ st) out ts ≡ None → finish (i ∷ st) out ts ≡ None
-  stuck_outcome i st out ts e = turn_outcome i st out ts ∙ ap (λ z. z >>= outcome) e
+  pub stuck_outcome : (st out : List I) (ts : Toks) → (st ≡ [] → ⊥) → next_turn st out ts ≡ None → finish st out ts ≡ None
+  stuck_outcome [] out ts n e = absurd (n refl)
+  stuck_outcome (i ∷ st) out ts n e = turn_outcome i st out ts ∙ ap (λ z. z >>= outcome) e
 
   whole : (ts : Toks) → (Plain.reads ts >>= then_k (finish []) []) ≡ Plain.reads ts
   whole ts = same (Plain.reads ts)
@@ -148,7 +166,7 @@ module _ {N P I : Type 0} (ins : Syntax N P I) (heads : Heads I) (li : LawfulBut
       same (Some x) = refl
 
   -- from the first parenthesis
-  begun : (ts : Toks) → Plain.reads ts ≡ (plain_open ins heads [] [] ts >>= outcome)
+  begun : (ts : Toks) → Plain.reads ts ≡ (open_next [] [] ts >>= outcome)
   begun ts = sym (whole ts) ∙ plain_then (finish []) [] ts ∙ opened (one_of that_open ts)
     where
       head_opened : (p : Option (I × Toks)) → (p >>= λ i. operands_then i.0 (finish []) [] i.1) ≡ ((p >>= λ i. Some (plain_state (i.0 ∷ []) [] i.1)) >>= outcome)
@@ -159,16 +177,80 @@ module _ {N P I : Type 0} (ins : Syntax N P I) (heads : Heads I) (li : LawfulBut
       opened None = refl
       opened (Some o) = head_opened (one o.1)
 
-  pub plain_none : (ts : Toks) → plain_open ins heads [] [] ts ≡ None → Plain.reads ts ≡ None
-  plain_none ts e = begun ts ∙ ap (λ z. z >>= outcome) e
+  -- THE SAME WITH LEVELS AND HINTS
+  abbrev pub embed : PlainState N P I → State N P I
+  embed s = state (levels s.stack) (outs s.out) s.rest
 
-  -- WHAT THE LOOP ANSWERS is what the production reads.
-  pub plain_answers : (ts : Toks) (s : PlainState N P I) (out : List I) (rest : Toks) → plain_open ins heads [] [] ts ≡ Some s → PlainReach ins heads s (plain_state [] out rest) → Plain.reads ts ≡ Some (out, rest)
-  plain_answers ts s out rest e r = begun ts ∙ ap (λ z. z >>= outcome) e ∙ reach_outcome r
+  abbrev embedded : PlainState N P I → Option (State N P I)
+  embedded s = Some (embed s)
 
-  pub plain_refuses : (ts : Toks) (s t : PlainState N P I) → plain_open ins heads [] [] ts ≡ Some s → PlainReach ins heads s t → (t.stack ≡ [] → ⊥) → plain_step_of ins heads t ≡ None → Plain.reads ts ≡ None
-  plain_refuses ts s t e r n f = begun ts ∙ ap (λ z. z >>= outcome) e ∙ reach_outcome r ∙ stuck t.stack t.out t.rest n f
-    where
-      stuck : (st out : List I) (us : Toks) → (st ≡ [] → ⊥) → plain_turn ins heads st out us ≡ None → finish st out us ≡ None
-      stuck [] out us n f = absurd (n refl)
-      stuck (i ∷ st) out us n f = stuck_outcome i st out us f
+  module _ (m : Made P I) where
+    embed_ins : (st out : List I) (p : Option (I × Toks)) → (p >>= λ i. Some (state (EndWith None i.0 ∷ levels st) (outs out) i.1)) ≡ ((p >>= λ i. Some (plain_state (i.0 ∷ st) out i.1)) >>= embedded)
+    embed_ins st out None = refl
+    embed_ins st out (Some i) = refl
+
+    embed_open : (st out : List I) (o : Option (P × Toks)) → (o >>= λ o. one o.1 >>= λ i. Some (state (EndWith None i.0 ∷ levels st) (outs out) i.1)) ≡ ((o >>= λ o. one o.1 >>= λ i. Some (plain_state (i.0 ∷ st) out i.1)) >>= embedded)
+    embed_open st out None = refl
+    embed_open st out (Some o) = embed_ins st out (one o.1)
+
+    embed_close : (i : I) (st out : List I) (c : Option (P × Toks)) → (c >>= λ c. Some (state (levels st) (outs out ++ (None, i) ∷ []) c.1)) ≡ ((c >>= λ c. Some (plain_state st (out ++ i ∷ []) c.1)) >>= embedded)
+    embed_close i st out None = refl
+    embed_close i st out (Some c) = ap (λ z. Some (state (levels st) z c.1)) (sym (map-append (λ i. (None, i)) out (i ∷ [])))
+
+    embed_either : (i : I) (st out : List I) (ts : Toks) (a : Option Bool) → (a >>= λ b. cond b (folded_head ins heads (EndWith None i ∷ levels st) (outs out) ts) (closed ts >>= λ c. Some (state (levels st) (outs out ++ (None, i) ∷ []) c.1))) ≡ ((a >>= λ b. cond b (open_next (i ∷ st) out ts) (close_next i st out ts)) >>= embedded)
+    embed_either i st out ts None = refl
+    embed_either i st out ts (Some true) = embed_open (i ∷ st) out (one_of that_open ts)
+    embed_either i st out ts (Some false) = embed_close i st out (closed ts)
+
+    embed_turn : (st out : List I) (ts : Toks) → plain_turn ins heads m (levels st) (outs out) ts ≡ (next_turn st out ts >>= embedded)
+    embed_turn [] out ts = refl
+    embed_turn (i ∷ st) out ts = embed_either i st out ts (ask (group_tests heads) ts)
+
+    embedded_none : (o : Option (PlainState N P I)) → (o >>= embedded) ≡ None → o ≡ None
+    embedded_none None e = refl
+    embedded_none (Some s) e = cc
+
+    embedded_some : (o : Option (PlainState N P I)) (t : State N P I) → (o >>= embedded) ≡ Some t → (s : PlainState N P I) × (o ≡ Some s) × (t ≡ embed s)
+    embedded_some None t e = cc
+    embedded_some (Some s) t e = (s, refl, sym (some_one (embed s) t e))
+
+    standing : (ts : Toks) (t : State N P I) (s : PlainState N P I) → t ≡ embed s → Plain.reads ts ≡ outcome s → Standing ins heads ts t
+    standing ts t s e f = record { stack = s.stack; out = s.out; same = rw e refl; outcome_is = rw e f }
+
+    pub stands_first : (ts : Toks) (t : State N P I) → folded_head ins heads [] [] ts ≡ Some t → Standing ins heads ts t
+    stands_first ts t e =
+        let s = embedded_some (open_next [] [] ts) t (sym (embed_open [] [] (one_of that_open ts)) ∙ e) in
+        standing ts t s.0 s.2 (begun ts ∙ ap (λ z. z >>= outcome) s.1)
+
+    pub stands_none : (ts : Toks) → folded_head ins heads [] [] ts ≡ None → Plain.reads ts ≡ None
+    stands_none ts e = begun ts ∙ ap (λ z. z >>= outcome) (embedded_none (open_next [] [] ts) (sym (embed_open [] [] (one_of that_open ts)) ∙ e))
+
+    turn_of : (ts : Toks) (s : State N P I) (h : Standing ins heads ts s) → plain_turn ins heads m s.stack s.out s.rest ≡ (next_turn h.stack h.out s.rest >>= embedded)
+    turn_of ts s h = ap (λ z. plain_turn ins heads m z.stack z.out s.rest) h.same ∙ embed_turn h.stack h.out s.rest
+
+    pub stands_next : (ts : Toks) (s t : State N P I) → Standing ins heads ts s → plain_turn ins heads m s.stack s.out s.rest ≡ Some t → Standing ins heads ts t
+    stands_next ts s t h e =
+        let k = embedded_some (next_turn h.stack h.out s.rest) t (sym (turn_of ts s h) ∙ e) in
+        standing ts t k.0 k.2 (h.outcome_is ∙ step_outcome h.stack h.out s.rest k.0 k.1)
+
+    pub stands_stuck : (ts : Toks) (s : State N P I) → Standing ins heads ts s → (s.stack ≡ [] → ⊥) → plain_turn ins heads m s.stack s.out s.rest ≡ None → Plain.reads ts ≡ None
+    stands_stuck ts s h n e = h.outcome_is ∙ stuck_outcome h.stack h.out s.rest (λ d. n (ap (λ z. z.stack) h.same ∙ ap levels d)) (embedded_none (next_turn h.stack h.out s.rest) (sym (turn_of ts s h) ∙ e))
+
+    no_levels : (st : List I) → levels st ≡ [] → st ≡ []
+    no_levels [] e = refl
+    no_levels (i ∷ st) e = cc
+
+    no_hints : (n : ℕ) (out : List I) → hints_from n (outs out) ≡ []
+    no_hints n [] = refl
+    no_hints n (i ∷ out) = no_hints (suc n) out
+
+    same_instrs : (out : List I) → map (λ x. x.1) (outs out) ≡ out
+    same_instrs [] = refl
+    same_instrs (i ∷ out) = ap (λ z. i ∷ z) (same_instrs out)
+
+    pub stands_last : (ts : Toks) (s : State N P I) → Standing ins heads ts s → s.stack ≡ [] → (seen (without_hints ins heads) Plain).reads ts ≡ Some (expression_of s.out, s.rest)
+    stands_last ts s h e =
+        let none = no_levels h.stack (sym (ap (λ z. z.stack) h.same) ∙ e) in
+        let q : Plain.reads ts ≡ Some (h.out, s.rest) = h.outcome_is ∙ ap (λ st. finish st h.out s.rest) none in
+        ap (λ z. z >>= λ x. Some (without_hints ins heads x.0, x.1)) q
+        ∙ ap (λ z. Some (z, s.rest)) (sym (ap (λ z. expression_of z.out) h.same ∙ ap (λ z. record { instrs = z; hints = hints_from 0 (outs h.out) }) (same_instrs h.out) ∙ ap (λ z. record { instrs = h.out; hints = z }) (no_hints 0 h.out)))

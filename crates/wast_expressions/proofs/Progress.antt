@@ -8,7 +8,7 @@ use Rattle.wast_grammar.specs.Grammar.{Syntax, maybe, one_of}
 use Rattle.wast_grammar.specs.Lawful.{Lawful, LawfulBut}
 use Rattle.wast_expressions.specs.Items.{Made, either_hint}
 use Rattle.wast_expressions.specs.Expressions.{GroupKind, OfOperands, OfBlock, OfArms, Heads, hint_tests, hint, ins_tests, group_tests, item_tests, else_tests, one_ins}
-use Rattle.wast_expressions.specs.Machine.{Level, EndWith, BlockEnd, Conditions, Arm, AfterThen, AfterElse, State, state, both_hints, headed, open_group, one_item, close_items, row_turn, then_turn, end_turn, turn, step}
+use Rattle.wast_expressions.specs.Machine.{Level, EndWith, BlockEnd, Conditions, Arm, AfterThen, AfterElse, State, state, both_hints, headed, open_group, one_item, close_items, row_turn, then_turn, end_turn, turn, step, folded_head, plain_turn}
 use Rattle.wast_grammar.proofs.Looks.{bind_ok, some_one}
 use Rattle.wast_expressions.proofs.ExpressionLaws.{maybe_hint_laws}
 use Rattle.wast_expressions.proofs.ReadLaws.{shrinks_but}
@@ -106,3 +106,18 @@ module _ {N P I : Type 0} (ins : Syntax N P I) (heads : Heads I) (m : Made P I) 
   -- T4 (vii) rests on this.
   pub step_less : (s t : State N P I) → step ins heads m s ≡ Some t → length t.rest < length s.rest
   step_less s t e = subst (Less (length s.rest)) e (turn_less s.stack s.out s.rest)
+
+  -- the same of plain groups
+  folded_less : (st : List (Level I)) (out : List (Option ℕ × I)) (ts : List (SignificantToken N P)) → Less (length ts) (folded_head ins heads st out ts)
+  folded_less st out ts =
+      through (length ts) (one_of that_open ts) _ (λ o e. through (length ts) ((one_ins ins heads).reads o.1) _ (λ i f.
+      let x = one_less that_open ts o e in
+      let y = ins_less o.1 i f in
+      omega (arith, x, y)))
+
+  plain_less : (st : List (Level I)) (out : List (Option ℕ × I)) (ts : List (SignificantToken N P)) → Less (length ts) (plain_turn ins heads m st out ts)
+  plain_less [] out ts = tt
+  plain_less (l ∷ st) out ts = through (length ts) (ask (group_tests heads) ts) _ (λ b e. if_so (length ts) b _ _ (folded_less (l ∷ st) out ts) (closes_less (l ∷ st) out ts))
+
+  pub plain_step_less : (s t : State N P I) → plain_turn ins heads m s.stack s.out s.rest ≡ Some t → length t.rest < length s.rest
+  plain_step_less s t e = subst (Less (length s.rest)) e (plain_less s.stack s.out s.rest)

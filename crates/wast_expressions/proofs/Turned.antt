@@ -1,5 +1,5 @@
 -- What the turns of the code answer, by those of the machine.
-use Rattle.std.proofs.Common.{◌≡◌, ℕ, ◌<◌, Bool, true, false, not, List, [], ◌∷◌, ◌++◌, length, suc, map, Option, Some, None, inl, inr, refl, sym, ◌∙◌, ap, subst, cond, arith}
+use Rattle.std.proofs.Common.{◌≡◌, ℕ, ◌<◌, Bool, true, false, not, List, [], ◌∷◌, ◌++◌, length, suc, map, Option, Some, None, inl, inr, refl, sym, ◌∙◌, ap, subst, cond, arith, ◌+◌}
 use Rattle.std.specs.Prelude.{Result, Ok, Err, OnOk, IfErr, codes}
 use Rattle.std.proofs.lemmas.Bool.{cases_lt}
 use Rattle.std.proofs.lemmas.List.{map-append}
@@ -94,6 +94,17 @@ module _ {I T : Type 0} (tree : I → T) (ins : Syntax (List ℕ) ℕ T) (heads 
   pub group_opened : (st : List (machine.Level T)) (out : List (Option ℕ × T)) (h : Option ℕ) (p : ℕ) (t : T) (ts us rest : List TextToken) → one_of that_open ts ≡ Some (p, us) → ins.reads us ≡ Some (t, rest) → open_group ins heads m st out h ts ≡ Some (machine.headed ins heads m (heads.kind t) st out h t rest)
   group_opened st out h p t ts us rest e f = ap (λ z. z >>= λ o. ins.reads o.1 >>= headed_by st out h) e ∙ ap (λ z. z >>= headed_by st out h) f
 
+  -- a plain group opens or closes
+  pub plain_opens : (u : Partial I) (ts : List TextToken) → (u.stack ≡ [] → ⊥) → ask (group_tests heads) ts ≡ Some true → machine.folded_head ins heads (levels_tree tree u.stack) (out_tree tree u.out) ts ≡ machine.plain_turn ins heads m (levels_tree tree u.stack) (out_tree tree u.out) ts
+  plain_opens u ts n f = go u.stack n
+    where
+      go : (st : List (Level I)) → (st ≡ [] → ⊥) → machine.folded_head ins heads (levels_tree tree st) (out_tree tree u.out) ts ≡ machine.plain_turn ins heads m (levels_tree tree st) (out_tree tree u.out) ts
+      go [] n = absurd (n refl)
+      go (l ∷ st) n = sym (rw f refl)
+
+  pub plain_closes : (u v : Partial I) (l : Level I) (ts : List TextToken) → u ≡ record v { stack = l ∷ v.stack } → ask (group_tests heads) ts ≡ Some false → close_level ins heads m (level_tree tree l) (levels_tree tree v.stack) (out_tree tree v.out) ts ≡ machine.plain_turn ins heads m (levels_tree tree u.stack) (out_tree tree u.out) ts
+  plain_closes u v l ts e f = sym (ap (λ (z : Partial I). machine.plain_turn ins heads m (levels_tree tree z.stack) (out_tree tree z.out) ts) e ∙ rw f refl)
+
   -- the head of a folded instruction
   abbrev ended_by : List (machine.Level T) → List (Option ℕ × T) → T × List TextToken → Option (machine.State (List ℕ) ℕ T)
   ended_by st out i = Some (machine.state (machine.EndWith None i.0 ∷ st) out i.1)
@@ -142,6 +153,11 @@ pub further : {N P T : Type 0} (ins : Syntax N P T) (heads : Heads T) (m : Made 
 further ins heads m ends Here n e = More n e Here
 further ins heads m ends (More k f r) n e = More k f (further ins heads m ends r n e)
 
+pub further_turns : {N P T : Type 0} (ins : Syntax N P T) (heads : Heads T) (m : Made P T) (ends : machine.State N P T → Bool) {s t u : machine.State N P T} (r : Reach ins heads m ends s t) (n : ends t ≡ false) (e : step ins heads m t ≡ Some u) → machine.turns ins heads m (further ins heads m ends r n e) ≡ machine.turns ins heads m r + 1
+unfolding further
+further_turns ins heads m ends Here n e = refl
+further_turns ins heads m ends (More k f r) n e = let i = further_turns ins heads m ends r n e in omega (arith, i)
+
 -- whether items are read, by the stack of the code
 pub done_tree : {I T : Type 0} (tree : I → T) (u : Partial I) (ts : List TextToken) (b : Bool) → done u.stack ts ≡ b → done (levels_tree tree u.stack) ts ≡ b
 done_tree tree u ts b e = go u.stack e
@@ -161,6 +177,10 @@ none_is st e = rw e refl
 pub some_is : {I : Type 0} (st : List (Level I)) → (st ≡ [] → ⊥) → none_open st ≡ false
 some_is [] f = absurd (f refl)
 some_is (l ∷ st) f = refl
+
+pub no_levels : {I T : Type 0} (tree : I → T) (st : List (Level I)) → levels_tree tree st ≡ [] → st ≡ []
+no_levels tree [] e = refl
+no_levels tree (l ∷ st) e = cc
 
 -- what was unfolded, as an expression
 hints_kept : {I T : Type 0} (tree : I → T) (n : ℕ) (xs : List (Option ℕ × I)) → hints_from n xs ≡ hints_from n (out_tree tree xs)

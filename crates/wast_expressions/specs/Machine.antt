@@ -1,5 +1,5 @@
 -- Reading expressions by a stack, on lists: what the loops of this crate do.
-use Rattle.std.specs.Prelude.{◌≡◌, ℕ, Bool, true, false, not, if◌then◌else◌, List, [], ◌∷◌, ◌++◌, Option, Some, None, codes}
+use Rattle.std.specs.Prelude.{◌≡◌, ℕ, suc, Bool, true, false, not, if◌then◌else◌, List, [], ◌∷◌, ◌++◌, Option, Some, None, codes}
 use Rattle.wast_grammar.specs.Tokens.{SignificantToken}
 use Rattle.wast_grammar.specs.Spelling.{◌>>=◌, that_open, that_close, that_one}
 use Rattle.wast_grammar.specs.Look.{NotEnd, at, ask}
@@ -111,6 +111,11 @@ module _ {N P I : Type 0} (ins : Syntax N P I) (heads : Heads I) (m : Made P I) 
     Here : {s : State N P I} → Reach ends s s
     More : {s t u : State N P I} → ends s ≡ false → step s ≡ Some t → Reach ends t u → Reach ends s u
 
+  -- how many they are
+  abbrev pub turns : {ends : State N P I → Bool} {s t : State N P I} → Reach ends s t → ℕ
+  turns Here = 0
+  turns (More n e r) = suc (turns r)
+
   abbrev pub start : List (SignificantToken N P) → State N P I
   start ts = state [] [] ts
 
@@ -118,31 +123,7 @@ module _ {N P I : Type 0} (ins : Syntax N P I) (heads : Heads I) (m : Made P I) 
 abbrev pub folded_head : {N P I : Type 0} → Syntax N P I → Heads I → List (Level I) → List (Option ℕ × I) → List (SignificantToken N P) → Option (State N P I)
 folded_head ins heads st out ts = one_of that_open ts >>= λ o. (one_ins ins heads).reads o.1 >>= λ i. Some (state (EndWith None i.0 ∷ st) out i.1)
 
--- PLAIN: a stack of the instructions whose operands are not yet all read
-pub record PlainState (N P I : Type 0) : Type 0 where
-  pub stack : List I
-  pub out : List I
-  pub rest : List (SignificantToken N P)
-
-abbrev pub plain_state : {N P I : Type 0} → List I → List I → List (SignificantToken N P) → PlainState N P I
-plain_state st out ts = record { stack = st; out = out; rest = ts }
-
-module _ {N P I : Type 0} (ins : Syntax N P I) (heads : Heads I) where
-  -- a group opens
-  abbrev pub plain_open : List I → List I → List (SignificantToken N P) → Option (PlainState N P I)
-  plain_open st out ts = one_of that_open ts >>= λ o. (one_ins ins heads).reads o.1 >>= λ i. Some (plain_state (i.0 ∷ st) out i.1)
-
-  -- the innermost closes
-  abbrev pub plain_close : I → List I → List I → List (SignificantToken N P) → Option (PlainState N P I)
-  plain_close i st out ts = one_of that_close ts >>= λ c. Some (plain_state st (out ++ i ∷ []) c.1)
-
-  abbrev pub plain_turn : List I → List I → List (SignificantToken N P) → Option (PlainState N P I)
-  plain_turn [] out ts = None
-  plain_turn (i ∷ st) out ts = ask (group_tests heads) ts >>= λ b. if b then plain_open (i ∷ st) out ts else plain_close i st out ts
-
-  abbrev pub plain_step_of : PlainState N P I → Option (PlainState N P I)
-  plain_step_of s = plain_turn s.stack s.out s.rest
-
-  pub data PlainReach : PlainState N P I → PlainState N P I → Type 0 where
-    PlainHere : {s : PlainState N P I} → PlainReach s s
-    PlainMore : {s t u : PlainState N P I} → plain_step_of s ≡ Some t → PlainReach t u → PlainReach s u
+-- PLAIN: a group opens, or the innermost closes
+abbrev pub plain_turn : {N P I : Type 0} → Syntax N P I → Heads I → Made P I → List (Level I) → List (Option ℕ × I) → List (SignificantToken N P) → Option (State N P I)
+plain_turn ins heads m [] out ts = None
+plain_turn ins heads m (l ∷ st) out ts = ask (group_tests heads) ts >>= λ b. if b then folded_head ins heads (l ∷ st) out ts else close_level ins heads m l st out ts

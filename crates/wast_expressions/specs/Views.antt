@@ -1,5 +1,5 @@
 -- What the grammar sees of the types of the code.
-use Rattle.std.specs.Prelude.{◌≡◌, ℕ, true, false, if◌then◌else◌, List, [], ◌∷◌, map, Option, Some, None, Result, Ok, Err}
+use Rattle.std.specs.Prelude.{◌≡◌, ◌+◌, ℕ, true, false, if◌then◌else◌, List, [], ◌∷◌, map, Option, Some, None, Result, Ok, Err}
 use Rattle.wast_parser.specs.Reading.{Refuses}
 use Rattle.wast_parser.specs.State.{ahead}
 use Rattle.wast_parser.specs.Cursors.{stands, Follows}
@@ -14,7 +14,7 @@ use Rattle.wast_expressions.specs.declared.operation.GroupKind.TheVariants as ki
 use Rattle.wast_expressions.specs.declared.stack.Level.{Level}
 use Rattle.wast_expressions.specs.declared.stack.Level.TheVariants as levels
 use Rattle.wast_expressions.specs.declared.stack.Instructions.{Instructions}
-use Rattle.wast_expressions.specs.Items.{Expression}
+use Rattle.wast_expressions.specs.Items.{Made, Expression}
 use Rattle.wast_expressions.specs.Partial.{Partial, hint_tree}
 use Rattle.wast_expressions.specs.Expressions as spec
 use Rattle.wast_expressions.specs.Expressions.{is_hint}
@@ -69,3 +69,12 @@ Passes f c (Err p) = Refuses p (one_of f (ahead (stands c)))
 -- what is read behind a parenthesis that opens: a word
 abbrev pub arm_word : List ℕ → List TextToken → Option (ℕ × List TextToken)
 arm_word w ts = one_of that_open ts >>= λ o. one_of (that_one w) o.1
+
+-- a turn that is refused counts too
+abbrev pub refused_turns : {A : Type 0} → Result A Problem → ℕ
+refused_turns (Ok x) = 0
+refused_turns (Err p) = 1
+
+-- So many turns were taken from these tokens on.
+abbrev pub Counts : {T A : Type 0} → Syntax (List ℕ) ℕ T → spec.Heads T → Made ℕ T → List TextToken → Result A Problem → ℕ → Type 0
+Counts {T} ins heads m ts result n = (t : machine.State (List ℕ) ℕ T) × (r : machine.Reach ins heads m (machine.is_done ins heads m) (machine.start ins heads m ts) t) × (n ≡ machine.turns ins heads m r + refused_turns result)

@@ -1,10 +1,10 @@
 //! Items, by a loop over a stack of its own: no depth of groups is too deep.
-ghost use Rattle.std.specs.Prelude.{◌≡◌, ◌+◌, ◌≤◌, ◌<◌, length};
+ghost use Rattle.std.specs.Prelude.{◌≡◌, ℕ, ◌+◌, ◌≤◌, ◌<◌, length};
 ghost use Rattle.wast_parser.specs.State.{ahead, Keeps};
 ghost use Rattle.wast_parser.specs.Reading.{Gives};
 ghost use Rattle.wast_expressions.specs.Expressions.{expression};
 ghost use Rattle.wast_expressions.specs.Machine.{done};
-ghost use Rattle.wast_expressions.specs.Views.{instructions_tree};
+ghost use Rattle.wast_expressions.specs.Views.{Counts, instructions_tree};
 
 use crate::operation::{Operation, ParseOperation};
 use crate::stack::{Instructions, Unfolding};
@@ -34,14 +34,15 @@ pub fn parse_items<'a, I: ParseOperation<'a>>(
     Ok(work.finish())
 }
 
-/// The same, and counts the turns of the loop. On both outcomes these are at most one more than the tokens that it took or
-/// passed, and than the significant tokens that stood before it.
+/// The same, and counts the turns of the loop, that which is refused too. On both outcomes these are at most one more than the
+/// tokens that it took or passed, and than the significant tokens that stood before it.
 pub fn parse_counted<'a, I: ParseOperation<'a>, L: Ledger>(
     parser: &mut Parser<'a>,
     steps: &mut Steps<L>,
 ) -> Result<Instructions<I>, Error>
     ensures read { Gives (instructions_tree I.tree) result parser.new ((expression I.syntax I.heads I.made).reads (ahead parser.old)) }
     ensures keeps { Keeps parser.old parser.new }
+    ensures counted { (n : ℕ) × (steps.new ≡ steps.old + n) × Counts I.syntax I.heads I.made (ahead parser.old) result n }
     ensures taken { steps.new + parser.old.at ≤ steps.old + parser.new.at + 1 }
     ensures turns { steps.new ≤ steps.old + length (ahead parser.old) + 1 }
 {

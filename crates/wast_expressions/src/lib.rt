@@ -3,6 +3,7 @@
 
 mod expression;
 mod hint;
+pub mod laws;
 mod look;
 mod offset;
 mod operation;
@@ -13,7 +14,7 @@ mod turn;
 
 pub use expression::{parse_counted, parse_items};
 pub use hint::BranchHint;
-pub use offset::parse_folded_instruction;
-pub use operation::{GroupKind, Operation};
+pub use offset::{parse_folded_instruction, parse_plain};
+pub use operation::{GroupKind, Operation, ParseOperation};
 pub use stack::Instructions;
 pub use steps::Steps;

@@ -139,7 +139,7 @@ fn head<I: Operation>(hint: Option<u32>, instr: I, work: &mut Unfolding<I>) -> R
 }
 
 /// Where items stand no more: the end of what holds them.
-fn close_level<'a, I: ParseOperation<'a>>(
+pub(crate) fn close_level<'a, I: ParseOperation<'a>>(
     level: Level<I>,
     work: &mut Unfolding<I>,
     parser: &mut Parser<'a>,

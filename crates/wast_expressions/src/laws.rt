@@ -1,0 +1,17 @@
+//! The laws of expressions: functions whose contracts are the laws. They do nothing.
+ghost use Rattle.wast_expressions.specs.Laws.{HintsRise, OneReading};
+
+use crate::operation::Operation;
+
+/// Tokens spell one list of items, up to one place where an end may follow.
+pub fn one_reading<I: Operation>()
+    ensures { OneReading I.syntax I.heads }
+{
+    I::lawful();
+    I::heeds();
+}
+
+/// The indices of the hints of an expression rise strictly.
+pub fn hints_rise<I: Operation>()
+    ensures { HintsRise I.Tree }
+{}
