@@ -10,8 +10,7 @@ use Rattle.wast_parser.proofs.GrammarLaws.{among_laws, word_laws, mark_laws, str
 use Rattle.wast_parser.proofs.LeadLaws.{among_leads, seen_leads, either_leads, next_leads, paren_leads}
 use Rattle.wast_parser.proofs.IntegerLaws.{name_laws}
 use Rattle.wast_customs.specs.CustomTree.{CustomPlace, BeforeFirst, AfterLast, Raw, ProducersField, DylinkField}
-use Rattle.wast_customs.specs.DylinkSyntax.{group_starts, dylink_group}
-use Rattle.wast_customs.specs.CustomSyntax.{anchor_word, anchors, Side, Ahead, Behind, side_word, sides, place_starts, end_starts, anchor, place_on, place_body, custom_place, as_raw, raw_body, raw_section, producer_word, producer_kinds, producer_starts, as_producer, producer_body, producer, as_producers, producers_body, producers, as_dylink, dylink_body, dylink, custom, custom_starts}
+use Rattle.wast_customs.specs.CustomSyntax.{anchor_word, anchors, Side, Ahead, Behind, side_word, sides, place_starts, end_starts, anchor, place_on, place_body, custom_place, as_raw, raw_body, raw_section, producer_word, producer_kinds, producer_starts, as_producer, producer_body, producer, as_producers, producers_body, producers, as_dylink, dylink_groups, dylink_body, dylink, custom, custom_starts}
 use Rattle.wast_customs.proofs.Begins.{annotation_leads}
 use Rattle.wast_customs.proofs.DylinkLaws.{dylink_group_laws, empty_name}
 
@@ -68,8 +67,8 @@ module _ {N P : Type 0} where
   producers_laws = paren_laws producers_body producers_body_laws refl refl
 
   -- DYLINK.0
-  group_list_laws : Lawful (many {N = N} {P = P} group_starts dylink_group)
-  group_list_laws = many_laws _ _ dylink_group_laws refl refl refl refl refl
+  group_list_laws : Lawful (dylink_groups {N = N} {P = P})
+  group_list_laws = seen_laws _ _ (many_laws _ _ dylink_group_laws refl refl refl refl refl)
 
   pub dylink_body_laws : Lawful (dylink_body {N = N} {P = P})
   dylink_body_laws = seen_laws _ _ (seq_laws _ _ (mark_laws (codes "dylink.0")) group_list_laws refl)
@@ -107,7 +106,7 @@ module _ {N P : Type 0} where
   producers_leads = annotation_leads (codes "producers") as_producers (many producer_starts producer) producer_list_laws refl [] [] refl
 
   pub dylink_leads : Leads (dylink {N = N} {P = P}).spells (this_annotation (codes "dylink.0") ∷ [])
-  dylink_leads = annotation_leads (codes "dylink.0") as_dylink (many group_starts dylink_group) group_list_laws refl [] [] refl
+  dylink_leads = annotation_leads (codes "dylink.0") as_dylink dylink_groups group_list_laws refl [] [] ([], refl, refl)
 
   pub custom_leads : P → Leads (custom {N = N} {P = P}).spells custom_starts
   custom_leads p = either_leads (seen Raw raw_section).spells (either (this_annotation (codes "producers") ∷ []) (seen ProducersField producers) (seen DylinkField dylink)).spells (this_annotation (codes "custom") ∷ []) (this_annotation (codes "producers") ∷ this_annotation (codes "dylink.0") ∷ [])

@@ -96,9 +96,8 @@ as_producer p = record { kind = p.0.0; name = p.1.0; version = p.1.1 }
 abbrev pub as_producers : {P : Type 0} → P × List Producer → Producers P
 as_producers p = record { place = p.0; fields = p.1 }
 
--- (@dylink.0 ..): neighbours of one kind are joined
 abbrev pub as_dylink : {P : Type 0} → P × List Subsection → Dylink P
-as_dylink d = record { place = d.0; subsections = joined d.1 }
+as_dylink d = record { place = d.0; subsections = d.1 }
 
 module _ {N P : Type 0} where
   -- (kind name version)
@@ -115,9 +114,12 @@ module _ {N P : Type 0} where
   abbrev pub producers : Syntax N P (Producers P)
   producers = paren producers_body
 
-  -- (@dylink.0 group*)
+  -- (@dylink.0 group*), where neighbours of one kind are joined
+  abbrev pub dylink_groups : Syntax N P (List Subsection)
+  dylink_groups = seen joined (many group_starts dylink_group)
+
   abbrev pub dylink_body : Syntax N P (Dylink P)
-  dylink_body = seen as_dylink (seq (mark (codes "dylink.0")) (many group_starts dylink_group))
+  dylink_body = seen as_dylink (seq (mark (codes "dylink.0")) dylink_groups)
 
   abbrev pub dylink : Syntax N P (Dylink P)
   dylink = paren dylink_body

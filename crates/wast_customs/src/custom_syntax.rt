@@ -11,10 +11,9 @@ ghost use Rattle.wast_customs.specs.CustomViews.{raw_tree, custom_tree};
 
 use crate::custom::{Custom, RawCustomSection};
 use crate::dylink::Dylink0;
-use crate::inside::Inside;
 use crate::place::CustomPlace;
 use crate::producers::Producers;
-use wast_parser::{Cursor, Error, Item, Meaning, Parse, Parser, Peek, list_of};
+use wast_parser::{Cursor, Error, Item, LParen, Meaning, Parse, Parser, Peek, RParen, list_of};
 
 impl<'a> Meaning for Custom<'a> {
     ghost Tree = { spec.Custom ℕ };
@@ -42,8 +41,6 @@ impl<'a> Parse<'a> for Custom<'a> {
 
 impl<'a> Peek for Custom<'a> {
     ghost plain = { refl };
-
-    ghost full = { refl };
 
     ghost sure = { refl };
 
@@ -95,15 +92,23 @@ impl<'a> Meaning for RawCustomSection<'a> {
 
 impl<'a> Parse<'a> for RawCustomSection<'a> {
     fn parse(parser: &mut Parser<'a>) -> Result<Self, Error> {
-        let section: Inside<RawCustomSection> = parser.parens_of()?;
-        Ok(section.value)
+        LParen::parse(parser)?;
+        let span = parser.mark("custom")?;
+        let name = parser.name()?;
+        let place: Option<CustomPlace> = Option::parse(parser)?;
+        let bytes = list_of(parser)?;
+        RParen::parse(parser)?;
+        Ok(RawCustomSection {
+            span,
+            name,
+            place: place.unwrap_or(CustomPlace::AfterLast),
+            bytes,
+        })
     }
 }
 
 impl<'a> Peek for RawCustomSection<'a> {
     ghost plain = { refl };
-
-    ghost full = { refl };
 
     ghost sure = { refl };
 
@@ -119,34 +124,5 @@ impl<'a> Peek for RawCustomSection<'a> {
 
     fn display() -> &'static str {
         "a custom section"
-    }
-}
-
-impl<'a> Meaning for Inside<RawCustomSection<'a>> {
-    ghost Tree = { spec.RawSection ℕ };
-
-    ghost tree = { λ b. raw_tree b.value };
-
-    ghost syntax = { raw_body };
-
-    fn lawful()
-        ensures { Lawful (raw_body {N = List ℕ} {P = ℕ}) }
-    {}
-}
-
-impl<'a> Parse<'a> for Inside<RawCustomSection<'a>> {
-    fn parse(parser: &mut Parser<'a>) -> Result<Self, Error> {
-        let span = parser.mark("custom")?;
-        let name = parser.name()?;
-        let place: Option<CustomPlace> = Option::parse(parser)?;
-        let bytes = list_of(parser)?;
-        Ok(Inside {
-            value: RawCustomSection {
-                span,
-                name,
-                place: place.unwrap_or(CustomPlace::AfterLast),
-                bytes,
-            },
-        })
     }
 }

@@ -5,17 +5,14 @@ ghost use Rattle.wast_parser.specs.Lawful.{Lawful, Leads};
 ghost use Rattle.wast_parser.specs.State.{ahead, Keeps};
 ghost use Rattle.wast_parser.specs.Reading.{Asks, Gives};
 ghost use Rattle.wast_parser.specs.Cursors.{stands};
-ghost use Rattle.wast_parser.specs.Grammar.{seen, many};
 ghost use Rattle.wast_customs.specs.CustomTree as spec;
 ghost use Rattle.wast_customs.specs.Dylink.{joined, joined_before};
-ghost use Rattle.wast_customs.specs.DylinkSyntax.{group_starts, dylink_group};
-ghost use Rattle.wast_customs.specs.CustomSyntax.{dylink_body, dylink};
+ghost use Rattle.wast_customs.specs.CustomSyntax.{dylink_groups, dylink};
 ghost use Rattle.wast_customs.specs.CustomViews.{subsection_tree, dylink_tree};
 
 use crate::dylink::{Dylink0, Dylink0Subsection};
-use crate::inside::Inside;
 use std::alloc::{AllocError, Global};
-use wast_parser::{Cursor, Error, Meaning, Parse, Parser, Peek, list_of};
+use wast_parser::{Cursor, Error, LParen, Meaning, Parse, Parser, Peek, RParen, list_of};
 
 impl<'a> Meaning for Dylink0<'a> {
     ghost Tree = { spec.Dylink ℕ };
@@ -31,15 +28,16 @@ impl<'a> Meaning for Dylink0<'a> {
 
 impl<'a> Parse<'a> for Dylink0<'a> {
     fn parse(parser: &mut Parser<'a>) -> Result<Self, Error> {
-        let dylink: Inside<Dylink0> = parser.parens_of()?;
-        Ok(dylink.value)
+        LParen::parse(parser)?;
+        let span = parser.mark("dylink.0")?;
+        let subsections = parse_subsections(parser)?;
+        RParen::parse(parser)?;
+        Ok(Dylink0 { span, subsections })
     }
 }
 
 impl<'a> Peek for Dylink0<'a> {
     ghost plain = { refl };
-
-    ghost full = { refl };
 
     ghost sure = { refl };
 
@@ -58,31 +56,9 @@ impl<'a> Peek for Dylink0<'a> {
     }
 }
 
-impl<'a> Meaning for Inside<Dylink0<'a>> {
-    ghost Tree = { spec.Dylink ℕ };
-
-    ghost tree = { λ b. dylink_tree b.value };
-
-    ghost syntax = { dylink_body };
-
-    fn lawful()
-        ensures { Lawful (dylink_body {N = List ℕ} {P = ℕ}) }
-    {}
-}
-
-impl<'a> Parse<'a> for Inside<Dylink0<'a>> {
-    fn parse(parser: &mut Parser<'a>) -> Result<Self, Error> {
-        let span = parser.mark("dylink.0")?;
-        let subsections = parse_subsections(parser)?;
-        Ok(Inside {
-            value: Dylink0 { span, subsections },
-        })
-    }
-}
-
 /// All groups that follow, neighbours of one kind joined.
 fn parse_subsections<'a>(parser: &mut Parser<'a>) -> Result<Vec<Dylink0Subsection<'a>>, Error>
-    ensures read { Gives (λ v. map subsection_tree v.items) result parser.new ((seen joined (many group_starts dylink_group)).reads (ahead parser.old)) }
+    ensures read { Gives (λ v. map subsection_tree v.items) result parser.new (dylink_groups.reads (ahead parser.old)) }
     ensures keeps { Keeps parser.old parser.new }
 {
     let groups = list_of(parser)?;

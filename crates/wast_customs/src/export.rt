@@ -1,18 +1,21 @@
 //! Exports.
 ghost use Rattle.std.specs.Prelude.{◌≡◌, ℕ, List, [], ◌∷◌, refl, codes, false};
 ghost use Rattle.wast_parser.specs.Lawful.{Lawful, Leads};
-ghost use Rattle.wast_parser.specs.Identifiers.{Reference, index_tree};
+ghost use Rattle.wast_parser.specs.State.{ahead, Keeps};
+ghost use Rattle.wast_parser.specs.Reading.{Gives};
+ghost use Rattle.wast_parser.specs.Identifiers.{index_tree};
 ghost use Rattle.wast_customs.specs.Exports as spec;
-ghost use Rattle.wast_customs.specs.Exports.{export_word, export_kinds, export_kind, exported_body, exported, export_body, export};
+ghost use Rattle.wast_customs.specs.Exports.{export_word, export_kinds, export_kind, exported, export};
 ghost use Rattle.wast_customs.specs.ExportViews.{kind_view, export_tree};
 
-use crate::inside::Inside;
 use crate::kw;
 use crate::word::{Spelled, find_among};
 use std::alloc::Global;
 use std::borrow::CowStr;
 use wast_lexer::Span;
-use wast_parser::{Cursor, Error, Index, Keyword, Meaning, Parse, Parser, Peek, WordSet};
+use wast_parser::{
+    Cursor, Error, Index, Keyword, LParen, Meaning, Parse, Parser, Peek, RParen, WordSet,
+};
 
 /// An export: `(export "name" (func $f))` (6.6.10).
 #[derive(Drop)]
@@ -94,8 +97,6 @@ impl<'a> Parse<'a> for ExportKind {
 impl Peek for ExportKind {
     ghost plain = { refl };
 
-    ghost full = { refl };
-
     ghost sure = { refl };
 
     fn leads() {}
@@ -123,64 +124,30 @@ impl<'a> Meaning for Export<'a> {
 
 impl<'a> Parse<'a> for Export<'a> {
     fn parse(parser: &mut Parser<'a>) -> Result<Self, Error> {
-        let export: Inside<Export> = parser.parens_of()?;
-        Ok(export.value)
-    }
-}
-
-impl<'a> Meaning for Inside<Export<'a>> {
-    ghost Tree = { spec.Export (List ℕ) ℕ };
-
-    ghost tree = { λ b. export_tree b.value };
-
-    ghost syntax = { export_body };
-
-    fn lawful()
-        ensures { Lawful (export_body {N = List ℕ} {P = ℕ}) }
-    {}
-}
-
-impl<'a> Parse<'a> for Inside<Export<'a>> {
-    fn parse(parser: &mut Parser<'a>) -> Result<Self, Error> {
+        LParen::parse(parser)?;
         let span = parser.word("export")?;
         let name = parser.name()?;
-        let exported: Exported = parser.parens_of()?;
-        Ok(Inside {
-            value: Export {
-                span,
-                name,
-                kind: exported.kind,
-                item: exported.item,
-            },
+        let (kind, item) = parse_exported(parser)?;
+        RParen::parse(parser)?;
+        Ok(Export {
+            span,
+            name,
+            kind,
+            item,
         })
     }
 }
 
-/// What is exported, in parentheses.
-#[derive(Drop)]
-struct Exported<'a> {
-    kind: ExportKind,
-    item: Index<'a>,
-}
-
-impl<'a> Meaning for Exported<'a> {
-    ghost Tree = { spec.ExportKind × Reference (List ℕ) ℕ };
-
-    ghost tree = { λ e. (kind_view e.kind, index_tree e.item) };
-
-    ghost syntax = { exported_body };
-
-    fn lawful()
-        ensures { Lawful (exported_body {N = List ℕ} {P = ℕ}) }
-    {}
-}
-
-impl<'a> Parse<'a> for Exported<'a> {
-    fn parse(parser: &mut Parser<'a>) -> Result<Self, Error> {
-        let kind = ExportKind::parse(parser)?;
-        let item = Index::parse(parser)?;
-        Ok(Exported { kind, item })
-    }
+/// What is exported: `(func $f)`.
+fn parse_exported<'a>(parser: &mut Parser<'a>) -> Result<(ExportKind, Index<'a>), Error>
+    ensures read { Gives (λ e. (kind_view e.0, index_tree e.1)) result parser.new (exported.reads (ahead parser.old)) }
+    ensures keeps { Keeps parser.old parser.new }
+{
+    LParen::parse(parser)?;
+    let kind = ExportKind::parse(parser)?;
+    let item = Index::parse(parser)?;
+    RParen::parse(parser)?;
+    Ok((kind, item))
 }
 
 impl From<Keyword<kw::Func>> for ExportKind {

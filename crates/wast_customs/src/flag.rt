@@ -112,8 +112,6 @@ impl<'a> Parse<'a> for Flag {
 impl Peek for Flag {
     ghost plain = { refl };
 
-    ghost full = { refl };
-
     ghost sure = { refl };
 
     fn leads() {}

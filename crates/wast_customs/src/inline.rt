@@ -8,10 +8,9 @@ ghost use Rattle.wast_parser.specs.Cursors.{stands};
 ghost use Rattle.wast_customs.specs.Exports.{export_starts, import_starts, export_name_body, export_name, inline_export, inline_import_body, inline_import};
 ghost use Rattle.wast_customs.specs.ExportViews.{export_name_tree, inline_export_tree, inline_import_tree};
 
-use crate::inside::Inside;
 use std::alloc::Global;
 use std::borrow::CowStr;
-use wast_parser::{Cursor, Error, Item, Meaning, Parse, Parser, Peek, list_of};
+use wast_parser::{Cursor, Error, Item, LParen, Meaning, Parse, Parser, Peek, RParen, list_of};
 
 /// The names under which a field is exported, as many as are written: `(export "a") (export "b")`.
 #[derive(Drop)]
@@ -65,15 +64,16 @@ impl<'a> Meaning for ExportName<'a> {
 
 impl<'a> Parse<'a> for ExportName<'a> {
     fn parse(parser: &mut Parser<'a>) -> Result<Self, Error> {
-        let name: Inside<ExportName> = parser.parens_of()?;
-        Ok(name.value)
+        LParen::parse(parser)?;
+        parser.word("export")?;
+        let name = parser.name()?;
+        RParen::parse(parser)?;
+        Ok(ExportName { name })
     }
 }
 
 impl<'a> Peek for ExportName<'a> {
     ghost plain = { refl };
-
-    ghost full = { refl };
 
     ghost sure = { refl };
 
@@ -96,28 +96,6 @@ impl<'a> Item for ExportName<'a> {
     ghost inside = { refl };
 }
 
-impl<'a> Meaning for Inside<ExportName<'a>> {
-    ghost Tree = { List ℕ };
-
-    ghost tree = { λ b. export_name_tree b.value };
-
-    ghost syntax = { export_name_body };
-
-    fn lawful()
-        ensures { Lawful (export_name_body {N = List ℕ} {P = ℕ}) }
-    {}
-}
-
-impl<'a> Parse<'a> for Inside<ExportName<'a>> {
-    fn parse(parser: &mut Parser<'a>) -> Result<Self, Error> {
-        parser.word("export")?;
-        let name = parser.name()?;
-        Ok(Inside {
-            value: ExportName { name },
-        })
-    }
-}
-
 impl<'a> Meaning for InlineImport<'a> {
     ghost Tree = { List ℕ × List ℕ };
 
@@ -132,15 +110,17 @@ impl<'a> Meaning for InlineImport<'a> {
 
 impl<'a> Parse<'a> for InlineImport<'a> {
     fn parse(parser: &mut Parser<'a>) -> Result<Self, Error> {
-        let import: Inside<InlineImport> = parser.parens_of()?;
-        Ok(import.value)
+        LParen::parse(parser)?;
+        parser.word("import")?;
+        let module = parser.name()?;
+        let field = parser.name()?;
+        RParen::parse(parser)?;
+        Ok(InlineImport { module, field })
     }
 }
 
 impl<'a> Peek for InlineImport<'a> {
     ghost plain = { refl };
-
-    ghost full = { refl };
 
     ghost sure = { refl };
 
@@ -156,28 +136,5 @@ impl<'a> Peek for InlineImport<'a> {
 
     fn display() -> &'static str {
         "an inline import"
-    }
-}
-
-impl<'a> Meaning for Inside<InlineImport<'a>> {
-    ghost Tree = { List ℕ × List ℕ };
-
-    ghost tree = { λ b. inline_import_tree b.value };
-
-    ghost syntax = { inline_import_body };
-
-    fn lawful()
-        ensures { Lawful (inline_import_body {N = List ℕ} {P = ℕ}) }
-    {}
-}
-
-impl<'a> Parse<'a> for Inside<InlineImport<'a>> {
-    fn parse(parser: &mut Parser<'a>) -> Result<Self, Error> {
-        parser.word("import")?;
-        let module = parser.name()?;
-        let field = parser.name()?;
-        Ok(Inside {
-            value: InlineImport { module, field },
-        })
     }
 }

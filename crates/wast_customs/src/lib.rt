@@ -21,7 +21,6 @@ mod dylink_syntax;
 mod export;
 mod flag;
 mod inline;
-mod inside;
 pub mod kw;
 mod place;
 mod producers;

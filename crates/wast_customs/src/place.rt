@@ -7,10 +7,11 @@ ghost use Rattle.wast_customs.specs.CustomSyntax as syntax;
 ghost use Rattle.wast_customs.specs.CustomSyntax.{anchor, anchors, anchor_word, sides, side_word, place_on, place_body, custom_place};
 ghost use Rattle.wast_customs.specs.CustomViews.{anchor_view, side_view, place_tree};
 
-use crate::inside::Inside;
 use crate::kw;
 use crate::word::{Spelled, find_among};
-use wast_parser::{Cursor, Error, Keyword, Meaning, Parse, Parser, Peek, WordSet};
+use wast_parser::{
+    Cursor, Error, Item, Keyword, LParen, Meaning, Parse, Parser, Peek, RParen, WordSet,
+};
 
 /// A section that a place names.
 #[derive(Clone, Copy, Debug, PartialEq, Eq)]
@@ -159,15 +160,16 @@ impl Meaning for CustomPlace {
 
 impl<'a> Parse<'a> for CustomPlace {
     fn parse(parser: &mut Parser<'a>) -> Result<Self, Error> {
-        let place: Inside<CustomPlace> = parser.parens_of()?;
-        Ok(place.value)
+        LParen::parse(parser)?;
+        let (side, _) = parser.among("expected `before` or `after`")?;
+        let value = parse_place(parser, side)?;
+        RParen::parse(parser)?;
+        Ok(value)
     }
 }
 
 impl Peek for CustomPlace {
     ghost plain = { refl };
-
-    ghost full = { refl };
 
     ghost sure = { refl };
 
@@ -182,22 +184,8 @@ impl Peek for CustomPlace {
     }
 }
 
-impl Meaning for Inside<CustomPlace> {
-    ghost Tree = { spec.CustomPlace };
-
-    ghost tree = { λ b. place_tree b.value };
-
-    ghost syntax = { place_body };
-
-    fn lawful() {}
-}
-
-impl<'a> Parse<'a> for Inside<CustomPlace> {
-    fn parse(parser: &mut Parser<'a>) -> Result<Self, Error> {
-        let (side, _) = parser.among("expected `before` or `after`")?;
-        let value = parse_place(parser, side)?;
-        Ok(Inside { value })
-    }
+impl Item for CustomPlace {
+    ghost inside = { refl };
 }
 
 /// The place on this side of what is named.

@@ -9,12 +9,13 @@ ghost use Rattle.wast_customs.specs.CustomTree as spec;
 ghost use Rattle.wast_customs.specs.CustomSyntax.{producer_word, producer_kinds, producer_starts, producer_body, producer, producers_body, producers};
 ghost use Rattle.wast_customs.specs.CustomViews.{kind_view, producer_tree, producers_tree};
 
-use crate::inside::Inside;
 use crate::word::{Spelled, find_among};
 use std::alloc::Global;
 use std::borrow::CowStr;
 use wast_lexer::Span;
-use wast_parser::{Cursor, Error, Item, Meaning, Parse, Parser, Peek, WordSet, list_of};
+use wast_parser::{
+    Cursor, Error, Item, LParen, Meaning, Parse, Parser, Peek, RParen, WordSet, list_of,
+};
 
 /// What producers say of themselves: `(@producers (language "C" "23") ..)`, in the order in which it is written.
 #[derive(Drop)]
@@ -90,15 +91,16 @@ impl<'a> Meaning for Producers<'a> {
 
 impl<'a> Parse<'a> for Producers<'a> {
     fn parse(parser: &mut Parser<'a>) -> Result<Self, Error> {
-        let producers: Inside<Producers> = parser.parens_of()?;
-        Ok(producers.value)
+        LParen::parse(parser)?;
+        let span = parser.mark("producers")?;
+        let fields = list_of(parser)?;
+        RParen::parse(parser)?;
+        Ok(Producers { span, fields })
     }
 }
 
 impl<'a> Peek for Producers<'a> {
     ghost plain = { refl };
-
-    ghost full = { refl };
 
     ghost sure = { refl };
 
@@ -117,28 +119,6 @@ impl<'a> Peek for Producers<'a> {
     }
 }
 
-impl<'a> Meaning for Inside<Producers<'a>> {
-    ghost Tree = { spec.Producers ℕ };
-
-    ghost tree = { λ b. producers_tree b.value };
-
-    ghost syntax = { producers_body };
-
-    fn lawful()
-        ensures { Lawful (producers_body {N = List ℕ} {P = ℕ}) }
-    {}
-}
-
-impl<'a> Parse<'a> for Inside<Producers<'a>> {
-    fn parse(parser: &mut Parser<'a>) -> Result<Self, Error> {
-        let span = parser.mark("producers")?;
-        let fields = list_of(parser)?;
-        Ok(Inside {
-            value: Producers { span, fields },
-        })
-    }
-}
-
 impl<'a> Meaning for Producer<'a> {
     ghost Tree = { spec.Producer };
 
@@ -153,15 +133,21 @@ impl<'a> Meaning for Producer<'a> {
 
 impl<'a> Parse<'a> for Producer<'a> {
     fn parse(parser: &mut Parser<'a>) -> Result<Self, Error> {
-        let producer: Inside<Producer> = parser.parens_of()?;
-        Ok(producer.value)
+        LParen::parse(parser)?;
+        let (kind, _) = parser.among("expected `language`, `sdk` or `processed-by`")?;
+        let name = parser.name()?;
+        let version = parser.name()?;
+        RParen::parse(parser)?;
+        Ok(Producer {
+            kind,
+            name,
+            version,
+        })
     }
 }
 
 impl<'a> Peek for Producer<'a> {
     ghost plain = { refl };
-
-    ghost full = { refl };
 
     ghost sure = { refl };
 
@@ -182,31 +168,4 @@ impl<'a> Peek for Producer<'a> {
 
 impl<'a> Item for Producer<'a> {
     ghost inside = { refl };
-}
-
-impl<'a> Meaning for Inside<Producer<'a>> {
-    ghost Tree = { spec.Producer };
-
-    ghost tree = { λ b. producer_tree b.value };
-
-    ghost syntax = { producer_body };
-
-    fn lawful()
-        ensures { Lawful (producer_body {N = List ℕ} {P = ℕ}) }
-    {}
-}
-
-impl<'a> Parse<'a> for Inside<Producer<'a>> {
-    fn parse(parser: &mut Parser<'a>) -> Result<Self, Error> {
-        let (kind, _) = parser.among("expected `language`, `sdk` or `processed-by`")?;
-        let name = parser.name()?;
-        let version = parser.name()?;
-        Ok(Inside {
-            value: Producer {
-                kind,
-                name,
-                version,
-            },
-        })
-    }
 }

@@ -12,12 +12,12 @@ ghost use Rattle.wast_customs.specs.CustomViews.{group_view, subsection_tree};
 
 use crate::dylink::Dylink0Subsection;
 use crate::flag::parse_flags;
-use crate::inside::Inside;
 use crate::kw;
 use crate::word::{Spelled, find_among};
 use std::marker::PhantomData;
 use wast_parser::{
-    Cursor, Error, Item, Keyword, KeywordName, Meaning, Parse, Parser, Peek, WordSet, list_of,
+    Cursor, Error, Item, Keyword, KeywordName, LParen, Meaning, Parse, Parser, Peek, RParen,
+    WordSet, list_of,
 };
 
 /// What a group speaks of.
@@ -85,15 +85,16 @@ impl<'a> Meaning for Dylink0Subsection<'a> {
 
 impl<'a> Parse<'a> for Dylink0Subsection<'a> {
     fn parse(parser: &mut Parser<'a>) -> Result<Self, Error> {
-        let subsection: Inside<Dylink0Subsection> = parser.parens_of()?;
-        Ok(subsection.value)
+        LParen::parse(parser)?;
+        let (kind, _) = parser.among("expected a group of dylink.0")?;
+        let value = parse_within(parser, kind)?;
+        RParen::parse(parser)?;
+        Ok(value)
     }
 }
 
 impl<'a> Peek for Dylink0Subsection<'a> {
     ghost plain = { refl };
-
-    ghost full = { refl };
 
     ghost sure = { refl };
 
@@ -114,26 +115,6 @@ impl<'a> Peek for Dylink0Subsection<'a> {
 
 impl<'a> Item for Dylink0Subsection<'a> {
     ghost inside = { refl };
-}
-
-impl<'a> Meaning for Inside<Dylink0Subsection<'a>> {
-    ghost Tree = { spec.Subsection };
-
-    ghost tree = { λ b. subsection_tree b.value };
-
-    ghost syntax = { group_body };
-
-    fn lawful()
-        ensures { Lawful (group_body {N = List ℕ} {P = ℕ}) }
-    {}
-}
-
-impl<'a> Parse<'a> for Inside<Dylink0Subsection<'a>> {
-    fn parse(parser: &mut Parser<'a>) -> Result<Self, Error> {
-        let (kind, _) = parser.among("expected a group of dylink.0")?;
-        let value = parse_within(parser, kind)?;
-        Ok(Inside { value })
-    }
 }
 
 /// What stands behind the word of a group.
@@ -212,15 +193,21 @@ impl<N: KeywordName> Meaning for Extent<N> {
 
 impl<'a, N: KeywordName> Parse<'a> for Extent<N> {
     fn parse(parser: &mut Parser<'a>) -> Result<Self, Error> {
-        let extent: Inside<Extent<N>> = parser.parens_of()?;
-        Ok(extent.value)
+        LParen::parse(parser)?;
+        let _word: Keyword<N> = Keyword::parse(parser)?;
+        let size = u32::parse(parser)?;
+        let align = u32::parse(parser)?;
+        RParen::parse(parser)?;
+        Ok(Extent {
+            size,
+            align,
+            of: PhantomData,
+        })
     }
 }
 
 impl<N: KeywordName> Peek for Extent<N> {
     ghost plain = { refl };
-
-    ghost full = { refl };
 
     ghost sure = { refl };
 
@@ -235,29 +222,8 @@ impl<N: KeywordName> Peek for Extent<N> {
     }
 }
 
-impl<N: KeywordName> Meaning for Inside<Extent<N>> {
-    ghost Tree = { ℕ × ℕ };
-
-    ghost tree = { λ b. (b.value.size, b.value.align) };
-
-    ghost syntax = { extent_body N.word };
-
-    fn lawful() {}
-}
-
-impl<'a, N: KeywordName> Parse<'a> for Inside<Extent<N>> {
-    fn parse(parser: &mut Parser<'a>) -> Result<Self, Error> {
-        let _word: Keyword<N> = Keyword::parse(parser)?;
-        let size = u32::parse(parser)?;
-        let align = u32::parse(parser)?;
-        Ok(Inside {
-            value: Extent {
-                size,
-                align,
-                of: PhantomData,
-            },
-        })
-    }
+impl<N: KeywordName> Item for Extent<N> {
+    ghost inside = { refl };
 }
 
 /// Both are 0 where they aren't written.
