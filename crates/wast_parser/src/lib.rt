@@ -24,5 +24,6 @@ pub use wast_parser_base::{
 };
 pub use wast_parser_core::{
     Cursor, FixedInteger, Item, Keyword, KeywordName, LParen, Lookahead1, Meaning, Parse,
-    ParseBuffer, Parser, Peek, RParen, WordSet, laws, list_of, magnitude, parse,
+    ParseBuffer, Parser, Peek, RParen, Spelled, WordSet, find_among, laws, list_of, magnitude,
+    parse,
 };

@@ -61,4 +61,4 @@ pub use meaning::{Item, Meaning, Parse, Peek};
 pub use paren::{LParen, RParen};
 pub use parser::{Parser, parse};
 pub use wast_parser_base::Error;
-pub use word_set::WordSet;
+pub use word_set::{Spelled, WordSet, find_among};

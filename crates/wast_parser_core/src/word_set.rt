@@ -1,6 +1,6 @@
 //! Words that have values.
 ghost use Rattle.std.specs.Prelude.{◌≡◌, ℕ, List, [], ◌∷◌, map, option_map, false, true};
-ghost use Rattle.wast_grammar.specs.Spelling.{find_but};
+ghost use Rattle.wast_grammar.specs.Spelling.{find_but, find_by};
 ghost use Rattle.wast_grammar.specs.Look.{ask, On, AWord, OneOf};
 ghost use Rattle.wast_grammar.specs.Grammar.{among};
 ghost use Rattle.wast_parser_core.specs.State.{ahead, Keeps};
@@ -32,6 +32,33 @@ pub trait WordSet: Sized + Drop {
     /// The value whose word is written so.
     fn of(text: &[u8]) -> Option<Self>
         ensures { option_map Self.entry result ≡ find_but Self.word Self.entries Self.but text.now };
+}
+
+/// A value that is written as one word.
+pub trait Spelled: Copy {
+    /// What stands for a value in the grammar.
+    ghost Entry: { Type 0 };
+
+    ghost entry: { Self → Entry };
+
+    /// The word of each.
+    ghost word: { Entry → List ℕ };
+
+    /// The word.
+    fn text(self) -> &'static str
+        ensures { result.now ≡ word (entry self) };
+}
+
+/// The first of these values whose word is written so.
+pub fn find_among<T: Spelled>(values: &[T], text: &[u8]) -> Option<T>
+    ensures { option_map T.entry result ≡ find_by T.word text.now (map T.entry values.now) }
+{
+    for value in values {
+        if text == value.text().as_bytes() {
+            return Some(*value);
+        }
+    }
+    None
 }
 
 impl<'a> Parser<'a> {
