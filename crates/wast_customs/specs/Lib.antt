@@ -2,6 +2,4 @@ pub mod CustomTree
 pub mod Dylink
 pub mod DylinkSyntax
 pub mod CustomSyntax
-pub mod Exports
 pub mod CustomViews
-pub mod ExportViews

@@ -6,8 +6,9 @@ ghost use Rattle.wast_customs.specs.DylinkSyntax as words;
 ghost use Rattle.wast_customs.specs.DylinkSyntax.{flag_word, flag_bit, symbol_flags, with_flags, flag, flags};
 ghost use Rattle.wast_customs.specs.CustomViews.{flag_view};
 
-use crate::word::{Spelled, find_among};
-use wast_parser::{Cursor, Error, Item, Meaning, Parse, Parser, Peek, WordSet, list_of};
+use wast_parser::{
+    Cursor, Error, Item, Meaning, Parse, Parser, Peek, Spelled, WordSet, find_among, list_of,
+};
 
 /// A flag that has a word.
 #[derive(Clone, Copy)]
@@ -46,11 +47,11 @@ impl WordSet for SymbolFlag {
 }
 
 impl Spelled for SymbolFlag {
-    ghost Letter = { words.SymbolFlag };
+    ghost Entry = { words.SymbolFlag };
 
-    ghost letter = { flag_view };
+    ghost entry = { flag_view };
 
-    ghost spelled = { flag_word };
+    ghost word = { flag_word };
 
     fn text(self) -> &'static str {
         match self {

@@ -7,10 +7,10 @@ ghost use Rattle.wast_customs.specs.CustomSyntax as syntax;
 ghost use Rattle.wast_customs.specs.CustomSyntax.{anchor, anchors, anchor_word, sides, side_word, place_on, place_body, custom_place};
 ghost use Rattle.wast_customs.specs.CustomViews.{anchor_view, side_view, place_tree};
 
-use crate::kw;
-use crate::word::{Spelled, find_among};
+use crate::keyword;
 use wast_parser::{
-    Cursor, Error, Item, Keyword, LParen, Meaning, Parse, Parser, Peek, RParen, WordSet,
+    Cursor, Error, Item, Keyword, LParen, Meaning, Parse, Parser, Peek, RParen, Spelled, WordSet,
+    find_among,
 };
 
 /// A section that a place names.
@@ -69,11 +69,11 @@ impl WordSet for CustomPlaceAnchor {
 }
 
 impl Spelled for CustomPlaceAnchor {
-    ghost Letter = { spec.Anchor };
+    ghost Entry = { spec.Anchor };
 
-    ghost letter = { anchor_view };
+    ghost entry = { anchor_view };
 
-    ghost spelled = { anchor_word };
+    ghost word = { anchor_word };
 
     fn text(self) -> &'static str {
         match self {
@@ -134,11 +134,11 @@ impl WordSet for Side {
 }
 
 impl Spelled for Side {
-    ghost Letter = { syntax.Side };
+    ghost Entry = { syntax.Side };
 
-    ghost letter = { side_view };
+    ghost entry = { side_view };
 
-    ghost spelled = { side_word };
+    ghost word = { side_word };
 
     fn text(self) -> &'static str {
         match self {
@@ -203,7 +203,7 @@ fn parse_before(parser: &mut Parser<'_>) -> Result<CustomPlace, Error>
     ensures read { Gives place_tree result parser.new ((place_on syntax.Ahead).reads (ahead parser.old)) }
     ensures keeps { Keeps parser.old parser.new }
 {
-    if parser.peek::<Keyword<kw::First>>()? {
+    if parser.peek::<Keyword<keyword::First>>()? {
         parser.word("first")?;
         Ok(CustomPlace::BeforeFirst)
     } else {
@@ -215,7 +215,7 @@ fn parse_after(parser: &mut Parser<'_>) -> Result<CustomPlace, Error>
     ensures read { Gives place_tree result parser.new ((place_on syntax.Behind).reads (ahead parser.old)) }
     ensures keeps { Keeps parser.old parser.new }
 {
-    if parser.peek::<Keyword<kw::Last>>()? {
+    if parser.peek::<Keyword<keyword::Last>>()? {
         parser.word("last")?;
         Ok(CustomPlace::AfterLast)
     } else {

@@ -9,12 +9,12 @@ ghost use Rattle.wast_customs.specs.CustomTree as spec;
 ghost use Rattle.wast_customs.specs.CustomSyntax.{producer_word, producer_kinds, producer_starts, producer_body, producer, producers_body, producers};
 ghost use Rattle.wast_customs.specs.CustomViews.{kind_view, producer_tree, producers_tree};
 
-use crate::word::{Spelled, find_among};
 use std::alloc::Global;
 use std::borrow::CowStr;
 use wast_lexer::Span;
 use wast_parser::{
-    Cursor, Error, Item, LParen, Meaning, Parse, Parser, Peek, RParen, WordSet, list_of,
+    Cursor, Error, Item, LParen, Meaning, Parse, Parser, Peek, RParen, Spelled, WordSet,
+    find_among, list_of,
 };
 
 /// What producers say of themselves: `(@producers (language "C" "23") ..)`, in the order in which it is written.
@@ -62,11 +62,11 @@ impl WordSet for ProducerKind {
 }
 
 impl Spelled for ProducerKind {
-    ghost Letter = { spec.ProducerKind };
+    ghost Entry = { spec.ProducerKind };
 
-    ghost letter = { kind_view };
+    ghost entry = { kind_view };
 
-    ghost spelled = { producer_word };
+    ghost word = { producer_word };
 
     fn text(self) -> &'static str {
         match self {

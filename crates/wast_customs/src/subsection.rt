@@ -12,12 +12,11 @@ ghost use Rattle.wast_customs.specs.CustomViews.{group_view, subsection_tree};
 
 use crate::dylink::Dylink0Subsection;
 use crate::flag::parse_flags;
-use crate::kw;
-use crate::word::{Spelled, find_among};
+use crate::keyword;
 use std::marker::PhantomData;
 use wast_parser::{
     Cursor, Error, Item, Keyword, KeywordName, LParen, Meaning, Parse, Parser, Peek, RParen,
-    WordSet, list_of,
+    Spelled, WordSet, find_among, list_of,
 };
 
 /// What a group speaks of.
@@ -53,11 +52,11 @@ impl WordSet for GroupKind {
 }
 
 impl Spelled for GroupKind {
-    ghost Letter = { words.GroupKind };
+    ghost Entry = { words.GroupKind };
 
-    ghost letter = { group_view };
+    ghost entry = { group_view };
 
-    ghost spelled = { group_word };
+    ghost word = { group_word };
 
     fn text(self) -> &'static str {
         match self {
@@ -138,8 +137,8 @@ fn parse_mem_info<'a>(parser: &mut Parser<'a>) -> Result<Dylink0Subsection<'a>, 
     ensures read { Gives subsection_tree result parser.new ((within words.MemInfoGroup).reads (ahead parser.old)) }
     ensures keeps { Keeps parser.old parser.new }
 {
-    let memory: Option<Extent<kw::Memory>> = Option::parse(parser)?;
-    let table: Option<Extent<kw::Table>> = Option::parse(parser)?;
+    let memory: Option<Extent<keyword::Memory>> = Option::parse(parser)?;
+    let table: Option<Extent<keyword::Table>> = Option::parse(parser)?;
     let (memory_size, memory_align) = size_and_align(memory);
     let (table_size, table_align) = size_and_align(table);
     Ok(Dylink0Subsection::MemInfo {

@@ -1,5 +1,0 @@
-use Rattle.wast_customs.proofs.ExportLaws.{export_kind_laws}
-use Rattle.wast_customs.proofs.export.ExportKindMeaning.lawful.Goals as goal
-
-pub returns : goal.returns
-returns c = export_kind_laws

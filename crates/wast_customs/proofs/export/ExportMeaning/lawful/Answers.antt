@@ -1,5 +1,0 @@
-use Rattle.wast_customs.proofs.ExportLaws.{export_laws}
-use Rattle.wast_customs.proofs.export.ExportMeaning.lawful.Goals as goal
-
-pub returns : goal.returns
-returns c = export_laws

@@ -1,5 +1,0 @@
-use Rattle.wast_customs.proofs.ExportLaws.{inline_import_laws}
-use Rattle.wast_customs.proofs.inline.InlineImportMeaning.lawful.Goals as goal
-
-pub returns : goal.returns
-returns c = inline_import_laws

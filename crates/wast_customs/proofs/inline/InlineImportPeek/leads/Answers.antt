@@ -1,5 +1,0 @@
-use Rattle.wast_customs.proofs.ExportLaws.{inline_import_leads}
-use Rattle.wast_customs.proofs.inline.InlineImportPeek.leads.Goals as goal
-
-pub returns : goal.returns
-returns c = inline_import_leads 0
