@@ -1,0 +1,71 @@
+-- The laws of the syntax of operands in which types stand: each mirrors its production.
+use Rattle.std.proofs.Common.{◌≡◌, refl, ap, [], None, inl, inr, false, subst}
+use Rattle.wast_parser.specs.Lawful.{Settles}
+use Rattle.wast_parser.specs.Grammar.{Syntax, wide, among, seq, only, maybe, many}
+use Rattle.wast_parser.specs.Identifiers.{identifier, index}
+use Rattle.wast_parser.proofs.GrammarLaws.{Lawful, among_laws, nothing_laws, seen_laws, only_laws, seq_laws, next_laws, maybe_laws, many_laws, either_laws, paren_laws, many_settles, seq_settles, seen_settles, one_value}
+use Rattle.wast_grammar.proofs.Looks.{absurd_of}
+use Rattle.wast_parser.proofs.IdentifierLaws.{identifier_laws, index_laws}
+use Rattle.wast_value_types.specs.ValueSyntax.{index_starts, ref_type}
+use Rattle.wast_value_types.proofs.ValueLaws.{ref_type_laws}
+use Rattle.wast_core_types.specs.TypeTree.{TypeUse}
+use Rattle.wast_core_types.specs.TypeSyntax.{id_starts, result, bare_use}
+use Rattle.wast_core_types.proofs.TypeLaws.{result_laws, bare_use_laws}
+use Rattle.wast_typed_operands.specs.TypedSyntax.{CatchWord, Tag, TagRef, All, AllRef, catch_text, catch_words, catch_starts, use_starts, result_starts, is_written, as_block, block, clause_indices, clause_body, clause, as_try_table, try_table, written_use, table_first, table_last, no_use, use_first, indirect, select_types, types_of, cast, as_cast}
+
+-- What no token spells is not nothing.
+solid_laws : {N P A : Type 0} (g : Syntax N P A) → Lawful g → ((a : A) → g.spells a [] → ⊥) → Lawful (wide g.starts false g.stops g)
+solid_laws {N} {P} {A} g lg some = record {
+  sound = λ ts x e. (let s = lg.sound ts x e in record { taken = s.taken; parts = s.parts; spelled = s.spelled });
+  complete = lg.complete;
+  leads = λ a us rest s. elim (lg.leads a us rest s) [ inl y ↦ inl y | inr z ↦ absurd (some a (subst (λ ts. g.spells a ts) z.1 s)) ];
+  whole = lg.whole;
+}
+
+module _ {N P : Type 0} where
+  pub block_laws : Lawful (block {N = N} {P = P})
+  block_laws = seen_laws as_block _ (seq_laws _ _ (maybe_laws id_starts identifier identifier_laws refl refl refl) bare_use_laws refl)
+
+  two_laws : Lawful (seq {N = N} {P = P} index index)
+  two_laws = seq_laws index index index_laws index_laws refl
+
+  clause_indices_laws : (w : CatchWord) → Lawful (wide index_starts false [] (clause_indices {N = N} {P = P} w))
+  clause_indices_laws Tag = seen_laws _ _ two_laws
+  clause_indices_laws TagRef = seen_laws _ _ two_laws
+  clause_indices_laws All = seen_laws _ _ index_laws
+  clause_indices_laws AllRef = seen_laws _ _ index_laws
+
+  pub clause_body_laws : Lawful (clause_body {N = N} {P = P})
+  clause_body_laws = seen_laws _ _ (next_laws (among catch_text catch_words []) (λ w. clause_indices w.0) index_starts false [] (among_laws catch_text catch_words []) (λ w. clause_indices_laws w.0) refl)
+
+  pub clause_laws : Lawful (clause {N = N} {P = P})
+  clause_laws = paren_laws clause_body clause_body_laws refl refl
+
+  pub try_table_laws : Lawful (try_table {N = N} {P = P})
+  try_table_laws = seen_laws as_try_table _ (seq_laws block (many catch_starts clause) block_laws (many_laws catch_starts clause clause_laws refl refl refl refl refl) refl)
+
+  -- no clause is left behind them
+  pub try_table_settles : Settles (try_table {N = N} {P = P}) catch_starts
+  try_table_settles = seen_settles as_try_table _ catch_starts (seq_settles block (many catch_starts clause) catch_starts (many_settles catch_starts clause))
+
+  -- no tokens spell the use that has no part alone
+  no_use_spelled : (bare_use {N = N} {P = P}).spells no_use []
+  no_use_spelled = ((None, None), refl, ([], [], refl, refl, (([], []), refl, ([], [], refl, refl, refl))))
+
+  of_nothing : (u : TypeUse N P) → bare_use.spells u [] → u ≡ no_use
+  of_nothing u s = one_value bare_use bare_use_laws refl [] u no_use s no_use_spelled
+
+  written_use_laws : Lawful (written_use {N = N} {P = P})
+  written_use_laws = solid_laws (only is_written bare_use) (only_laws is_written bare_use bare_use_laws) (λ u s. absurd_of (is_written u) s.0 (ap is_written (of_nothing u s.1)))
+
+  use_first_laws : Lawful (use_first {N = N} {P = P})
+  use_first_laws = either_laws use_starts _ _ (seen_laws table_last _ (seq_laws written_use (maybe index_starts index) written_use_laws (maybe_laws index_starts index index_laws refl refl refl) refl)) (seen_laws _ _ nothing_laws) refl refl refl refl
+
+  pub indirect_laws : Lawful (indirect {N = N} {P = P})
+  indirect_laws = either_laws index_starts _ use_first (seen_laws table_first _ (seq_laws index bare_use index_laws bare_use_laws refl)) use_first_laws refl refl refl refl
+
+  pub select_types_laws : Lawful (select_types {N = N} {P = P})
+  select_types_laws = seen_laws types_of _ (many_laws result_starts result result_laws refl refl refl refl refl)
+
+  pub cast_laws : Lawful (cast {N = N} {P = P})
+  cast_laws = seen_laws as_cast _ (seq_laws index (seq ref_type ref_type) index_laws (seq_laws ref_type ref_type ref_type_laws ref_type_laws refl) refl)

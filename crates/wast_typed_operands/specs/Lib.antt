@@ -1,0 +1,2 @@
+pub mod TypedSyntax
+pub mod TypedTree
