@@ -1,9 +1,13 @@
 -- The laws of the syntax of operands in which types stand: each mirrors its production.
-use Rattle.std.proofs.Common.{◌≡◌, refl, ap, [], None, inl, inr, false, subst}
-use Rattle.wast_parser.specs.Lawful.{Settles}
-use Rattle.wast_parser.specs.Grammar.{Syntax, wide, among, seq, only, maybe, many}
-use Rattle.wast_parser.specs.Identifiers.{identifier, index}
-use Rattle.wast_parser.proofs.GrammarLaws.{Lawful, among_laws, nothing_laws, seen_laws, only_laws, seq_laws, next_laws, maybe_laws, many_laws, either_laws, paren_laws, many_settles, seq_settles, seen_settles, one_value}
+use Rattle.std.specs.Prelude.{codes}
+use Rattle.wast_parser.specs.Tokens.{SignificantToken, Id}
+use Rattle.std.proofs.Common.{◌≡◌, refl, ap, subst, List, [], ◌∷◌, ℕ, Some, None, inl, inr, false}
+use Rattle.wast_parser.specs.Lawful.{Settles, Leads}
+use Rattle.wast_parser.specs.Grammar.{Syntax, wide, seq, only, maybe, many, group}
+use Rattle.wast_parser.specs.Identifiers.{Reference, ByName, identifier, index}
+use Rattle.wast_parser.specs.Look.{this_group}
+use Rattle.wast_parser.proofs.GrammarLaws.{Lawful, nothing_laws, seen_laws, only_laws, seq_laws, maybe_laws, many_laws, either_laws, group_laws, many_settles, seq_settles, seen_settles, one_value}
+use Rattle.wast_parser.proofs.LeadLaws.{seen_leads, either_leads, group_leads}
 use Rattle.wast_grammar.proofs.Looks.{absurd_of}
 use Rattle.wast_parser.proofs.IdentifierLaws.{identifier_laws, index_laws}
 use Rattle.wast_value_types.specs.ValueSyntax.{index_starts, ref_type}
@@ -11,7 +15,7 @@ use Rattle.wast_value_types.proofs.ValueLaws.{ref_type_laws}
 use Rattle.wast_core_types.specs.TypeTree.{TypeUse}
 use Rattle.wast_core_types.specs.TypeSyntax.{id_starts, result, bare_use}
 use Rattle.wast_core_types.proofs.TypeLaws.{result_laws, bare_use_laws}
-use Rattle.wast_typed_operands.specs.TypedSyntax.{CatchWord, Tag, TagRef, All, AllRef, catch_text, catch_words, catch_starts, use_starts, result_starts, is_written, as_block, block, clause_indices, clause_body, clause, as_try_table, try_table, written_use, table_first, table_last, no_use, use_first, indirect, select_types, types_of, cast, as_cast}
+use Rattle.wast_typed_operands.specs.TypedSyntax.{catch_starts, use_starts, result_starts, is_written, as_block, block, tag_label, clause, as_try_table, try_table, no_use, written_use, table_first, table_last, use_first, indirect, select_types, types_of, cast, as_cast}
 
 -- What no token spells is not nothing.
 solid_laws : {N P A : Type 0} (g : Syntax N P A) → Lawful g → ((a : A) → g.spells a [] → ⊥) → Lawful (wide g.starts false g.stops g)
@@ -26,20 +30,14 @@ module _ {N P : Type 0} where
   pub block_laws : Lawful (block {N = N} {P = P})
   block_laws = seen_laws as_block _ (seq_laws _ _ (maybe_laws id_starts identifier identifier_laws refl refl refl) bare_use_laws refl)
 
-  two_laws : Lawful (seq {N = N} {P = P} index index)
-  two_laws = seq_laws index index index_laws index_laws refl
-
-  clause_indices_laws : (w : CatchWord) → Lawful (wide index_starts false [] (clause_indices {N = N} {P = P} w))
-  clause_indices_laws Tag = seen_laws _ _ two_laws
-  clause_indices_laws TagRef = seen_laws _ _ two_laws
-  clause_indices_laws All = seen_laws _ _ index_laws
-  clause_indices_laws AllRef = seen_laws _ _ index_laws
-
-  pub clause_body_laws : Lawful (clause_body {N = N} {P = P})
-  clause_body_laws = seen_laws _ _ (next_laws (among catch_text catch_words []) (λ w. clause_indices w.0) index_starts false [] (among_laws catch_text catch_words []) (λ w. clause_indices_laws w.0) refl)
+  pub tag_label_laws : Lawful (tag_label {N = N} {P = P})
+  tag_label_laws = seq_laws index index index_laws index_laws refl
 
   pub clause_laws : Lawful (clause {N = N} {P = P})
-  clause_laws = paren_laws clause_body clause_body_laws refl refl
+  clause_laws =
+      either_laws (this_group (codes "catch") ∷ []) _ _ (seen_laws _ _ (group_laws (codes "catch") tag_label tag_label_laws refl))
+      (either_laws (this_group (codes "catch_ref") ∷ []) _ _ (seen_laws _ _ (group_laws (codes "catch_ref") tag_label tag_label_laws refl))
+      (either_laws (this_group (codes "catch_all") ∷ []) _ _ (seen_laws _ _ (group_laws (codes "catch_all") index index_laws refl)) (seen_laws _ _ (group_laws (codes "catch_all_ref") index index_laws refl)) refl refl refl refl) refl refl refl refl) refl refl refl refl
 
   pub try_table_laws : Lawful (try_table {N = N} {P = P})
   try_table_laws = seen_laws as_try_table _ (seq_laws block (many catch_starts clause) block_laws (many_laws catch_starts clause clause_laws refl refl refl refl refl) refl)
@@ -69,3 +67,28 @@ module _ {N P : Type 0} where
 
   pub cast_laws : Lawful (cast {N = N} {P = P})
   cast_laws = seen_laws as_cast _ (seq_laws index (seq ref_type ref_type) index_laws (seq_laws ref_type ref_type ref_type_laws ref_type_laws refl) refl)
+
+  -- WHERE CLAUSES BEGIN
+  abbrev an_index : N → P → Reference N P
+  an_index n p = ByName ((n, p), 0)
+
+  abbrev named : N → P → List (SignificantToken N P)
+  named n p = Id (Some n) p ∷ []
+
+  index_spelled : (n : N) (p : P) → index.spells (an_index n p) (named n p)
+  index_spelled n p = inr (((n, p), 0), refl, ((n, p), refl, (Id (Some n) p, refl, refl)))
+
+  all_leads : (w : List ℕ) → N → P → Leads (group {N = N} {P = P} w index).spells (this_group w ∷ [])
+  all_leads w n p = group_leads w index index_laws (an_index n p) (named n p) (index_spelled n p)
+
+  tag_leads : (w : List ℕ) → N → P → Leads (group {N = N} {P = P} w tag_label).spells (this_group w ∷ [])
+  tag_leads w n p = group_leads w tag_label tag_label_laws (an_index n p, an_index n p) (Id (Some n) p ∷ Id (Some n) p ∷ []) (named n p, named n p, refl, index_spelled n p, index_spelled n p)
+
+  pub clause_leads : N → P → Leads (clause {N = N} {P = P}).spells catch_starts
+  clause_leads n p =
+      either_leads _ _ (this_group (codes "catch") ∷ []) _ (seen_leads _ _ (this_group (codes "catch") ∷ []) (tag_leads (codes "catch") n p))
+      (either_leads _ _ (this_group (codes "catch_ref") ∷ []) _ (seen_leads _ _ (this_group (codes "catch_ref") ∷ []) (tag_leads (codes "catch_ref") n p))
+      (either_leads _ _ (this_group (codes "catch_all") ∷ []) (this_group (codes "catch_all_ref") ∷ [])
+      (seen_leads _ _ (this_group (codes "catch_all") ∷ []) (all_leads (codes "catch_all") n p))
+      (seen_leads _ _ (this_group (codes "catch_all_ref") ∷ []) (all_leads (codes "catch_all_ref") n p))
+      refl refl refl) refl refl refl) refl refl refl

@@ -1,2 +1,3 @@
 pub mod TypedSyntax
 pub mod TypedTree
+pub mod TypedViews

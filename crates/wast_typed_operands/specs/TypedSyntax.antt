@@ -1,7 +1,7 @@
 -- The syntax of operands in which types stand (WebAssembly 3.0, 6.5).
-use Rattle.std.specs.Prelude.{ℕ, ◌||◌, Bool, true, false, List, [], ◌∷◌, Option, Some, None, is_some, codes, map}
-use Rattle.wast_parser.specs.Look.{Test, On, AWord, OneOf, this_group, join}
-use Rattle.wast_parser.specs.Grammar.{Syntax, among, nothing, next, seq, wide, seen, only, maybe, many, either, paren}
+use Rattle.std.specs.Prelude.{◌||◌, Bool, false, List, [], ◌∷◌, Option, Some, None, is_some, codes}
+use Rattle.wast_parser.specs.Look.{Test, this_group, join}
+use Rattle.wast_parser.specs.Grammar.{Syntax, nothing, seq, wide, seen, only, maybe, many, either, group}
 use Rattle.wast_parser.specs.Identifiers.{Reference, Named, identifier, index}
 use Rattle.wast_value_types.specs.ValueTree.{RefType, ValType}
 use Rattle.wast_value_types.specs.ValueSyntax.{index_starts, ref_type}
@@ -9,25 +9,9 @@ use Rattle.wast_core_types.specs.TypeTree.{TypeUse}
 use Rattle.wast_core_types.specs.TypeSyntax.{id_starts, type_starts, sig_starts, joined, result, bare_use}
 use Rattle.wast_typed_operands.specs.TypedTree.{Block, Catch, CatchTag, CatchTagRef, CatchAll, CatchAllRef, TryTable, Indirect, Cast}
 
--- THE WORDS OF CLAUSES (6.5.2)
-pub data CatchWord : Type 0 where
-  Tag : CatchWord
-  TagRef : CatchWord
-  All : CatchWord
-  AllRef : CatchWord
-
-abbrev pub catch_text : CatchWord → List ℕ
-catch_text Tag = codes "catch"
-catch_text TagRef = codes "catch_ref"
-catch_text All = codes "catch_all"
-catch_text AllRef = codes "catch_all_ref"
-
-abbrev pub catch_words : List CatchWord
-catch_words = Tag ∷ TagRef ∷ All ∷ AllRef ∷ []
-
 -- WHAT THEY BEGIN WITH
 abbrev pub catch_starts : List Test
-catch_starts = On true AWord (OneOf (map catch_text catch_words) []) ∷ []
+catch_starts = this_group (codes "catch") ∷ this_group (codes "catch_ref") ∷ this_group (codes "catch_all") ∷ this_group (codes "catch_all_ref") ∷ []
 
 abbrev pub use_starts : List Test
 use_starts = join type_starts sig_starts
@@ -48,17 +32,14 @@ module _ {N P : Type 0} where
   block = seen as_block (seq (maybe id_starts identifier) bare_use)
 
   -- CLAUSES: (catch tag label), (catch_ref tag label), (catch_all label), (catch_all_ref label)
-  abbrev pub clause_indices : CatchWord → Syntax N P (Catch N P)
-  clause_indices Tag = seen (λ x. CatchTag x.0 x.1) (seq index index)
-  clause_indices TagRef = seen (λ x. CatchTagRef x.0 x.1) (seq index index)
-  clause_indices All = seen CatchAll index
-  clause_indices AllRef = seen CatchAllRef index
-
-  abbrev pub clause_body : Syntax N P (Catch N P)
-  clause_body = seen (λ x. x.1) (next (among catch_text catch_words []) (λ w. clause_indices w.0) index_starts false [])
+  abbrev pub tag_label : Syntax N P (Reference N P × Reference N P)
+  tag_label = seq index index
 
   abbrev pub clause : Syntax N P (Catch N P)
-  clause = paren clause_body
+  clause =
+      either (this_group (codes "catch") ∷ []) (seen (λ x. CatchTag x.0 x.1) (group (codes "catch") tag_label))
+      (either (this_group (codes "catch_ref") ∷ []) (seen (λ x. CatchTagRef x.0 x.1) (group (codes "catch_ref") tag_label))
+      (either (this_group (codes "catch_all") ∷ []) (seen CatchAll (group (codes "catch_all") index)) (seen CatchAllRef (group (codes "catch_all_ref") index))))
 
   abbrev pub as_try_table : Block N P × List (Catch N P) → TryTable N P
   as_try_table t = record { block = t.0; catches = t.1 }
