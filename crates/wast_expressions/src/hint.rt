@@ -9,7 +9,7 @@ ghost use Rattle.wast_parser.specs.Cursors.{stands};
 ghost use Rattle.wast_expressions.specs.Expressions.{hint, hint_body, hint_tests};
 ghost use Rattle.wast_expressions.specs.Views.{IsHintOf};
 
-use wast_parser::{Cursor, Error, Meaning, Parse, Parser, Peek};
+use wast_parser::{Cursor, Error, Item, Meaning, Parse, Parser, Peek};
 
 /// A hint whether a branch is taken: the index of the instruction that bears it, among those of its expression, and its
 /// value, 0 or 1.
@@ -59,8 +59,6 @@ impl<'a> Parse<'a> for HintValue {
 impl Peek for HintValue {
     ghost plain = { refl };
 
-    ghost full = { refl };
-
     ghost sure = { refl };
 
     fn leads()
@@ -76,6 +74,10 @@ impl Peek for HintValue {
     fn display() -> &'static str {
         "a branch hint"
     }
+}
+
+impl Item for HintValue {
+    ghost inside = { refl };
 }
 
 /// What stands between the parentheses of a hint.

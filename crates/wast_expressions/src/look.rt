@@ -32,8 +32,6 @@ impl<I: Operation> Meaning for Word<I> {
 impl<I: Operation> Peek for Word<I> {
     ghost plain = { refl };
 
-    ghost full = { refl };
-
     ghost sure = { refl };
 
     fn leads() {}
