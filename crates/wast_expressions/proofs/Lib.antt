@@ -1,7 +1,10 @@
 pub mod Apart
 pub mod ExpressionLaws
+pub mod Flat
 pub mod FoldedLaws
+pub mod Folds
 pub mod Hinted
+pub mod Kept
 pub mod MachineLaws
 pub mod Outs
 pub mod Peeks
