@@ -1,6 +1,28 @@
-//! Expressions, folded and flat (WebAssembly Core Specification 3.0, 6.5), over any syntax of instructions.
+//! Expressions, folded and flat (WebAssembly Core Specification 3.0, 6.5), over any set of instructions.
+//!
+//! An instruction type says by [`Operation`] which tokens spell it, which group it heads, and what would go on with it, and by
+//! [`ParseOperation`] that it is read so. Over it [`parse_items`] reads items up to an end, [`parse_folded_instruction`] an
+//! instruction behind its operands, [`parse_plain`] the same without blocks, and [`parse_offset`] the offset of data. What they
+//! answer are [`Instructions`]: in the order in which they are carried out, with an `end` for each block and an `else` for each
+//! second arm, and the hints by the indices of the instructions that bear them. All are read by loops with a stack of their own,
+//! so no depth of groups is too deep; [`parse_counted`] counts the turns.
+//!
+//! Hints are shown only where the annotation `metadata.code.branch_hint` is registered.
+//!
+//! # What has to be believed
+//!
+//! | File of `specs/` | Says |
+//! |---|---|
+//! | `Items` | items as they are written, and the instructions that they unfold to, with their hints |
+//! | `Expressions` | which tokens spell hints, groups, items, expressions, plain groups and offsets |
+//! | `Heeds` | what is asked of a syntax of instructions, beside its law |
+//! | `Views` | what the grammar sees of the types of the code |
+//! | `Laws` | the statements of the law functions |
+//!
+//! `Machine` and `Partial` serve private contracts, and the count of turns.
 #![tactic(auto)]
 
+mod data;
 mod expression;
 mod hint;
 pub mod laws;
@@ -12,6 +34,7 @@ mod steps;
 mod token;
 mod turn;
 
+pub use data::parse_offset;
 pub use expression::{parse_counted, parse_items};
 pub use hint::BranchHint;
 pub use offset::{parse_folded_instruction, parse_plain};

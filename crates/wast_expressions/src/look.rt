@@ -57,6 +57,18 @@ impl KeywordName for Else {
     }
 }
 
+/// The word that leads an offset.
+#[derive(Drop)]
+pub(crate) struct Offset;
+
+impl KeywordName for Offset {
+    ghost word = { codes "offset" };
+
+    fn text() -> &'static str {
+        "offset"
+    }
+}
+
 /// Whether a parenthesis opens here and such a word stands behind it.
 pub(crate) fn peek_led<T: Peek>(parser: &Parser<'_>) -> Result<bool, Error>
     requires { (t : Texts) × (T.syntax.starts ≡ On false AWord t ∷ []) }
