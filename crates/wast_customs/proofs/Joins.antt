@@ -2,7 +2,8 @@
 use Rattle.std.proofs.Common.{◌≡◌, List, [], ◌∷◌, ◌++◌, ℕ, map, refl, sym, ◌∙◌, ap, append_assoc}
 use Rattle.std.proofs.lemmas.List.{map-append}
 use Rattle.wast_customs.specs.CustomTree.{Subsection, MemInfo, Needed, ExportInfo, ImportInfo, RuntimePath}
-use Rattle.wast_customs.specs.Dylink.{joined, joined_before, exports_before, imports_before}
+use Rattle.std.specs.List.{flat_map}
+use Rattle.wast_customs.specs.Dylink.{joined, joined_before, exports_before, imports_before, entries_of}
 
 -- the same, from the left
 abbrev behind : List Subsection → Subsection → List Subsection
@@ -104,3 +105,35 @@ first_one ss s e = ap (λ z. behind z s) e ∙ sym (joined_behind ss s)
 -- what is seen of one or two that are pushed
 pub pushed_two : {A : Type 0} (f : A → Subsection) (xs : List A) (a b : A) → map f ((xs ++ a ∷ []) ++ b ∷ []) ≡ map f xs ++ f a ∷ f b ∷ []
 pushed_two f xs a b = map-append f (xs ++ a ∷ []) (b ∷ []) ∙ ap (λ z. z ++ f b ∷ []) (map-append f xs (a ∷ [])) ∙ append_assoc (map f xs) (f a ∷ []) (f b ∷ [])
+
+-- WHAT IS KEPT
+exports_kept : (es : List (List ℕ × ℕ)) (ts : List Subsection) → flat_map entries_of (exports_before es ts) ≡ entries_of (ExportInfo es) ++ flat_map entries_of ts
+exports_kept es [] = refl
+exports_kept es (ExportInfo fs ∷ ts) =
+    ap (λ z. z ++ flat_map entries_of ts) (map-append (λ e. ExportInfo (e ∷ [])) es fs)
+    ∙ append_assoc (entries_of (ExportInfo es)) (entries_of (ExportInfo fs)) (flat_map entries_of ts)
+exports_kept es (MemInfo a b c d ∷ ts) = refl
+exports_kept es (Needed ns ∷ ts) = refl
+exports_kept es (ImportInfo is ∷ ts) = refl
+exports_kept es (RuntimePath ns ∷ ts) = refl
+
+imports_kept : (is : List (List ℕ × (List ℕ × ℕ))) (ts : List Subsection) → flat_map entries_of (imports_before is ts) ≡ entries_of (ImportInfo is) ++ flat_map entries_of ts
+imports_kept is [] = refl
+imports_kept is (ImportInfo js ∷ ts) =
+    ap (λ z. z ++ flat_map entries_of ts) (map-append (λ i. ImportInfo (i ∷ [])) is js)
+    ∙ append_assoc (entries_of (ImportInfo is)) (entries_of (ImportInfo js)) (flat_map entries_of ts)
+imports_kept is (MemInfo a b c d ∷ ts) = refl
+imports_kept is (Needed ns ∷ ts) = refl
+imports_kept is (ExportInfo es ∷ ts) = refl
+imports_kept is (RuntimePath ns ∷ ts) = refl
+
+one_kept : (s : Subsection) (ts : List Subsection) → flat_map entries_of (joined_before s ts) ≡ entries_of s ++ flat_map entries_of ts
+one_kept (ExportInfo es) ts = exports_kept es ts
+one_kept (ImportInfo is) ts = imports_kept is ts
+one_kept (MemInfo a b c d) ts = refl
+one_kept (Needed ns) ts = refl
+one_kept (RuntimePath ns) ts = refl
+
+pub all_kept : (ss : List Subsection) → flat_map entries_of (joined ss) ≡ flat_map entries_of ss
+all_kept [] = refl
+all_kept (s ∷ ss) = one_kept s (joined ss) ∙ ap (λ z. entries_of s ++ z) (all_kept ss)

@@ -1,5 +1,5 @@
 -- The subsections of `dylink.0` (tool conventions, dynamic linking): how those that are written are joined, and their bytes.
-use Rattle.std.specs.Prelude.{ℕ, ◌<◌, ◌^◌, List, [], ◌∷◌, ◌++◌, length, All}
+use Rattle.std.specs.Prelude.{map, ℕ, ◌<◌, ◌^◌, List, [], ◌∷◌, ◌++◌, length, All}
 use Rattle.wasm_encoder_base.specs.Leb.{uleb}
 use Rattle.wasm_encoder_base.specs.Bytes.{counted, sized}
 use Rattle.wast_customs.specs.CustomTree.{Subsection, MemInfo, Needed, ExportInfo, ImportInfo, RuntimePath}
@@ -22,6 +22,12 @@ joined_before s rest = s ∷ rest
 abbrev pub joined : List Subsection → List Subsection
 joined [] = []
 joined (s ∷ ss) = joined_before s (joined ss)
+
+-- what a subsection says, an entry at a time
+abbrev pub entries_of : Subsection → List Subsection
+entries_of (ExportInfo es) = map (λ e. ExportInfo (e ∷ [])) es
+entries_of (ImportInfo is) = map (λ i. ImportInfo (i ∷ [])) is
+entries_of s = s ∷ []
 
 -- the number of a subsection
 abbrev pub subsection_id : Subsection → ℕ

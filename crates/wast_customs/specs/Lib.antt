@@ -3,3 +3,4 @@ pub mod Dylink
 pub mod DylinkSyntax
 pub mod CustomSyntax
 pub mod CustomViews
+pub mod Laws
