@@ -12,7 +12,7 @@ pub struct Several<T> {
 }
 
 /// The items of groups, one after the other.
-pub(crate) fn join<N: Drop, T: Drop>(
+pub fn join<N: Drop, T: Drop>(
     alloc: Global,
     groups: Vec<Grouped<N, Several<T>>>,
 ) -> Result<Vec<T>, AllocError>

@@ -31,7 +31,7 @@ mod type_use;
 pub use composite::{ArrayType, CompositeType, ContType, InnerTypeKind, StructField, StructType};
 pub use definition::{Rec, TypeDef, TypeItem};
 pub use group::{Body, Grouped};
-pub use join::Several;
+pub use join::{Several, join as join_groups};
 pub use signature::{FunctionType, FunctionTypeNoNames, Param};
 pub use type_use::TypeUse;
 pub use wast_value_types::{

@@ -1,0 +1,40 @@
+//! The types of `select`.
+ghost use Rattle.std.specs.Prelude.{◌≡◌, ℕ, List, Option};
+ghost use Rattle.wast_parser.specs.Lawful.{Lawful};
+ghost use Rattle.wast_value_types.specs.ValueTree as values;
+ghost use Rattle.wast_typed_operands.specs.TypedSyntax.{select_types};
+ghost use Rattle.wast_typed_operands.specs.TypedViews.{select_types_tree};
+
+use wast_core_types::{Grouped, Several, join_groups, keyword};
+use wast_parser::{Error, Meaning, Parse, Parser, list_of};
+use wast_value_types::ValType;
+
+/// The result types of `select` (6.5.2), of all its groups; none where it has no group.
+#[derive(Drop)]
+pub struct SelectTypes<'a> {
+    pub tys: Option<Vec<ValType<'a>>>,
+}
+
+impl<'a> Meaning for SelectTypes<'a> {
+    ghost Tree = { Option (List (values.ValType (List ℕ) ℕ)) };
+
+    ghost tree = { select_types_tree };
+
+    ghost syntax = { select_types };
+
+    fn lawful()
+        ensures { Lawful (select_types {N = List ℕ} {P = ℕ}) }
+    {}
+}
+
+impl<'a> Parse<'a> for SelectTypes<'a> {
+    fn parse(parser: &mut Parser<'a>) -> Result<Self, Error> {
+        let groups: Vec<Grouped<keyword::Result, Several<ValType<'a>>>> = list_of(parser)?;
+        if groups.is_empty() {
+            Ok(SelectTypes { tys: None })
+        } else {
+            let tys = join_groups(parser.alloc(), groups)?;
+            Ok(SelectTypes { tys: Some(tys) })
+        }
+    }
+}
