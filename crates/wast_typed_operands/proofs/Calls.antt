@@ -12,6 +12,7 @@ use Rattle.wast_core_types.specs.TypeTree.{TypeUse, Sig}
 use Rattle.wast_core_types.specs.TypeSyntax.{type_starts, sig_starts, as_use, as_bare, bare_param, bare_sig, bare_use, result, index_of}
 use Rattle.wast_core_types.proofs.Uses.{inline_looked}
 use Rattle.wast_typed_operands.specs.TypedTree.{Indirect}
+use Rattle.wast_typed_operands.specs.UseThenTable.{use_then_table}
 use Rattle.wast_typed_operands.specs.TypedSyntax.{is_written, use_starts, use_first, table_last, no_use}
 
 module _ {N P : Type 0} (g : Reader N P (Reference N P)) (q : Reader N P (Sig N P)) (tail : Reader N P (Option (Reference N P))) where
@@ -119,3 +120,6 @@ module _ {N P : Type 0} where
   -- what reading a use, and then an index where it is written, gives
   pub use_first_read : (ts : List (SignificantToken N P)) → use_first.reads ts ≡ (bare_use.reads ts >>= after_use type_group bare_sig.reads table_behind)
   use_first_read ts = ap (asked ts) (bare_looked ts) ∙ use_looked type_group bare_sig.reads table_behind ts ∙ ap (λ w. w >>= after_use type_group bare_sig.reads table_behind) (sym (bare_looked ts))
+
+  pub use_first_reads : (ts : List (SignificantToken N P)) → use_first.reads ts ≡ use_then_table ts
+  use_first_reads ts = use_first_read ts

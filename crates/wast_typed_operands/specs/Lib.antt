@@ -1,3 +1,4 @@
 pub mod TypedSyntax
 pub mod TypedTree
 pub mod TypedViews
+pub mod UseThenTable

@@ -6,6 +6,7 @@ ghost use Rattle.wast_parser.specs.Reading.{Gives};
 ghost use Rattle.wast_typed_operands.specs.TypedTree as spec;
 ghost use Rattle.wast_typed_operands.specs.TypedSyntax.{use_first, indirect};
 ghost use Rattle.wast_typed_operands.specs.TypedViews.{indirect_tree};
+ghost use Rattle.wast_typed_operands.specs.UseThenTable.{use_then_table};
 
 use crate::block::parse_use;
 use wast_core_types::{FunctionType, TypeUse};
@@ -45,9 +46,17 @@ impl<'a> Parse<'a> for CallIndirect<'a> {
     }
 }
 
-/// The same where the table doesn't stand in front: it may stand behind a type use of which anything is written.
+/// The same where the table doesn't stand in front.
 fn parse_use_first<'a>(parser: &mut Parser<'a>) -> Result<CallIndirect<'a>, Error>
     ensures read { Gives indirect_tree result parser.new (use_first.reads (ahead parser.old)) }
+    ensures keeps { Keeps parser.old parser.new }
+{
+    use_then_table(parser)
+}
+
+/// A type use, and a table behind it where any of it is written.
+fn use_then_table<'a>(parser: &mut Parser<'a>) -> Result<CallIndirect<'a>, Error>
+    ensures read { Gives indirect_tree result parser.new (use_then_table (ahead parser.old)) }
     ensures keeps { Keeps parser.old parser.new }
 {
     let ty = parse_use(parser)?;

@@ -1,10 +1,12 @@
 //! The types of `select`.
-ghost use Rattle.std.specs.Prelude.{◌≡◌, ℕ, List, Option};
+ghost use Rattle.std.specs.Prelude.{◌≡◌, ℕ, List, Option, IfOk, map};
 ghost use Rattle.wast_parser.specs.Lawful.{Lawful};
 ghost use Rattle.wast_value_types.specs.ValueTree as values;
-ghost use Rattle.wast_typed_operands.specs.TypedSyntax.{select_types};
+ghost use Rattle.wast_value_types.specs.ValueViews.{val_tree};
+ghost use Rattle.wast_typed_operands.specs.TypedSyntax.{types_of, select_types};
 ghost use Rattle.wast_typed_operands.specs.TypedViews.{select_types_tree};
 
+use std::alloc::{AllocError, Global};
 use wast_core_types::{Grouped, Several, join_groups, keyword};
 use wast_parser::{Error, Meaning, Parse, Parser, list_of};
 use wast_value_types::ValType;
@@ -29,12 +31,21 @@ impl<'a> Meaning for SelectTypes<'a> {
 
 impl<'a> Parse<'a> for SelectTypes<'a> {
     fn parse(parser: &mut Parser<'a>) -> Result<Self, Error> {
-        let groups: Vec<Grouped<keyword::Result, Several<ValType<'a>>>> = list_of(parser)?;
-        if groups.is_empty() {
-            Ok(SelectTypes { tys: None })
-        } else {
-            let tys = join_groups(parser.alloc(), groups)?;
-            Ok(SelectTypes { tys: Some(tys) })
-        }
+        let groups: Vec<Group<'a>> = list_of(parser)?;
+        Ok(all_types(parser.alloc(), groups)?)
     }
+}
+
+/// `(result t*)`
+type Group<'a> = Grouped<keyword::Result, Several<ValType<'a>>>;
+
+/// The types of all groups, where there is one.
+fn all_types<'a>(alloc: Global, groups: Vec<Group<'a>>) -> Result<SelectTypes<'a>, AllocError>
+    ensures { IfOk result (λ s. select_types_tree s ≡ types_of (map (λ g. map val_tree g.value.items.items) groups.entry.items)) }
+{
+    if groups.is_empty() {
+        return Ok(SelectTypes { tys: None });
+    }
+    let tys = join_groups(alloc, groups)?;
+    Ok(SelectTypes { tys: Some(tys) })
 }
