@@ -1,9 +1,8 @@
 //! Operands of instructions in which no type stands (WebAssembly Core Specification 3.0, 6.5).
 //!
-//! Each type is read by its production; a memory argument, of which the natural alignment depends on the instruction, by a
-//! function of its own. An index that may be left out and is means index 0, and is `None`. So of `memory.copy 1 2` the operand
-//! is the pair of 1, where to, and 2, where from, and of `offset=8` before `i32.load`'s next instruction a memory argument
-//! with the offset 8 and the alignment 4.
+//! Each type is read by its production; a memory argument, whose natural alignment the instruction says, by a function of its
+//! own. An index that may be left out and is stands for index 0, and is `None`. So of `memory.copy 1 2` the operands are 1,
+//! where to, and 2, where from; and of `i32.load offset=8` the memory argument has the offset 8, the alignment 4 and no target.
 //!
 //! # What has to be believed
 //!
