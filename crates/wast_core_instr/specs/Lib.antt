@@ -1,0 +1,4 @@
+pub mod InstructionSyntax
+pub mod InstructionTree
+pub mod InstructionViews
+pub mod WordViews

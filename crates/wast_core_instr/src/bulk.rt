@@ -1,0 +1,18 @@
+//! Bulk instructions.
+use wast_operands::{MemoryArg, MemoryCopy, MemoryInit, TableArg, TableCopy, TableInit};
+use wast_parser::Index;
+
+/// Bulk instructions on memories and tables (6.5.5, 6.5.6).
+#[derive(Drop)]
+pub enum BulkOp<'a> {
+    DataDrop(Index<'a>),
+    ElemDrop(Index<'a>),
+    MemoryFill(MemoryArg<'a>),
+    TableGrow(TableArg<'a>),
+    TableSize(TableArg<'a>),
+    TableFill(TableArg<'a>),
+    MemoryCopy(MemoryCopy<'a>),
+    TableCopy(TableCopy<'a>),
+    MemoryInit(MemoryInit<'a>),
+    TableInit(TableInit<'a>),
+}

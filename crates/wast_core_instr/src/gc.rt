@@ -1,0 +1,48 @@
+//! References, structures and arrays.
+use wast_operands::{
+    ArrayCopy, ArrayFill, ArrayInit, ArrayNewData, ArrayNewElem, ArrayNewFixed, StructAccess,
+};
+use wast_parser::Index;
+use wast_typed_operands::{BrOnCast, BrOnCastFail, RefCast, RefTest};
+use wast_value_types::HeapType;
+
+/// Instructions on references, structures and arrays (6.5.3, 6.5.7).
+#[derive(Drop)]
+pub enum GcOp<'a> {
+    RefIsNull,
+    RefEq,
+    RefAsNonNull,
+    ArrayLen,
+    AnyConvertExtern,
+    ExternConvertAny,
+    RefI31,
+    I31GetS,
+    I31GetU,
+    RefFunc(Index<'a>),
+    BrOnNull(Index<'a>),
+    BrOnNonNull(Index<'a>),
+    StructNew(Index<'a>),
+    StructNewDefault(Index<'a>),
+    ArrayNew(Index<'a>),
+    ArrayNewDefault(Index<'a>),
+    ArrayGet(Index<'a>),
+    ArrayGetS(Index<'a>),
+    ArrayGetU(Index<'a>),
+    ArraySet(Index<'a>),
+    ArrayFill(ArrayFill<'a>),
+    StructGet(StructAccess<'a>),
+    StructGetS(StructAccess<'a>),
+    StructGetU(StructAccess<'a>),
+    StructSet(StructAccess<'a>),
+    ArrayNewData(ArrayNewData<'a>),
+    ArrayNewElem(ArrayNewElem<'a>),
+    ArrayCopy(ArrayCopy<'a>),
+    ArrayInitData(ArrayInit<'a>),
+    ArrayInitElem(ArrayInit<'a>),
+    ArrayNewFixed(ArrayNewFixed<'a>),
+    RefNull(HeapType<'a>),
+    RefTest(RefTest<'a>),
+    RefCast(RefCast<'a>),
+    BrOnCast(Box<BrOnCast<'a>>),
+    BrOnCastFail(Box<BrOnCastFail<'a>>),
+}
