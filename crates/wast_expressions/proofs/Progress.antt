@@ -103,7 +103,7 @@ module _ {N P I : Type 0} (ins : Syntax N P I) (heads : Heads I) (m : Made P I) 
   turn_less (BlockEnd ∷ st) out ts = row_less (BlockEnd ∷ st) out ts
   turn_less (Arm ∷ st) out ts = row_less (Arm ∷ st) out ts
 
-  -- T4 (vii) rests on this.
+  -- That the loop makes no more turns than it takes tokens, and one more, rests on this.
   pub step_less : (s t : State N P I) → step ins heads m s ≡ Some t → length t.rest < length s.rest
   step_less s t e = subst (Less (length s.rest)) e (turn_less s.stack s.out s.rest)
 
