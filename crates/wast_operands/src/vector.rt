@@ -1,15 +1,17 @@
 //! Constants of 128 bits, and lanes.
-ghost use Rattle.std.specs.Prelude.{◌≡◌, ℕ, List, [], map, length};
+ghost use Rattle.std.specs.Prelude.{◌≡◌, ℕ, List, [], map, length, refl};
 ghost use Rattle.std.specs.Int.{w32, w64};
+ghost use Rattle.wast_parser.specs.Look.{ask};
 ghost use Rattle.wast_parser.specs.Grammar.{times};
-ghost use Rattle.wast_parser.specs.Lawful.{Lawful};
+ghost use Rattle.wast_parser.specs.Lawful.{Lawful, Leads};
 ghost use Rattle.wast_parser.specs.State.{ahead, Keeps};
-ghost use Rattle.wast_parser.specs.Reading.{Gives};
+ghost use Rattle.wast_parser.specs.Reading.{Asks, Gives};
+ghost use Rattle.wast_parser.specs.Cursors.{stands};
 ghost use Rattle.wast_operands.specs.OperandTree as spec;
-ghost use Rattle.wast_operands.specs.OperandSyntax.{float_literal, lane, shuffle, shape_word, shapes, floats, lanes_of, vector};
+ghost use Rattle.wast_operands.specs.OperandSyntax.{float_starts, shape_starts, float_literal, lane, shuffle, shape_word, shapes, floats, lanes_of, vector};
 ghost use Rattle.wast_operands.specs.OperandViews.{shape_tree, vector_tree};
 
-use wast_parser::{Error, Meaning, Parse, Parser, WordSet};
+use wast_parser::{Cursor, Error, Item, Meaning, Parse, Parser, Peek, WordSet};
 
 /// A float as it is written: the text of a float or of an integer.
 #[derive(Clone, Copy, Debug)]
@@ -34,6 +36,34 @@ impl<'a> Parse<'a> for FloatLit<'a> {
         let (text, _) = parser.float()?;
         Ok(FloatLit { text })
     }
+}
+
+impl<'a> Peek for FloatLit<'a> {
+    ghost plain = { refl };
+
+    ghost sure = { refl };
+
+    fn leads()
+        ensures { Leads (float_literal {N = List ℕ} {P = ℕ}).spells float_starts }
+    {}
+
+    fn peek(cursor: Cursor<'_, '_>) -> Result<bool, Error>
+        ensures { Asks result (stands cursor.entry).source (ask float_starts (ahead (stands cursor.entry))) }
+    {
+        match cursor.peek_float() {
+            Ok(true) => Ok(true),
+            Ok(false) => cursor.peek_integer(),
+            Err(e) => Err(e),
+        }
+    }
+
+    fn display() -> &'static str {
+        "a float"
+    }
+}
+
+impl<'a> Item for FloatLit<'a> {
+    ghost inside = { refl };
 }
 
 /// The number of a lane.
@@ -115,6 +145,30 @@ impl<'a> Parse<'a> for V128Const<'a> {
         let (shape, _) = parser.among("expected a shape")?;
         parse_lanes(parser, shape)
     }
+}
+
+impl<'a> Peek for V128Const<'a> {
+    ghost plain = { refl };
+
+    ghost sure = { refl };
+
+    fn leads()
+        ensures { Leads (vector {N = List ℕ} {P = ℕ}).spells shape_starts }
+    {}
+
+    fn peek(cursor: Cursor<'_, '_>) -> Result<bool, Error>
+        ensures { Asks result (stands cursor.entry).source (ask shape_starts (ahead (stands cursor.entry))) }
+    {
+        cursor.peek_among::<Shape>()
+    }
+
+    fn display() -> &'static str {
+        "a vector"
+    }
+}
+
+impl<'a> Item for V128Const<'a> {
+    ghost inside = { refl };
 }
 
 /// The shape of a vector.

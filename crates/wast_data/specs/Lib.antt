@@ -1,0 +1,3 @@
+pub mod DataSyntax
+pub mod DataTree
+pub mod DataViews
