@@ -1,0 +1,3 @@
+pub mod ImportLaws
+pub mod Members
+pub mod Samples

@@ -1,0 +1,5 @@
+use Rattle.wast_core_types.proofs.TypeLaws.{type_use_laws}
+use Rattle.wast_imports.proofs.item.TagTypeMeaning.lawful.Goals as goal
+
+pub returns : goal.returns
+returns c = type_use_laws

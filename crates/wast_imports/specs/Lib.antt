@@ -1,0 +1,3 @@
+pub mod ImportTree
+pub mod ImportSyntax
+pub mod ImportViews
