@@ -1,1 +1,4 @@
+pub mod Composed
+pub mod GroupKinds
+pub mod GroupLaws
 pub mod InstructionLaws

@@ -1,3 +1,5 @@
+pub mod ExpressionViews
+pub mod InstructionGroups
 pub mod InstructionSyntax
 pub mod InstructionTree
 pub mod InstructionViews

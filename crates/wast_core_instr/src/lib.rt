@@ -1,24 +1,32 @@
-//! Instructions of the text format with their operands (WebAssembly Core Specification 3.0, 6.5): the tree, and its syntax.
+//! Instructions of the text format with their operands (WebAssembly Core Specification 3.0, 6.5), and expressions of them.
 //!
 //! An [`Instruction`] has a variant for each mnemonic; those of one family stand behind a variant of their own, as they do in the
-//! encoder, whose operations without operands they are.
+//! encoder, whose operations without operands they are. It is read by its word, which says what operands stand behind it. An
+//! [`Expression`] is what folded and flat items unfold to: `(i32.add (i32.const 1) (i32.const 2))` and
+//! `i32.const 1 i32.const 2 i32.add` are one.
 //!
 //! # What has to be believed
 //!
 //! | File of `specs/` | Says |
 //! |---|---|
 //! | `InstructionTree`, `InstructionSyntax` | instructions as trees, and the production |
+//! | `InstructionGroups` | which groups instructions head, and those that groups make |
 //! | `WordViews`, `InstructionViews` | which word each variant has, and what the grammar sees of it |
+//! | `ExpressionViews` | what the grammar sees of expressions |
 #![tactic(auto)]
 
 mod bulk;
 mod compose;
+mod expression;
 mod gc;
 mod instruction;
+mod operation;
+mod parse;
 mod proposal;
 mod vector_arg;
 
 pub use bulk::BulkOp;
+pub use expression::Expression;
 pub use gc::GcOp;
 pub use instruction::Instruction;
 pub use proposal::ProposalOp;

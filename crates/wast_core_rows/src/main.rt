@@ -1,9 +1,18 @@
 //! What the syntax trees of the texts on standard input hold, one text a line.
 //!
-//! A line is a word, which says which part of the syntax is asked for, what the text is to be read as, and the text:
-//! - `type KIND TEXT`: types, signatures, definitions and uses, printed without abbreviations, or that the text is refused.
+//! A line is a word, which says which part of the syntax is asked for, and the text:
+//! - `type KIND TEXT`: types, signatures, definitions and uses, printed without abbreviations, or that the text is refused;
+//! - `import KIND TEXT`: imports, items, types of exports and of tags, and what fields are called, in the same way; behind imports
+//!   where what each of them is of stands;
+//! - `data TEXT`: a value of a data segment, printed as how many bytes it is, and these;
+//! - `instr TEXT`: the instructions to which its items unfold, one a line, and the hints, or that the text is refused;
+//! - `folded TEXT`: the same of an instruction behind its operands;
+//! - `mnemonic TEXT`: whether it is one instruction.
 #![tactic(auto)]
 
+mod data;
+mod imports;
+mod instr;
 mod types;
 mod values;
 
@@ -23,6 +32,16 @@ fn answer(rt: HostRuntime, line: &str) -> io::Result<()> {
     let (word, rest) = line.split_once(' ').unwrap_or((line, ""));
     if word == "type" {
         types::read(rt, rest)
+    } else if word == "data" {
+        data::read(rt, rest)
+    } else if word == "import" {
+        imports::read(rt, rest)
+    } else if word == "instr" {
+        instr::unfold(rt, rest, false)
+    } else if word == "folded" {
+        instr::unfold(rt, rest, true)
+    } else if word == "mnemonic" {
+        instr::mnemonic(rt, rest)
     } else {
         println!(rt; "no such word")
     }

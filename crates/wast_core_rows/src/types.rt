@@ -75,7 +75,10 @@ fn read_definition<'a>(rt: HostRuntime, kind: &str, buffer: &'a ParseBuffer<'a>)
 }
 
 /// Prints a text as one of a type, or that it is refused.
-fn shown<'a, T: Parse<'a> + Show>(rt: HostRuntime, buffer: &'a ParseBuffer<'a>) -> io::Result<()> {
+pub fn shown<'a, T: Parse<'a> + Show>(
+    rt: HostRuntime,
+    buffer: &'a ParseBuffer<'a>,
+) -> io::Result<()> {
     match whole::<T>(buffer) {
         Ok(value) => value.show(rt)?,
         Err(error) => refused(rt, &error)?,
@@ -84,7 +87,7 @@ fn shown<'a, T: Parse<'a> + Show>(rt: HostRuntime, buffer: &'a ParseBuffer<'a>) 
 }
 
 /// What can be printed.
-trait Show: Drop {
+pub trait Show: Drop {
     fn show(&self, rt: HostRuntime) -> io::Result<()>;
 }
 
@@ -177,7 +180,7 @@ impl<'a, T: Show> Show for TypeUse<'a, T> {
 }
 
 /// Prints that a text is refused.
-fn refused(rt: HostRuntime, error: &Error) -> io::Result<()> {
+pub fn refused(rt: HostRuntime, error: &Error) -> io::Result<()> {
     if error.is_memory() {
         print!(rt; "out of memory")
     } else {
@@ -186,7 +189,7 @@ fn refused(rt: HostRuntime, error: &Error) -> io::Result<()> {
 }
 
 /// Prints an identifier, and a space behind it.
-fn print_id(rt: HostRuntime, id: &Option<Id>) -> io::Result<()> {
+pub fn print_id(rt: HostRuntime, id: &Option<Id>) -> io::Result<()> {
     match id {
         Some(id) => print!(rt; "${} ", id.name()),
         None => Ok(()),

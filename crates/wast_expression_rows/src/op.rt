@@ -1,17 +1,17 @@
 //! A small set of instructions without operands.
-ghost use Rattle.std.specs.Prelude.{◌≡◌, ℕ, List, [], map, option_map};
+ghost use Rattle.std.specs.Prelude.{◌≡◌, ℕ, List, [], IfOk, map, option_map};
 ghost use Rattle.wast_parser.specs.Spelling.{find_by};
 ghost use Rattle.wast_parser.specs.Look.{ask};
 ghost use Rattle.wast_parser.specs.Lawful.{LawfulBut};
 ghost use Rattle.wast_parser.specs.State.{ahead, Keeps};
 ghost use Rattle.wast_parser.specs.Reading.{Asks, Gives};
 ghost use Rattle.wast_parser.specs.Cursors.{stands};
-ghost use Rattle.wast_expressions.specs.Expressions.{ins_tests, one_ins};
+ghost use Rattle.wast_expressions.specs.Expressions.{OfOperands, ins_tests, one_ins};
 ghost use Rattle.wast_expressions.specs.Heeds.{Heeds, Spelled};
-ghost use Rattle.wast_expressions.specs.Views.{kind_of};
-ghost use Rattle.wast_expression_rows.specs.Ops.{mnemonic_text, the_words, op, op_heads, op_made, op_tree};
+ghost use Rattle.wast_expressions.specs.Views.{kind_of, made_as};
+ghost use Rattle.wast_expression_rows.specs.Ops.{mnemonic_text, the_words, op, op_heads, op_kind, op_made, op_tree};
 
-use wast_expressions::{GroupKind, Operation, ParseOperation};
+use wast_expressions::{GroupKind, MadeKind, Operation, Origin, ParseOperation};
 use wast_parser::{Cursor, Error, Parser, Span, WordSet};
 
 #[derive(Clone, Copy, Debug, PartialEq, Eq, Drop)]
@@ -104,34 +104,6 @@ impl Operation for Op {
         cursor.peek_among::<Mnemonic>()
     }
 
-    fn kind(&self) -> GroupKind
-        ensures { kind_of result ≡ op_heads.kind (op_tree self.now) }
-    {
-        match self.word {
-            Mnemonic::Block | Mnemonic::Loop => GroupKind::Block,
-            Mnemonic::If => GroupKind::Arms,
-            _ => GroupKind::Operands,
-        }
-    }
-
-    fn end_at(span: Span) -> Self
-        ensures { op_tree result ≡ op_made.end_at span }
-    {
-        Op {
-            word: Mnemonic::End,
-            span,
-        }
-    }
-
-    fn else_at(span: Span) -> Self
-        ensures { op_tree result ≡ op_made.else_at span }
-    {
-        Op {
-            word: Mnemonic::Else,
-            span,
-        }
-    }
-
     fn lawful()
         ensures { LawfulBut (one_ins op op_heads) op_heads.own }
     {}
@@ -146,13 +118,50 @@ impl Operation for Op {
 }
 
 impl<'a> ParseOperation<'a> for Op {
-    fn parse_operation(parser: &mut Parser<'a>) -> Result<Self, Error>
-        ensures read { Gives op_tree result parser.new (op.reads (ahead parser.old)) }
-        ensures keeps { Keeps parser.old parser.new }
-    {
-        match parser.among("expected an instruction") {
-            Ok((word, span)) => Ok(Op { word, span }),
-            Err(e) => Err(e),
+    fn obtain(parser: &mut Parser<'a>, origin: Origin) -> Result<(Self, GroupKind), Error> {
+        match origin {
+            Origin::Written => written(parser),
+            Origin::Made(kind, span) => Ok((made(kind, span), GroupKind::Operands)),
         }
+    }
+}
+
+/// Reads an instruction, and tells which group it heads.
+fn written(parser: &mut Parser<'_>) -> Result<(Op, GroupKind), Error>
+    ensures read { Gives (λ x. op_tree x.0) result parser.new (op.reads (ahead parser.old)) }
+    ensures kind { IfOk result (λ x. kind_of x.1 ≡ op_heads.kind (op_tree x.0)) }
+    ensures keeps { Keeps parser.old parser.new }
+{
+    match parser.among("expected an instruction") {
+        Ok((word, span)) => Ok((Op { word, span }, group_kind(word))),
+        Err(e) => Err(e),
+    }
+}
+
+/// What a group makes.
+fn made(kind: MadeKind, span: Span) -> Op
+    ensures same { op_tree result ≡ made_as op_made kind span }
+    ensures alone { op_heads.kind (op_tree result) ≡ OfOperands }
+{
+    match kind {
+        MadeKind::Else => Op {
+            word: Mnemonic::Else,
+            span,
+        },
+        MadeKind::End => Op {
+            word: Mnemonic::End,
+            span,
+        },
+    }
+}
+
+/// Which group a word heads.
+fn group_kind(word: Mnemonic) -> GroupKind
+    ensures { kind_of result ≡ op_kind (mnemonic_text word) }
+{
+    match word {
+        Mnemonic::Block | Mnemonic::Loop => GroupKind::Block,
+        Mnemonic::If => GroupKind::Arms,
+        _ => GroupKind::Operands,
     }
 }

@@ -11,6 +11,10 @@ use Rattle.wast_parser_core.specs.declared.cursor.Cursor.{Cursor}
 use Rattle.wast_parser_base.specs.Problem.{Problem}
 use Rattle.wast_expressions.specs.declared.operation.GroupKind.{GroupKind}
 use Rattle.wast_expressions.specs.declared.operation.GroupKind.TheVariants as kinds
+use Rattle.wast_expressions.specs.declared.operation.Origin.{Origin}
+use Rattle.wast_expressions.specs.declared.operation.Origin.TheVariants as origins
+use Rattle.wast_expressions.specs.declared.operation.MadeKind.{MadeKind}
+use Rattle.wast_expressions.specs.declared.operation.MadeKind.TheVariants as making
 use Rattle.wast_expressions.specs.declared.stack.Level.{Level}
 use Rattle.wast_expressions.specs.declared.stack.Level.TheVariants as levels
 use Rattle.wast_expressions.specs.declared.stack.Instructions.{Instructions}
@@ -24,6 +28,16 @@ abbrev pub kind_of : GroupKind → spec.GroupKind
 kind_of kinds.Operands = spec.OfOperands
 kind_of kinds.Block = spec.OfBlock
 kind_of kinds.Arms = spec.OfArms
+
+-- the instruction of this kind that a group makes
+abbrev pub made_as : {I : Type 0} → Made ℕ I → MadeKind → ℕ → I
+made_as m making.Else p = m.else_at p
+made_as m making.End p = m.end_at p
+
+-- the instruction that is read, or made, and the tokens after it
+abbrev pub obtained : {I : Type 0} → Syntax (List ℕ) ℕ I → Made ℕ I → Origin → List TextToken → Option (I × List TextToken)
+obtained g m origins.Written ts = g.reads ts
+obtained g m (origins.Made kind p) ts = Some (made_as m kind p, ts)
 
 -- a hint's bytes, and their value
 abbrev pub IsHintOf : List ℕ → Option ℕ → Type 0

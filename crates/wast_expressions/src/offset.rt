@@ -8,7 +8,7 @@ ghost use Rattle.wast_expressions.specs.Machine.{folded_head, plain_turn};
 ghost use Rattle.wast_expressions.specs.Views.{here, instructions_tree, levels_tree, out_tree, Turns};
 
 use crate::look::peek_group;
-use crate::operation::ParseOperation;
+use crate::operation::{ParseOperation, parse_operation};
 use crate::stack::{Instructions, Level, Unfolding};
 use crate::token::open;
 use crate::turn::{close_level, turn};
@@ -48,7 +48,7 @@ fn head<'a, I: ParseOperation<'a>>(
     ensures keeps { Keeps parser.old parser.new }
 {
     match open(parser) {
-        Ok(_) => match I::parse_operation(parser) {
+        Ok(_) => match parse_operation(parser) {
             Ok(instr) => work.open(Level::EndWith(None, instr)),
             Err(e) => Err(e),
         },

@@ -1,5 +1,5 @@
 //! What expressions ask of instructions.
-ghost use Rattle.std.specs.Prelude.{◌≡◌, ℕ, List};
+ghost use Rattle.std.specs.Prelude.{◌≡◌, ℕ, List, IfOk, OnErr};
 ghost use Rattle.wast_parser.specs.Look.{ask};
 ghost use Rattle.wast_parser.specs.Grammar.{Syntax};
 ghost use Rattle.wast_parser.specs.Lawful.{LawfulBut};
@@ -9,7 +9,7 @@ ghost use Rattle.wast_parser.specs.Cursors.{stands};
 ghost use Rattle.wast_expressions.specs.Items.{Made};
 ghost use Rattle.wast_expressions.specs.Expressions.{Heads, one_ins, ins_tests};
 ghost use Rattle.wast_expressions.specs.Heeds.{Heeds, Spelled};
-ghost use Rattle.wast_expressions.specs.Views.{kind_of};
+ghost use Rattle.wast_expressions.specs.Views.{kind_of, made_as, obtained};
 
 use wast_parser::{Cursor, Error, Parser, Span};
 
@@ -45,18 +45,6 @@ pub trait Operation: Sized + Drop {
     fn peek_word(cursor: Cursor<'_, '_>) -> Result<bool, Error>
         ensures { Asks result (stands cursor.entry).source (ask (ins_tests heads) (ahead (stands cursor.entry))) };
 
-    /// Which group it heads.
-    fn kind(&self) -> GroupKind
-        ensures { kind_of result ≡ heads.kind (tree self.now) };
-
-    /// The `end` of a group that closes there.
-    fn end_at(span: Span) -> Self
-        ensures { tree result ≡ made.end_at span };
-
-    /// The `else` whose word stands there.
-    fn else_at(span: Span) -> Self
-        ensures { tree result ≡ made.else_at span };
-
     /// What is read is spelled and is not gone on with, and what is spelled is read where nothing goes on with it.
     fn lawful()
         ensures { LawfulBut (one_ins syntax heads) heads.own };
@@ -70,11 +58,73 @@ pub trait Operation: Sized + Drop {
         ensures { Spelled syntax made };
 }
 
-/// Instructions that can be read.
+/// Which instruction a group makes.
+#[derive(Clone, Copy, Debug, PartialEq, Eq, Drop)]
+pub enum MadeKind {
+    /// The `else` before the second arm of an `if`.
+    Else,
+    /// The `end` of a block or of an `if`.
+    End,
+}
+
+/// Where an instruction comes from.
+#[derive(Clone, Copy, Debug, PartialEq, Eq, Drop)]
+pub enum Origin {
+    /// It is written here.
+    Written,
+    /// A group makes it: its word stands there, or the group closes there.
+    Made(MadeKind, Span),
+}
+
+/// Instructions that can be read, and made. One call does both: what the check compares where the instructions are many grows
+/// with each call that answers one.
 pub trait ParseOperation<'a>: Operation {
-    /// Reads one exactly where the grammar does, and takes the tokens that it takes; refused elsewhere, or for want of memory.
-    /// Depth and registered names are as they were on both outcomes, and the parser stands where it did or behind.
-    fn parse_operation(parser: &mut Parser<'a>) -> Result<Self, Error>
-        ensures read { Gives Self.tree result parser.new (Self.syntax.reads (ahead parser.old)) }
+    /// An instruction, and which group it heads. One that is written is read exactly where the grammar reads it, with the tokens
+    /// that it takes, and is refused elsewhere, or for want of memory; what a group makes wants no memory, and takes nothing. Depth
+    /// and registered names are as they were on both outcomes, and the parser stands where it did or behind.
+    fn obtain(parser: &mut Parser<'a>, origin: Origin) -> Result<(Self, GroupKind), Error>
+        ensures read { Gives (λ x. Self.tree x.0) result parser.new (obtained Self.syntax Self.made origin (ahead parser.old)) }
+        ensures kind { IfOk result (λ x. kind_of x.1 ≡ Self.heads.kind (Self.tree x.0)) }
+        ensures made { OnErr result (origin ≡ Origin.Written) }
+        ensures still { (kind : MadeKind) (place : ℕ) → origin ≡ Origin.Made kind place → parser.new ≡ parser.old }
         ensures keeps { Keeps parser.old parser.new };
+}
+
+/// Reads an instruction and which group it heads.
+pub(crate) fn parse_head<'a, I: ParseOperation<'a>>(
+    parser: &mut Parser<'a>,
+) -> Result<(I, GroupKind), Error>
+    ensures read { Gives (λ x. I.tree x.0) result parser.new (I.syntax.reads (ahead parser.old)) }
+    ensures kind { IfOk result (λ x. kind_of x.1 ≡ I.heads.kind (I.tree x.0)) }
+    ensures keeps { Keeps parser.old parser.new }
+{
+    I::obtain(parser, Origin::Written)
+}
+
+/// Reads an instruction.
+pub(crate) fn parse_operation<'a, I: ParseOperation<'a>>(
+    parser: &mut Parser<'a>,
+) -> Result<I, Error>
+    ensures read { Gives I.tree result parser.new (I.syntax.reads (ahead parser.old)) }
+    ensures keeps { Keeps parser.old parser.new }
+{
+    match parse_head(parser) {
+        Ok((instr, _)) => Ok(instr),
+        Err(e) => Err(e),
+    }
+}
+
+/// What a group makes.
+pub(crate) fn make<'a, I: ParseOperation<'a>>(
+    parser: &mut Parser<'a>,
+    kind: MadeKind,
+    span: Span,
+) -> I
+    ensures made { I.tree result ≡ made_as I.made kind span }
+    ensures still { parser.new ≡ parser.old }
+{
+    match I::obtain(parser, Origin::Made(kind, span)) {
+        Ok((instr, _)) => instr,
+        Err(_) => unreachable!(),
+    }
 }

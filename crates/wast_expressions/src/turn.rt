@@ -7,11 +7,13 @@ ghost use Rattle.wast_expressions.specs.Items.{either_hint};
 ghost use Rattle.wast_expressions.specs.Machine.{both_hints, headed, open_group, plain_item, one_item, close_level, row_turn, then_turn, else_turn, end_turn, turn};
 ghost use Rattle.wast_expressions.specs.Machine as machine;
 ghost use Rattle.wast_expressions.specs.declared.stack.Level.TheVariants as levels;
-ghost use Rattle.wast_expressions.specs.Views.{here, level_tree, levels_tree, out_tree, Turns};
+ghost use Rattle.wast_expressions.specs.Views.{here, kind_of, level_tree, levels_tree, out_tree, Turns};
 
 use crate::hint::hint;
 use crate::look::{Else, Word, peek_group, peek_item, peek_led};
-use crate::operation::{GroupKind, Operation, ParseOperation};
+use crate::operation::{
+    GroupKind, MadeKind, Operation, ParseOperation, make, parse_head, parse_operation,
+};
 use crate::stack::{Level, Unfolding};
 use crate::token::{close, open, open_word};
 use wast_parser::{Error, Keyword, Parser};
@@ -99,7 +101,7 @@ fn plain<'a, I: ParseOperation<'a>>(
     ensures gives { Turns result (plain_item I.syntax I.heads I.made hint (levels_tree I.tree work.old.stack) (out_tree I.tree work.old.out) (ahead parser.old)) (here I.tree work.new (ahead parser.new)) }
     ensures keeps { Keeps parser.old parser.new }
 {
-    match I::parse_operation(parser) {
+    match parse_operation(parser) {
         Ok(instr) => work.push(hint, instr),
         Err(e) => Err(e),
     }
@@ -115,8 +117,8 @@ fn group<'a, I: ParseOperation<'a>>(
     ensures keeps { Keeps parser.old parser.new }
 {
     match open(parser) {
-        Ok(_) => match I::parse_operation(parser) {
-            Ok(instr) => head(hint, instr, work),
+        Ok(_) => match parse_head(parser) {
+            Ok((instr, kind)) => head(hint, instr, kind, work),
             Err(e) => Err(e),
         },
         Err(e) => Err(e),
@@ -124,11 +126,17 @@ fn group<'a, I: ParseOperation<'a>>(
 }
 
 /// What the head of a group opens.
-fn head<I: Operation>(hint: Option<u32>, instr: I, work: &mut Unfolding<I>) -> Result<(), Error>
+fn head<I: Operation>(
+    hint: Option<u32>,
+    instr: I,
+    kind: GroupKind,
+    work: &mut Unfolding<I>,
+) -> Result<(), Error>
+    requires { kind_of kind ≡ I.heads.kind (I.tree instr) }
     ensures opened { OnOk result ((ts : List TextToken) → here I.tree work.new ts ≡ headed I.syntax I.heads I.made (I.heads.kind (I.tree instr)) (levels_tree I.tree work.old.stack) (out_tree I.tree work.old.out) hint (I.tree instr) ts) }
     ensures memory { IfErr result (λ e. e ≡ out_of_memory) }
 {
-    match instr.kind() {
+    match kind {
         GroupKind::Operands => work.open(Level::EndWith(hint, instr)),
         GroupKind::Block => match work.push(hint, instr) {
             Ok(()) => work.open(Level::BlockEnd),
@@ -170,7 +178,10 @@ fn end<'a, I: ParseOperation<'a>>(
     ensures keeps { Keeps parser.old parser.new }
 {
     match close(parser) {
-        Ok(span) => work.push(None, I::end_at(span)),
+        Ok(span) => {
+            let instr = make(parser, MadeKind::End, span);
+            work.push(None, instr)
+        }
         Err(e) => Err(e),
     }
 }
@@ -267,10 +278,13 @@ fn else_arm<'a, I: ParseOperation<'a>>(
     ensures keeps { Keeps parser.old parser.new }
 {
     match open_word(parser, "else") {
-        Ok(span) => match work.push(None, I::else_at(span)) {
-            Ok(()) => arm(Level::AfterElse, work),
-            Err(e) => Err(e),
-        },
+        Ok(span) => {
+            let instr = make(parser, MadeKind::Else, span);
+            match work.push(None, instr) {
+                Ok(()) => arm(Level::AfterElse, work),
+                Err(e) => Err(e),
+            }
+        }
         Err(e) => Err(e),
     }
 }

@@ -1,0 +1,11 @@
+pub mod FieldTree
+pub mod DefinitionSyntax
+pub mod FuncSyntax
+pub mod ElemSyntax
+pub mod DataSyntax
+pub mod TableSyntax
+pub mod ModuleSyntax
+pub mod FieldViews
+pub mod ElemViews
+pub mod ModuleViews
+pub mod Laws

@@ -1,0 +1,218 @@
+//! Fields of modules.
+ghost use Rattle.std.specs.Prelude.{◌≡◌, ℕ, List, refl};
+ghost use Rattle.wast_parser.specs.Look.{ask};
+ghost use Rattle.wast_parser.specs.Lawful.{Lawful, Leads};
+ghost use Rattle.wast_parser.specs.State.{ahead};
+ghost use Rattle.wast_parser.specs.Reading.{Asks};
+ghost use Rattle.wast_parser.specs.Cursors.{stands};
+ghost use Rattle.wast_core.specs.FieldTree as spec;
+ghost use Rattle.wast_core.specs.ModuleSyntax.{defining_starts, describing_starts, field_starts, defining, describing, field};
+ghost use Rattle.wast_core.specs.ModuleViews.{field_tree};
+
+use crate::data::Data;
+use crate::elem::Elem;
+use crate::func::Func;
+use crate::global::Global;
+use crate::keyword as words;
+use crate::memory::Memory;
+use crate::start::Start;
+use crate::table::Table;
+use crate::tag::Tag;
+use wast_core_types::{Rec, TypeItem};
+use wast_customs::Custom;
+use wast_exports::{Export, InlineExport, InlineImport, keyword};
+use wast_imports::Imports;
+use wast_parser::{Cursor, Error, Item, Meaning, Parse, Parser, Peek};
+use wast_value_types::{Group, or_peek};
+
+/// A field of a module (6.6.14).
+#[derive(Drop)]
+pub enum ModuleField<'a> {
+    TypeItem(TypeItem<'a>),
+    Rec(Rec<'a>),
+    Import(Imports<'a>),
+    Func(Func<'a>),
+    Table(Table<'a>),
+    Memory(Memory<'a>),
+    Global(Global<'a>),
+    Export(Export<'a>),
+    Start(Start<'a>),
+    Elem(Elem<'a>),
+    Data(Data<'a>),
+    Tag(Tag<'a>),
+    /// An annotation that the parser has registered.
+    Custom(Custom<'a>),
+}
+
+impl<'a> Meaning for ModuleField<'a> {
+    ghost Tree = { spec.Field (List ℕ) ℕ };
+
+    ghost tree = { field_tree };
+
+    ghost syntax = { field };
+
+    fn lawful()
+        ensures { Lawful (field {N = List ℕ} {P = ℕ}) }
+    {}
+}
+
+impl<'a> Parse<'a> for ModuleField<'a> {
+    fn parse(parser: &mut Parser<'a>) -> Result<Self, Error> {
+        if parser.peek::<TypeItem<'a>>()? {
+            Ok(ModuleField::TypeItem(TypeItem::parse(parser)?))
+        } else if parser.peek::<Group<words::Rec>>()? {
+            Ok(ModuleField::Rec(Rec::parse(parser)?))
+        } else if parser.peek::<InlineImport<'a>>()? {
+            Ok(ModuleField::Import(Imports::parse(parser)?))
+        } else if parser.peek::<Defining<'a>>()? {
+            let defining = Defining::parse(parser)?;
+            Ok(defining.field)
+        } else {
+            let describing = Describing::parse(parser)?;
+            Ok(describing.field)
+        }
+    }
+}
+
+impl<'a> Peek for ModuleField<'a> {
+    ghost plain = { refl };
+
+    ghost sure = { refl };
+
+    fn leads()
+        ensures { Leads (field {N = List ℕ} {P = ℕ}).spells field_starts }
+    {}
+
+    fn peek(cursor: Cursor<'_, '_>) -> Result<bool, Error>
+        ensures { Asks result (stands cursor.entry).source (ask field_starts (ahead (stands cursor.entry))) }
+    {
+        let found = or_peek::<Group<words::Rec>>(cursor.peek_group("type"), cursor);
+        let found = or_peek::<InlineImport>(found, cursor);
+        let found = or_peek::<Defining>(found, cursor);
+        or_peek::<Describing>(found, cursor)
+    }
+
+    fn display() -> &'static str {
+        "a field of a module"
+    }
+}
+
+impl<'a> Item for ModuleField<'a> {
+    ghost inside = { refl };
+}
+
+/// A field that defines a function, a table, a memory, a global or a tag.
+#[derive(Drop)]
+struct Defining<'a> {
+    field: ModuleField<'a>,
+}
+
+impl<'a> Meaning for Defining<'a> {
+    ghost Tree = { spec.Field (List ℕ) ℕ };
+
+    ghost tree = { λ d. field_tree d.field };
+
+    ghost syntax = { defining };
+
+    fn lawful()
+        ensures { Lawful (defining {N = List ℕ} {P = ℕ}) }
+    {}
+}
+
+impl<'a> Parse<'a> for Defining<'a> {
+    fn parse(parser: &mut Parser<'a>) -> Result<Self, Error> {
+        let field = if parser.peek::<Group<keyword::Func>>()? {
+            ModuleField::Func(Func::parse(parser)?)
+        } else if parser.peek::<Group<keyword::Table>>()? {
+            ModuleField::Table(Table::parse(parser)?)
+        } else if parser.peek::<Group<keyword::Memory>>()? {
+            ModuleField::Memory(Memory::parse(parser)?)
+        } else if parser.peek::<Group<keyword::Global>>()? {
+            ModuleField::Global(Global::parse(parser)?)
+        } else {
+            ModuleField::Tag(Tag::parse(parser)?)
+        };
+        Ok(Defining { field })
+    }
+}
+
+impl<'a> Peek for Defining<'a> {
+    ghost plain = { refl };
+
+    ghost sure = { refl };
+
+    fn leads()
+        ensures { Leads (defining {N = List ℕ} {P = ℕ}).spells defining_starts }
+    {}
+
+    fn peek(cursor: Cursor<'_, '_>) -> Result<bool, Error>
+        ensures { Asks result (stands cursor.entry).source (ask defining_starts (ahead (stands cursor.entry))) }
+    {
+        let found = or_peek::<Group<keyword::Table>>(cursor.peek_group("func"), cursor);
+        let found = or_peek::<Group<keyword::Memory>>(found, cursor);
+        let found = or_peek::<Group<keyword::Global>>(found, cursor);
+        or_peek::<Group<keyword::Tag>>(found, cursor)
+    }
+
+    fn display() -> &'static str {
+        "a definition"
+    }
+}
+
+/// A field that exports, starts, fills, or is left to other tools.
+#[derive(Drop)]
+struct Describing<'a> {
+    field: ModuleField<'a>,
+}
+
+impl<'a> Meaning for Describing<'a> {
+    ghost Tree = { spec.Field (List ℕ) ℕ };
+
+    ghost tree = { λ d. field_tree d.field };
+
+    ghost syntax = { describing };
+
+    fn lawful()
+        ensures { Lawful (describing {N = List ℕ} {P = ℕ}) }
+    {}
+}
+
+impl<'a> Parse<'a> for Describing<'a> {
+    fn parse(parser: &mut Parser<'a>) -> Result<Self, Error> {
+        let field = if parser.peek::<InlineExport<'a>>()? {
+            ModuleField::Export(Export::parse(parser)?)
+        } else if parser.peek::<Group<words::Start>>()? {
+            ModuleField::Start(Start::parse(parser)?)
+        } else if parser.peek::<Group<words::Elem>>()? {
+            ModuleField::Elem(Elem::parse(parser)?)
+        } else if parser.peek::<Group<words::Data>>()? {
+            ModuleField::Data(Data::parse(parser)?)
+        } else {
+            ModuleField::Custom(Custom::parse(parser)?)
+        };
+        Ok(Describing { field })
+    }
+}
+
+impl<'a> Peek for Describing<'a> {
+    ghost plain = { refl };
+
+    ghost sure = { refl };
+
+    fn leads()
+        ensures { Leads (describing {N = List ℕ} {P = ℕ}).spells describing_starts }
+    {}
+
+    fn peek(cursor: Cursor<'_, '_>) -> Result<bool, Error>
+        ensures { Asks result (stands cursor.entry).source (ask describing_starts (ahead (stands cursor.entry))) }
+    {
+        let found = or_peek::<Group<words::Start>>(cursor.peek_group("export"), cursor);
+        let found = or_peek::<Group<words::Elem>>(found, cursor);
+        let found = or_peek::<Group<words::Data>>(found, cursor);
+        or_peek::<Custom>(found, cursor)
+    }
+
+    fn display() -> &'static str {
+        "a field of a module"
+    }
+}

@@ -1,0 +1,104 @@
+//! Modules as the whole of a text.
+ghost use Rattle.std.specs.Prelude.{◌≡◌, ◌∷◌, ℕ, List, IfOk, map};
+ghost use Rattle.wast_parser.specs.Lawful.{Lawful};
+ghost use Rattle.wast_parser.specs.State.{ahead, Keeps};
+ghost use Rattle.wast_parser.specs.Reading.{Gives};
+ghost use Rattle.wast_core.specs.FieldTree as spec;
+ghost use Rattle.wast_core.specs.FieldTree.{field_place};
+ghost use Rattle.wast_core.specs.ModuleSyntax.{bare_module, wat};
+ghost use Rattle.wast_core.specs.ModuleViews.{field_tree, module_tree};
+
+use crate::field::ModuleField;
+use crate::keyword;
+use crate::module::{Module, ModuleKind, second_start};
+use std::alloc::{AllocError, Global};
+use wast_lexer::Span;
+use wast_parser::{Error, Meaning, Parse, Parser, list_of};
+use wast_value_types::Group;
+
+/// The module that a whole text spells (6.6.14): `(module ..)`, or the fields of one alone, of which there is one at least. Then the
+/// module stands where the keyword of the first field does.
+#[derive(Drop)]
+pub struct TextModule<'a> {
+    pub module: Module<'a>,
+}
+
+impl<'a> Meaning for TextModule<'a> {
+    ghost Tree = { spec.Module (List ℕ) ℕ };
+
+    ghost tree = { λ t. module_tree t.«module» };
+
+    ghost syntax = { wat };
+
+    fn lawful()
+        ensures { Lawful (wat {N = List ℕ} {P = ℕ}) }
+    {}
+}
+
+impl<'a> Parse<'a> for TextModule<'a> {
+    fn parse(parser: &mut Parser<'a>) -> Result<Self, Error> {
+        let module = if parser.peek::<Group<keyword::Module>>()? {
+            Module::parse(parser)?
+        } else {
+            parse_bare(parser)?
+        };
+        Ok(TextModule { module })
+    }
+}
+
+/// Reads the fields of a module, of which there is one at least.
+fn parse_bare<'a>(parser: &mut Parser<'a>) -> Result<Module<'a>, Error>
+    ensures read { Gives module_tree result parser.new (bare_module.reads (ahead parser.old)) }
+    ensures keeps { Keeps parser.old parser.new }
+{
+    let first = ModuleField::parse(parser)?;
+    let span = span_of(&first);
+    let others = list_of(parser)?;
+    let fields = with_first(parser.alloc(), first, others)?;
+    match second_start(&fields) {
+        Some(span) => Err(parser.error_at(span, "a module has one start function at most")),
+        None => Ok(Module {
+            span,
+            id: None,
+            name: None,
+            kind: ModuleKind::Text(fields),
+        }),
+    }
+}
+
+/// The first field, and then the others.
+fn with_first<'a>(
+    alloc: Global,
+    first: ModuleField<'a>,
+    others: Vec<ModuleField<'a>>,
+) -> Result<Vec<ModuleField<'a>>, AllocError>
+    ensures { IfOk result (λ fields. fields.items ≡ first.entry ∷ others.entry.items) }
+{
+    let mut fields = Vec::new(alloc);
+    fields.push(first)?;
+    for field in others {
+        fields.push(field)?;
+    }
+    Ok(fields)
+}
+
+/// Where the keyword of a field stands.
+fn span_of(field: &ModuleField<'_>) -> Span
+    ensures { result ≡ field_place (field_tree field.now) }
+{
+    match field {
+        ModuleField::TypeItem(item) => item.span,
+        ModuleField::Rec(group) => group.span,
+        ModuleField::Import(imports) => imports.span,
+        ModuleField::Func(func) => func.span,
+        ModuleField::Table(table) => table.span,
+        ModuleField::Memory(memory) => memory.span,
+        ModuleField::Global(global) => global.span,
+        ModuleField::Export(export) => export.span,
+        ModuleField::Start(start) => start.span,
+        ModuleField::Elem(elem) => elem.span,
+        ModuleField::Data(data) => data.span,
+        ModuleField::Tag(tag) => tag.span,
+        ModuleField::Custom(custom) => custom.span(),
+    }
+}

@@ -1,0 +1,134 @@
+//! Expressions of instructions.
+ghost use Rattle.std.specs.Prelude.{◌≡◌, ℕ, ◌+◌, ◌≤◌, List, [], ◌∷◌, None, IfOk, length};
+ghost use Rattle.wast_parser.specs.Grammar.{seen};
+ghost use Rattle.wast_parser.specs.Lawful.{Lawful};
+ghost use Rattle.wast_parser.specs.State.{ahead, Keeps};
+ghost use Rattle.wast_parser.specs.Reading.{Gives};
+ghost use Rattle.wast_expressions.specs.Items as items;
+ghost use Rattle.wast_expressions.specs.Items.{expression_of};
+ghost use Rattle.wast_expressions.specs.Expressions.{data_offset, expression, folded_instruction, plain, without_hints};
+ghost use Rattle.wast_expressions.specs.Views.{Counts, instructions_tree};
+ghost use Rattle.wast_core_instr.specs.InstructionTree as spec;
+ghost use Rattle.wast_core_instr.specs.InstructionSyntax.{instruction};
+ghost use Rattle.wast_core_instr.specs.InstructionViews.{instruction_tree};
+ghost use Rattle.wast_core_instr.specs.InstructionGroups.{instruction_heads, instruction_made};
+ghost use Rattle.wast_core_instr.specs.ExpressionViews.{expression_tree};
+
+use crate::instruction::Instruction;
+use std::alloc::{AllocError, Global};
+use std::sync::ledger::Ledger;
+use wast_expressions::{BranchHint, Instructions, Operation, Steps};
+use wast_parser::{Error, Meaning, Parse, Parser, Span};
+
+/// Instructions in the order in which they are carried out, and hints, whose indices rise (6.5.10). Folded and flat forms of an
+/// expression are one value.
+#[derive(Drop)]
+pub struct Expression<'a> {
+    pub instrs: Vec<Instruction<'a>>,
+    pub branch_hints: Vec<BranchHint>,
+    /// Where the instructions stand, where that is kept.
+    pub instr_spans: Option<Vec<Span>>,
+}
+
+impl<'a> Expression<'a> {
+    /// An expression of one instruction.
+    pub fn one(alloc: Global, instr: Instruction<'a>) -> Result<Self, AllocError>
+        ensures { IfOk result (λ e. expression_tree e ≡ expression_of ((None, instruction_tree instr.entry) ∷ [])) }
+    {
+        let mut instrs = Vec::new(alloc);
+        instrs.push(instr)?;
+        Ok(Expression {
+            instrs,
+            branch_hints: Vec::new(alloc),
+            instr_spans: None,
+        })
+    }
+
+    /// The same, and counts the turns of the loop, that which is refused too. On both outcomes these are at most one more than
+    /// the tokens that it took or passed, and than the significant tokens that stood before it.
+    pub fn parse_counted<L: Ledger>(
+        parser: &mut Parser<'a>,
+        steps: &mut Steps<L>,
+    ) -> Result<Self, Error>
+        ensures read { Gives expression_tree result parser.new ((expression instruction instruction_heads instruction_made).reads (ahead parser.old)) }
+        ensures keeps { Keeps parser.old parser.new }
+        ensures taken { steps.new + parser.old.at ≤ steps.old + parser.new.at + 1 }
+        ensures turns { steps.new ≤ steps.old + length (ahead parser.old) + 1 }
+    {
+        match wast_expressions::parse_counted(parser, steps) {
+            Ok(instructions) => Ok(Expression::from(instructions)),
+            Err(e) => Err(e),
+        }
+    }
+
+    /// Reads `(instruction item*)`: the instructions to which the items unfold, and then the one that heads the group, whatever
+    /// its kind.
+    pub fn parse_folded_instruction(parser: &mut Parser<'a>) -> Result<Self, Error>
+        ensures read { Gives expression_tree result parser.new ((folded_instruction instruction instruction_heads instruction_made).reads (ahead parser.old)) }
+        ensures keeps { Keeps parser.old parser.new }
+    {
+        match wast_expressions::parse_folded_instruction(parser) {
+            Ok(instructions) => Ok(Expression::from(instructions)),
+            Err(e) => Err(e),
+        }
+    }
+
+    /// Reads `(instruction plain*)`: the operands' instructions in order, and then the one that heads the group, with no block
+    /// among them and no hint.
+    pub fn parse_plain(parser: &mut Parser<'a>) -> Result<Self, Error>
+        ensures read { Gives expression_tree result parser.new ((seen (without_hints instruction instruction_heads) (plain instruction instruction_heads)).reads (ahead parser.old)) }
+        ensures keeps { Keeps parser.old parser.new }
+    {
+        match wast_expressions::parse_plain(parser) {
+            Ok(instructions) => Ok(Expression::from(instructions)),
+            Err(e) => Err(e),
+        }
+    }
+
+    /// Reads the offset of data: `(offset item*)`, or `(instruction item*)`.
+    pub fn parse_offset(parser: &mut Parser<'a>) -> Result<Self, Error>
+        ensures read { Gives expression_tree result parser.new ((data_offset instruction instruction_heads instruction_made).reads (ahead parser.old)) }
+        ensures keeps { Keeps parser.old parser.new }
+    {
+        match wast_expressions::parse_offset(parser) {
+            Ok(instructions) => Ok(Expression::from(instructions)),
+            Err(e) => Err(e),
+        }
+    }
+}
+
+impl<'a> From<Instructions<Instruction<'a>>> for Expression<'a> {
+    fn from(instructions: Instructions<Instruction<'a>>) -> Self
+        ensures { expression_tree result ≡ instructions_tree instruction_tree instructions.entry }
+    {
+        Expression {
+            instrs: instructions.instrs,
+            branch_hints: instructions.hints,
+            instr_spans: None,
+        }
+    }
+}
+
+impl<'a> Meaning for Expression<'a> {
+    ghost Tree = { items.Expression (spec.Instruction (List ℕ) ℕ) };
+
+    ghost tree = { expression_tree };
+
+    ghost syntax = { expression instruction instruction_heads instruction_made };
+
+    fn lawful()
+        ensures { Lawful (expression (instruction {N = List ℕ} {P = ℕ}) instruction_heads instruction_made) }
+    {
+        <Instruction as Operation>::lawful();
+        Instruction::heeds();
+    }
+}
+
+impl<'a> Parse<'a> for Expression<'a> {
+    fn parse(parser: &mut Parser<'a>) -> Result<Self, Error> {
+        match wast_expressions::parse_items(parser) {
+            Ok(instructions) => Ok(Expression::from(instructions)),
+            Err(e) => Err(e),
+        }
+    }
+}

@@ -1,0 +1,242 @@
+//! Instructions, each by its word.
+ghost use Rattle.std.specs.Prelude.{◌≡◌, ℕ, List, IfOk};
+ghost use Rattle.wast_parser.specs.Lawful.{Lawful};
+ghost use Rattle.wast_parser.specs.State.{ahead, Keeps};
+ghost use Rattle.wast_parser.specs.Reading.{Gives};
+ghost use Rattle.wast_mnemonics.specs.Words.{word_operands, proposal_operands};
+ghost use Rattle.wast_mnemonics.specs.declared.word.Word.TheVariants as words;
+ghost use Rattle.wast_mnemonics.specs.declared.proposal.ProposalWord.TheVariants as proposal_words;
+ghost use Rattle.wast_core_instr.specs.InstructionTree as spec;
+ghost use Rattle.wast_core_instr.specs.InstructionSyntax.{instruction, operands};
+ghost use Rattle.wast_core_instr.specs.WordViews.{instruction_word};
+ghost use Rattle.wast_core_instr.specs.InstructionViews.{instruction_operands, instruction_tree};
+
+use crate::bulk::BulkOp;
+use crate::compose::{
+    index_proposal, indices_proposal, ordered_index, ordered_indices, ordered_optional_index,
+    plain, plain_proposal, with_block, with_call, with_index, with_indices, with_label, with_lane,
+    with_memarg, with_memarg_lane, with_optional_index,
+};
+use crate::gc::GcOp;
+use crate::instruction::Instruction;
+use crate::proposal::ProposalOp;
+use crate::vector_arg::VectorArgOp;
+use wast_mnemonics::{
+    CastProposal, CastWord, CopyWord, IndicesProposal, IndicesWord, InitWord, MemoryLaneWord,
+    MemoryWord, ProposalWord, RefWord, ResumeProposal, Word,
+};
+use wast_operands::{LoadOrStoreLane, MemArg};
+use wast_parser::{Error, Index, Meaning, Parse, Parser};
+
+impl<'a> Meaning for Instruction<'a> {
+    ghost Tree = { spec.Instruction (List ℕ) ℕ };
+
+    ghost tree = { instruction_tree };
+
+    ghost syntax = { instruction };
+
+    fn lawful()
+        ensures { Lawful (instruction {N = List ℕ} {P = ℕ}) }
+    {}
+}
+
+impl<'a> Parse<'a> for Instruction<'a> {
+    fn parse(parser: &mut Parser<'a>) -> Result<Self, Error> {
+        let (word, _) = parser.among("expected an instruction")?;
+        let instruction = parse_operands(parser, word)?;
+        Ok(instruction)
+    }
+}
+
+/// Reads the instruction of a word, with the operands of its row.
+fn parse_operands<'a>(parser: &mut Parser<'a>, word: Word) -> Result<Instruction<'a>, Error>
+    ensures read { Gives instruction_operands result parser.new ((operands (word_operands word)).reads (ahead parser.old)) }
+    ensures same { IfOk result (λ i. instruction_word i ≡ word) }
+    ensures keeps { Keeps parser.old parser.new }
+{
+    match word {
+        Word::Plain(word) => Ok(plain(word)),
+        Word::Name(word) => Ok(with_label(word, Option::parse(parser)?)),
+        Word::Block(word) => Ok(with_block(word, Box::parse(parser)?)),
+        Word::TryTable => Ok(Instruction::TryTable(Parse::parse(parser)?)),
+        Word::Index(word) => Ok(with_index(word, Index::parse(parser)?)),
+        Word::Indices(word) => parse_indices(parser, word),
+        Word::ArrayNewFixed => Ok(Instruction::Gc(GcOp::ArrayNewFixed(Parse::parse(parser)?))),
+        Word::BrTable => Ok(Instruction::BrTable(Parse::parse(parser)?)),
+        Word::Indirect(word) => Ok(with_call(word, Box::parse(parser)?)),
+        Word::OptionalIndex(word) => Ok(with_optional_index(word, Option::parse(parser)?)),
+        Word::Copy(word) => parse_copy(parser, word),
+        Word::Init(word) => parse_init(parser, word),
+        Word::RefNull => Ok(Instruction::Gc(GcOp::RefNull(Parse::parse(parser)?))),
+        Word::Ref(word) => parse_ref(parser, word),
+        Word::Cast(word) => parse_cast(parser, word),
+        Word::I32Const => Ok(Instruction::I32Const(i32::parse(parser)?)),
+        Word::I64Const => Ok(Instruction::I64Const(i64::parse(parser)?)),
+        Word::F32Const => Ok(Instruction::F32Const(Parse::parse(parser)?)),
+        Word::F64Const => Ok(Instruction::F64Const(Parse::parse(parser)?)),
+        Word::V128Const => Ok(Instruction::VectorArg(VectorArgOp::V128Const(Parse::parse(
+            parser,
+        )?))),
+        Word::Select => Ok(Instruction::Select(Parse::parse(parser)?)),
+        Word::Lane(word) => Ok(with_lane(word, Parse::parse(parser)?)),
+        Word::I8x16Shuffle => Ok(Instruction::VectorArg(VectorArgOp::I8x16Shuffle(Parse::parse(
+            parser,
+        )?))),
+        Word::Memory(word) => parse_memory(parser, word),
+        Word::MemoryLane(word) => parse_memory_lane(parser, word),
+        Word::AtomicFence => Ok(Instruction::AtomicFence(Option::parse(parser)?)),
+        Word::Proposal(word) => parse_proposal(parser, word),
+    }
+}
+
+fn parse_indices<'a>(parser: &mut Parser<'a>, word: IndicesWord) -> Result<Instruction<'a>, Error>
+    ensures read { Gives instruction_operands result parser.new ((operands (word_operands (words.Indices word))).reads (ahead parser.old)) }
+    ensures same { IfOk result (λ i. instruction_word i ≡ words.Indices word) }
+    ensures keeps { Keeps parser.old parser.new }
+{
+    let first = Index::parse(parser)?;
+    let second = Index::parse(parser)?;
+    Ok(with_indices(word, first, second))
+}
+
+fn parse_copy<'a>(parser: &mut Parser<'a>, word: CopyWord) -> Result<Instruction<'a>, Error>
+    ensures read { Gives instruction_operands result parser.new ((operands (word_operands (words.Copy word))).reads (ahead parser.old)) }
+    ensures same { IfOk result (λ i. instruction_word i ≡ words.Copy word) }
+    ensures keeps { Keeps parser.old parser.new }
+{
+    match word {
+        CopyWord::MemoryCopy => Ok(Instruction::Bulk(BulkOp::MemoryCopy(Parse::parse(parser)?))),
+        CopyWord::TableCopy => Ok(Instruction::Bulk(BulkOp::TableCopy(Parse::parse(parser)?))),
+    }
+}
+
+fn parse_init<'a>(parser: &mut Parser<'a>, word: InitWord) -> Result<Instruction<'a>, Error>
+    ensures read { Gives instruction_operands result parser.new ((operands (word_operands (words.Init word))).reads (ahead parser.old)) }
+    ensures same { IfOk result (λ i. instruction_word i ≡ words.Init word) }
+    ensures keeps { Keeps parser.old parser.new }
+{
+    match word {
+        InitWord::MemoryInit => Ok(Instruction::Bulk(BulkOp::MemoryInit(Parse::parse(parser)?))),
+        InitWord::TableInit => Ok(Instruction::Bulk(BulkOp::TableInit(Parse::parse(parser)?))),
+    }
+}
+
+fn parse_ref<'a>(parser: &mut Parser<'a>, word: RefWord) -> Result<Instruction<'a>, Error>
+    ensures read { Gives instruction_operands result parser.new ((operands (word_operands (words.Ref word))).reads (ahead parser.old)) }
+    ensures same { IfOk result (λ i. instruction_word i ≡ words.Ref word) }
+    ensures keeps { Keeps parser.old parser.new }
+{
+    match word {
+        RefWord::RefTest => Ok(Instruction::Gc(GcOp::RefTest(Parse::parse(parser)?))),
+        RefWord::RefCast => Ok(Instruction::Gc(GcOp::RefCast(Parse::parse(parser)?))),
+    }
+}
+
+fn parse_cast<'a>(parser: &mut Parser<'a>, word: CastWord) -> Result<Instruction<'a>, Error>
+    ensures read { Gives instruction_operands result parser.new ((operands (word_operands (words.Cast word))).reads (ahead parser.old)) }
+    ensures same { IfOk result (λ i. instruction_word i ≡ words.Cast word) }
+    ensures keeps { Keeps parser.old parser.new }
+{
+    match word {
+        CastWord::BrOnCast => Ok(Instruction::Gc(GcOp::BrOnCast(Box::parse(parser)?))),
+        CastWord::BrOnCastFail => Ok(Instruction::Gc(GcOp::BrOnCastFail(Box::parse(parser)?))),
+    }
+}
+
+fn parse_memory<'a>(parser: &mut Parser<'a>, word: MemoryWord) -> Result<Instruction<'a>, Error>
+    ensures read { Gives instruction_operands result parser.new ((operands (word_operands (words.Memory word))).reads (ahead parser.old)) }
+    ensures same { IfOk result (λ i. instruction_word i ≡ words.Memory word) }
+    ensures keeps { Keeps parser.old parser.new }
+{
+    let memarg = MemArg::parse(parser, u64::from(word.natural_alignment()))?;
+    Ok(with_memarg(word, memarg))
+}
+
+fn parse_memory_lane<'a>(
+    parser: &mut Parser<'a>,
+    word: MemoryLaneWord,
+) -> Result<Instruction<'a>, Error>
+    ensures read { Gives instruction_operands result parser.new ((operands (word_operands (words.MemoryLane word))).reads (ahead parser.old)) }
+    ensures same { IfOk result (λ i. instruction_word i ≡ words.MemoryLane word) }
+    ensures keeps { Keeps parser.old parser.new }
+{
+    match LoadOrStoreLane::parse(parser, u64::from(word.natural_alignment())) {
+        Ok(operands) => Ok(with_memarg_lane(word, operands)),
+        Err(e) => Err(e),
+    }
+}
+
+fn parse_proposal<'a>(parser: &mut Parser<'a>, word: ProposalWord) -> Result<Instruction<'a>, Error>
+    ensures read { Gives instruction_operands result parser.new ((operands (word_operands (words.Proposal word))).reads (ahead parser.old)) }
+    ensures same { IfOk result (λ i. instruction_word i ≡ words.Proposal word) }
+    ensures keeps { Keeps parser.old parser.new }
+{
+    match word {
+        ProposalWord::Plain(word) => Ok(plain_proposal(word)),
+        ProposalWord::Index(word) => Ok(index_proposal(word, Index::parse(parser)?)),
+        ProposalWord::Indices(word) => parse_proposal_indices(parser, word),
+        ProposalWord::MemoryDiscard => Ok(Instruction::Proposal(ProposalOp::MemoryDiscard(
+            Parse::parse(parser)?,
+        ))),
+        ProposalWord::RefCastDescEq => Ok(Instruction::Proposal(ProposalOp::RefCastDescEq(
+            Parse::parse(parser)?,
+        ))),
+        ProposalWord::Cast(word) => parse_proposal_cast(parser, word),
+        ProposalWord::Resume(word) => parse_resume(parser, word),
+        ProposalWord::ResumeThrow => Ok(Instruction::Proposal(ProposalOp::ResumeThrow(Parse::parse(
+            parser,
+        )?))),
+        ProposalWord::OrderedIndex(word) => Ok(ordered_index(word, Parse::parse(parser)?)),
+        ProposalWord::OrderedOptionalIndex(word) => Ok(ordered_optional_index(
+            word,
+            Parse::parse(parser)?,
+        )),
+        ProposalWord::OrderedIndices(word) => Ok(ordered_indices(word, Parse::parse(parser)?)),
+    }
+}
+
+fn parse_proposal_indices<'a>(
+    parser: &mut Parser<'a>,
+    word: IndicesProposal,
+) -> Result<Instruction<'a>, Error>
+    ensures read { Gives instruction_operands result parser.new ((operands (proposal_operands (proposal_words.Indices word))).reads (ahead parser.old)) }
+    ensures same { IfOk result (λ i. instruction_word i ≡ words.Proposal (proposal_words.Indices word)) }
+    ensures keeps { Keeps parser.old parser.new }
+{
+    let first = Index::parse(parser)?;
+    let second = Index::parse(parser)?;
+    Ok(indices_proposal(word, first, second))
+}
+
+fn parse_proposal_cast<'a>(
+    parser: &mut Parser<'a>,
+    word: CastProposal,
+) -> Result<Instruction<'a>, Error>
+    ensures read { Gives instruction_operands result parser.new ((operands (proposal_operands (proposal_words.Cast word))).reads (ahead parser.old)) }
+    ensures same { IfOk result (λ i. instruction_word i ≡ words.Proposal (proposal_words.Cast word)) }
+    ensures keeps { Keeps parser.old parser.new }
+{
+    match word {
+        CastProposal::BrOnCastDescEq => Ok(Instruction::Proposal(ProposalOp::BrOnCastDescEq(
+            Box::parse(parser)?,
+        ))),
+        CastProposal::BrOnCastDescEqFail => Ok(Instruction::Proposal(ProposalOp::BrOnCastDescEqFail(
+            Box::parse(parser)?,
+        ))),
+    }
+}
+
+fn parse_resume<'a>(parser: &mut Parser<'a>, word: ResumeProposal) -> Result<Instruction<'a>, Error>
+    ensures read { Gives instruction_operands result parser.new ((operands (proposal_operands (proposal_words.Resume word))).reads (ahead parser.old)) }
+    ensures same { IfOk result (λ i. instruction_word i ≡ words.Proposal (proposal_words.Resume word)) }
+    ensures keeps { Keeps parser.old parser.new }
+{
+    match word {
+        ResumeProposal::Resume => Ok(Instruction::Proposal(ProposalOp::Resume(Parse::parse(
+            parser,
+        )?))),
+        ResumeProposal::ResumeThrowRef => Ok(Instruction::Proposal(ProposalOp::ResumeThrowRef(
+            Parse::parse(parser)?,
+        ))),
+    }
+}
