@@ -1,13 +1,14 @@
 -- Modules by hand, as they are read: what the check computes.
 use Rattle.std.proofs.Common.{◌≡◌, ℕ, false, List, [], ◌∷◌, ◌++◌, Option, Some, None, refl}
 use Rattle.std.specs.Prelude.{codes}
+use Rattle.wast_grammar.specs.Tokens.{Name}
 use Rattle.wast_parser.specs.Tokens.{Open, Close, Word, Integer, Text}
 use Rattle.wast_parser.specs.Significant.{TextToken}
 use Rattle.wast_core.specs.FieldTree.{Module}
 use Rattle.wast_core.specs.ModuleSyntax.{wat}
 
 -- whether all of these tokens are read, and the place of the module
-abbrev place_read : Option (Module (List ℕ) ℕ × List TextToken) → Option ℕ
+abbrev place_read : Option (Module Name ℕ × List TextToken) → Option ℕ
 place_read (Some (m, [])) = Some m.place
 place_read _ = None
 

@@ -23,7 +23,7 @@ module _ {N P : Type 0} where
   pub use_of_leads : (w : List ℕ) → N → P → Leads (use_of {N = N} {P = P} w).spells (this_group w ∷ int_starts)
   use_of_leads w n p =
       either_leads _ _ (this_group w ∷ []) int_starts
-      (group_leads w index index_laws (ByName ((n, p), 0)) (Id (Some n) p ∷ []) (inr (((n, p), 0), refl, ((n, p), refl, (Id (Some n) p, refl, refl)))))
+      (group_leads w index index_laws (ByName (n, p)) (Id (Some n) p ∷ []) (inr ((n, p), refl, (Id (Some n) p, refl, refl))))
       (seen_leads _ _ int_starts (number_leads (2 ^ 32 - 1) None unsigned)) refl refl refl
 
   -- INSTRUCTIONS in parentheses

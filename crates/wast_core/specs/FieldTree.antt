@@ -1,6 +1,7 @@
 -- The fields of a module, and modules, as they are written: abstract syntax trees (WebAssembly 3.0, 6.6), over names of type N and
 -- places of type P.
 use Rattle.std.specs.Prelude.{ℕ, Bool, true, false, List, [], ◌∷◌, Option, not, ◌&&◌}
+use Rattle.wast_parser.specs.Problem.{Problem}
 use Rattle.wast_parser.specs.Identifiers.{Named, Reference}
 use Rattle.wast_value_types.specs.ValueTree.{RefType, TableType, MemoryType, GlobalType}
 use Rattle.wast_core_types.specs.TypeTree.{Local, TypeUse, TypeItem, Rec}
@@ -129,3 +130,5 @@ pub record Module (N P : Type 0) : Type 0 where
   pub id : Option (Named N P)
   pub given : Option (List ℕ)
   pub content : Content N P
+  -- what a resolver refused it with; a module that is read has none
+  pub refusal : Option Problem

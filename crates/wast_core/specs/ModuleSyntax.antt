@@ -64,7 +64,7 @@ module _ {N P : Type 0} where
   content = either (this_word (codes "binary") ∷ []) (seen Pieces (led (codes "binary") (many (On false AString Any ∷ []) string))) (seen Fields fields)
 
   abbrev pub as_module : P × (Head N P × Content N P) → Module N P
-  as_module m = record { place = m.0; id = m.1.0.0; given = m.1.0.1; content = m.1.1 }
+  as_module m = record { place = m.0; id = m.1.0.0; given = m.1.0.1; content = m.1.1; refusal = None }
 
   abbrev pub module_body : Syntax N P (Module N P)
   module_body = seen as_module (seq (word (codes "module")) (seq head content))
@@ -74,7 +74,7 @@ module _ {N P : Type 0} where
 
   -- A WHOLE TEXT: such a module, or the fields of one, of which there is one at least
   abbrev pub as_fields : Field N P × List (Field N P) → Module N P
-  as_fields fs = record { place = field_place fs.0; id = None; given = None; content = Fields (fs.0 ∷ fs.1) }
+  as_fields fs = record { place = field_place fs.0; id = None; given = None; content = Fields (fs.0 ∷ fs.1); refusal = None }
 
   abbrev pub bare_module : Syntax N P (Module N P)
   bare_module = seen as_fields (only (λ fs. one_start (fs.0 ∷ fs.1)) (seq field (many field_starts field)))

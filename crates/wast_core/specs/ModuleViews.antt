@@ -1,5 +1,6 @@
 -- What the grammar sees of the code's fields as such, and of its modules.
 use Rattle.std.specs.Prelude.{ℕ, List, map, option_map}
+use Rattle.wast_grammar.specs.Tokens.{Name}
 use Rattle.wast_parser.specs.Identifiers.{identifier_tree}
 use Rattle.wast_core_types.specs.TypeViews.{name_tree, item_tree, rec_tree}
 use Rattle.wast_exports.specs.ExportViews.{export_tree}
@@ -14,7 +15,7 @@ use Rattle.wast_core.specs.declared.module.ModuleKind.{ModuleKind}
 use Rattle.wast_core.specs.declared.module.ModuleKind.TheVariants as contents
 use Rattle.wast_core.specs.declared.module.Module.{Module}
 
-abbrev pub field_tree : ModuleField → spec.Field (List ℕ) ℕ
+abbrev pub field_tree : ModuleField → spec.Field Name ℕ
 field_tree (fields.TypeItem t) = spec.TypeField (item_tree t)
 field_tree (fields.Rec r) = spec.RecField (rec_tree r)
 field_tree (fields.Import i) = spec.ImportField (imports_tree i)
@@ -29,9 +30,9 @@ field_tree (fields.Data d) = spec.DataField (data_tree d)
 field_tree (fields.Tag t) = spec.Define (tag_definition t)
 field_tree (fields.Custom c) = spec.CustomField (custom_tree c)
 
-abbrev pub content_tree : ModuleKind → spec.Content (List ℕ) ℕ
+abbrev pub content_tree : ModuleKind → spec.Content Name ℕ
 content_tree (contents.Text fields) = spec.Fields (map field_tree fields.items)
 content_tree (contents.Binary pieces) = spec.Pieces pieces.items
 
-abbrev pub module_tree : Module → spec.Module (List ℕ) ℕ
-module_tree m = record { place = m.span; id = option_map identifier_tree m.id; given = option_map name_tree m.name; content = content_tree m.kind }
+abbrev pub module_tree : Module → spec.Module Name ℕ
+module_tree m = record { place = m.span; id = option_map identifier_tree m.id; given = option_map name_tree m.name; content = content_tree m.kind; refusal = m.refusal }

@@ -1,5 +1,6 @@
 //! Data segments.
 ghost use Rattle.std.specs.Prelude.{◌≡◌, ℕ, List, map};
+ghost use Rattle.wast_grammar.specs.Tokens.{Name};
 ghost use Rattle.wast_parser.specs.Look.{ask};
 ghost use Rattle.wast_parser.specs.Lawful.{Lawful};
 ghost use Rattle.wast_parser.specs.State.{ahead, Keeps};
@@ -47,14 +48,14 @@ pub enum DataKind<'a> {
 }
 
 impl<'a> Meaning for Data<'a> {
-    ghost Tree = { spec.Data (List ℕ) ℕ };
+    ghost Tree = { spec.Data Name ℕ };
 
     ghost tree = { data_tree };
 
     ghost syntax = { data_segment };
 
     fn lawful()
-        ensures { Lawful (data_segment {N = List ℕ} {P = ℕ}) }
+        ensures { Lawful (data_segment {N = Name} {P = ℕ}) }
     {}
 }
 

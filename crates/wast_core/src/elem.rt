@@ -1,5 +1,6 @@
 //! Element segments.
 ghost use Rattle.std.specs.Prelude.{◌≡◌, ℕ, List};
+ghost use Rattle.wast_grammar.specs.Tokens.{Name};
 ghost use Rattle.wast_parser.specs.Look.{ask};
 ghost use Rattle.wast_parser.specs.Grammar.{either, seen};
 ghost use Rattle.wast_parser.specs.Lawful.{Lawful};
@@ -61,14 +62,14 @@ pub enum ElemPayload<'a> {
 }
 
 impl<'a> Meaning for Elem<'a> {
-    ghost Tree = { spec.Elem (List ℕ) ℕ };
+    ghost Tree = { spec.Elem Name ℕ };
 
     ghost tree = { elem_tree };
 
     ghost syntax = { elem };
 
     fn lawful()
-        ensures { Lawful (elem {N = List ℕ} {P = ℕ}) }
+        ensures { Lawful (elem {N = Name} {P = ℕ}) }
     {}
 }
 

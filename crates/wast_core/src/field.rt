@@ -1,5 +1,6 @@
 //! Fields of modules.
 ghost use Rattle.std.specs.Prelude.{◌≡◌, ℕ, List, refl};
+ghost use Rattle.wast_grammar.specs.Tokens.{Name};
 ghost use Rattle.wast_parser.specs.Look.{ask};
 ghost use Rattle.wast_parser.specs.Lawful.{Lawful, Leads};
 ghost use Rattle.wast_parser.specs.State.{ahead};
@@ -45,14 +46,14 @@ pub enum ModuleField<'a> {
 }
 
 impl<'a> Meaning for ModuleField<'a> {
-    ghost Tree = { spec.Field (List ℕ) ℕ };
+    ghost Tree = { spec.Field Name ℕ };
 
     ghost tree = { field_tree };
 
     ghost syntax = { field };
 
     fn lawful()
-        ensures { Lawful (field {N = List ℕ} {P = ℕ}) }
+        ensures { Lawful (field {N = Name} {P = ℕ}) }
     {}
 }
 
@@ -80,7 +81,7 @@ impl<'a> Peek for ModuleField<'a> {
     ghost sure = { refl };
 
     fn leads()
-        ensures { Leads (field {N = List ℕ} {P = ℕ}).spells field_starts }
+        ensures { Leads (field {N = Name} {P = ℕ}).spells field_starts }
     {}
 
     fn peek(cursor: Cursor<'_, '_>) -> Result<bool, Error>
@@ -108,14 +109,14 @@ struct Defining<'a> {
 }
 
 impl<'a> Meaning for Defining<'a> {
-    ghost Tree = { spec.Field (List ℕ) ℕ };
+    ghost Tree = { spec.Field Name ℕ };
 
     ghost tree = { λ d. field_tree d.field };
 
     ghost syntax = { defining };
 
     fn lawful()
-        ensures { Lawful (defining {N = List ℕ} {P = ℕ}) }
+        ensures { Lawful (defining {N = Name} {P = ℕ}) }
     {}
 }
 
@@ -142,7 +143,7 @@ impl<'a> Peek for Defining<'a> {
     ghost sure = { refl };
 
     fn leads()
-        ensures { Leads (defining {N = List ℕ} {P = ℕ}).spells defining_starts }
+        ensures { Leads (defining {N = Name} {P = ℕ}).spells defining_starts }
     {}
 
     fn peek(cursor: Cursor<'_, '_>) -> Result<bool, Error>
@@ -166,14 +167,14 @@ struct Describing<'a> {
 }
 
 impl<'a> Meaning for Describing<'a> {
-    ghost Tree = { spec.Field (List ℕ) ℕ };
+    ghost Tree = { spec.Field Name ℕ };
 
     ghost tree = { λ d. field_tree d.field };
 
     ghost syntax = { describing };
 
     fn lawful()
-        ensures { Lawful (describing {N = List ℕ} {P = ℕ}) }
+        ensures { Lawful (describing {N = Name} {P = ℕ}) }
     {}
 }
 
@@ -200,7 +201,7 @@ impl<'a> Peek for Describing<'a> {
     ghost sure = { refl };
 
     fn leads()
-        ensures { Leads (describing {N = List ℕ} {P = ℕ}).spells describing_starts }
+        ensures { Leads (describing {N = Name} {P = ℕ}).spells describing_starts }
     {}
 
     fn peek(cursor: Cursor<'_, '_>) -> Result<bool, Error>

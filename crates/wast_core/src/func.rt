@@ -1,5 +1,6 @@
 //! Functions.
 ghost use Rattle.std.specs.Prelude.{◌≡◌, ℕ, List};
+ghost use Rattle.wast_grammar.specs.Tokens.{Name};
 ghost use Rattle.wast_parser.specs.Grammar.{seen, seq};
 ghost use Rattle.wast_parser.specs.Lawful.{Lawful};
 ghost use Rattle.wast_parser.specs.State.{ahead, Keeps};
@@ -52,14 +53,14 @@ pub enum FuncKind<'a> {
 }
 
 impl<'a> Meaning for Func<'a> {
-    ghost Tree = { spec.Definition (List ℕ) ℕ };
+    ghost Tree = { spec.Definition Name ℕ };
 
     ghost tree = { func_definition };
 
     ghost syntax = { func };
 
     fn lawful()
-        ensures { Lawful (func {N = List ℕ} {P = ℕ}) }
+        ensures { Lawful (func {N = Name} {P = ℕ}) }
     {}
 }
 

@@ -1,5 +1,6 @@
 //! Globals.
 ghost use Rattle.std.specs.Prelude.{◌≡◌, ℕ, List};
+ghost use Rattle.wast_grammar.specs.Tokens.{Name};
 ghost use Rattle.wast_parser.specs.Lawful.{Lawful};
 ghost use Rattle.wast_parser.specs.State.{ahead, Keeps};
 ghost use Rattle.wast_parser.specs.Reading.{Gives};
@@ -38,14 +39,14 @@ pub enum GlobalKind<'a> {
 }
 
 impl<'a> Meaning for Global<'a> {
-    ghost Tree = { spec.Definition (List ℕ) ℕ };
+    ghost Tree = { spec.Definition Name ℕ };
 
     ghost tree = { global_definition };
 
     ghost syntax = { global };
 
     fn lawful()
-        ensures { Lawful (global {N = List ℕ} {P = ℕ}) }
+        ensures { Lawful (global {N = Name} {P = ℕ}) }
     {}
 }
 

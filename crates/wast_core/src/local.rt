@@ -1,5 +1,6 @@
 //! Locals of functions.
 ghost use Rattle.std.specs.Prelude.{◌≡◌, ℕ, List, IfOk, map, codes};
+ghost use Rattle.wast_grammar.specs.Tokens.{Name};
 ghost use Rattle.wast_parser.specs.Grammar.{led};
 ghost use Rattle.wast_parser.specs.Lawful.{Lawful};
 ghost use Rattle.wast_parser.specs.State.{ahead, Keeps};
@@ -42,14 +43,14 @@ pub struct LocalParser<'a> {
 }
 
 impl<'a> Meaning for LocalParser<'a> {
-    ghost Tree = { List (types.Local (List ℕ) ℕ) };
+    ghost Tree = { List (types.Local Name ℕ) };
 
     ghost tree = { λ g. map local_tree g.locals.items };
 
     ghost syntax = { led (codes "local") named_locals };
 
     fn lawful()
-        ensures { Lawful (led {N = List ℕ} {P = ℕ} (codes "local") named_locals) }
+        ensures { Lawful (led {N = Name} {P = ℕ} (codes "local") named_locals) }
     {}
 }
 

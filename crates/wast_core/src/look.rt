@@ -1,5 +1,6 @@
 //! Looks for one of several at a parser.
 ghost use Rattle.std.specs.Prelude.{◌≡◌, ℕ, List, refl, true};
+ghost use Rattle.wast_grammar.specs.Tokens.{Name};
 ghost use Rattle.wast_parser.specs.Look.{Test, ask, apart, faults, join};
 ghost use Rattle.wast_parser.specs.Lawful.{Lawful, Leads};
 ghost use Rattle.wast_parser.specs.State.{ahead};
@@ -36,7 +37,7 @@ impl Meaning for InstructionGroup {
     ghost syntax = { lone_instruction };
 
     fn lawful()
-        ensures { Lawful (lone_instruction {N = List ℕ} {P = ℕ}) }
+        ensures { Lawful (lone_instruction {N = Name} {P = ℕ}) }
     {}
 }
 
@@ -46,7 +47,7 @@ impl Peek for InstructionGroup {
     ghost sure = { refl };
 
     fn leads()
-        ensures { Leads (lone_instruction {N = List ℕ} {P = ℕ}).spells plain_starts }
+        ensures { Leads (lone_instruction {N = Name} {P = ℕ}).spells plain_starts }
     {}
 
     fn peek(cursor: Cursor<'_, '_>) -> Result<bool, Error>

@@ -1,5 +1,6 @@
 //! Memories.
 ghost use Rattle.std.specs.Prelude.{◌≡◌, ℕ, List, map, codes};
+ghost use Rattle.wast_grammar.specs.Tokens.{Name};
 ghost use Rattle.wast_parser.specs.Grammar.{seen, seq, group};
 ghost use Rattle.wast_parser.specs.Lawful.{Lawful};
 ghost use Rattle.wast_parser.specs.State.{ahead, Keeps};
@@ -56,14 +57,14 @@ pub enum MemoryKind<'a> {
 }
 
 impl<'a> Meaning for Memory<'a> {
-    ghost Tree = { spec.Definition (List ℕ) ℕ };
+    ghost Tree = { spec.Definition Name ℕ };
 
     ghost tree = { memory_definition };
 
     ghost syntax = { memory };
 
     fn lawful()
-        ensures { Lawful (memory {N = List ℕ} {P = ℕ}) }
+        ensures { Lawful (memory {N = Name} {P = ℕ}) }
     {}
 }
 

@@ -1,5 +1,6 @@
 //! Modules.
 ghost use Rattle.std.specs.Prelude.{◌≡◌, ℕ, List, map, is_some, not};
+ghost use Rattle.wast_grammar.specs.Tokens.{Name};
 ghost use Rattle.wast_parser.specs.Lawful.{Lawful};
 ghost use Rattle.wast_parser.specs.State.{ahead, Keeps};
 ghost use Rattle.wast_parser.specs.Reading.{Gives};
@@ -26,6 +27,8 @@ pub struct Module<'a> {
     /// The name that an annotation gives it.
     pub name: Option<NameAnnotation<'a>>,
     pub kind: ModuleKind<'a>,
+    /// What a resolver refused the module with; none where it is read.
+    pub refusal: Option<Error>,
 }
 
 /// What a module holds.
@@ -38,14 +41,14 @@ pub enum ModuleKind<'a> {
 }
 
 impl<'a> Meaning for Module<'a> {
-    ghost Tree = { spec.Module (List ℕ) ℕ };
+    ghost Tree = { spec.Module Name ℕ };
 
     ghost tree = { module_tree };
 
     ghost syntax = { module_form };
 
     fn lawful()
-        ensures { Lawful (module_form {N = List ℕ} {P = ℕ}) }
+        ensures { Lawful (module_form {N = Name} {P = ℕ}) }
     {}
 }
 
@@ -61,6 +64,7 @@ impl<'a> Parse<'a> for Module<'a> {
             id: head.id,
             name: head.name,
             kind,
+            refusal: None,
         })
     }
 }

@@ -1,5 +1,6 @@
 //! The tables and memories of segments.
 ghost use Rattle.std.specs.Prelude.{◌≡◌, ℕ, List, ◌∷◌, option_map, refl};
+ghost use Rattle.wast_grammar.specs.Tokens.{Name};
 ghost use Rattle.wast_parser.specs.Look.{ask, this_group};
 ghost use Rattle.wast_parser.specs.Grammar.{maybe};
 ghost use Rattle.wast_parser.specs.Lawful.{Lawful, Leads};
@@ -24,14 +25,14 @@ pub(crate) struct UseOf<'a, N> {
 }
 
 impl<'a, N: KeywordName> Meaning for UseOf<'a, N> {
-    ghost Tree = { Reference (List ℕ) ℕ };
+    ghost Tree = { Reference Name ℕ };
 
     ghost tree = { λ u. index_tree u.index };
 
     ghost syntax = { use_of N.word };
 
     fn lawful()
-        ensures { Lawful (use_of {N = List ℕ} {P = ℕ} N.word) }
+        ensures { Lawful (use_of {N = Name} {P = ℕ} N.word) }
     {}
 }
 
@@ -62,7 +63,7 @@ impl<'a, N: KeywordName> Peek for UseOf<'a, N> {
     ghost sure = { refl };
 
     fn leads()
-        ensures { Leads (use_of {N = List ℕ} {P = ℕ} N.word).spells (this_group N.word ∷ int_starts) }
+        ensures { Leads (use_of {N = Name} {P = ℕ} N.word).spells (this_group N.word ∷ int_starts) }
     {}
 
     fn peek(cursor: Cursor<'_, '_>) -> Result<bool, Error>

@@ -1,5 +1,6 @@
 //! The start function.
 ghost use Rattle.std.specs.Prelude.{◌≡◌, ℕ, List};
+ghost use Rattle.wast_grammar.specs.Tokens.{Name};
 ghost use Rattle.wast_parser.specs.Lawful.{Lawful};
 ghost use Rattle.wast_core.specs.FieldTree as spec;
 ghost use Rattle.wast_core.specs.ModuleSyntax.{start};
@@ -17,14 +18,14 @@ pub struct Start<'a> {
 }
 
 impl<'a> Meaning for Start<'a> {
-    ghost Tree = { spec.Start (List ℕ) ℕ };
+    ghost Tree = { spec.Start Name ℕ };
 
     ghost tree = { start_tree };
 
     ghost syntax = { start };
 
     fn lawful()
-        ensures { Lawful (start {N = List ℕ} {P = ℕ}) }
+        ensures { Lawful (start {N = Name} {P = ℕ}) }
     {}
 }
 

@@ -1,5 +1,6 @@
 //! Tables.
 ghost use Rattle.std.specs.Prelude.{◌≡◌, ℕ, List, false, true, codes, Some, None, option_map};
+ghost use Rattle.wast_grammar.specs.Tokens.{Name};
 ghost use Rattle.wast_parser.specs.Grammar.{seen, led, seq};
 ghost use Rattle.wast_parser.specs.Lawful.{Lawful};
 ghost use Rattle.wast_parser.specs.State.{ahead, Keeps};
@@ -61,14 +62,14 @@ pub enum TableKind<'a> {
 }
 
 impl<'a> Meaning for Table<'a> {
-    ghost Tree = { spec.Definition (List ℕ) ℕ };
+    ghost Tree = { spec.Definition Name ℕ };
 
     ghost tree = { table_definition };
 
     ghost syntax = { table };
 
     fn lawful()
-        ensures { Lawful (table {N = List ℕ} {P = ℕ}) }
+        ensures { Lawful (table {N = Name} {P = ℕ}) }
     {}
 }
 

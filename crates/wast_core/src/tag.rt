@@ -1,5 +1,6 @@
 //! Tags.
 ghost use Rattle.std.specs.Prelude.{◌≡◌, ℕ, List};
+ghost use Rattle.wast_grammar.specs.Tokens.{Name};
 ghost use Rattle.wast_parser.specs.Lawful.{Lawful};
 ghost use Rattle.wast_parser.specs.State.{ahead, Keeps};
 ghost use Rattle.wast_parser.specs.Reading.{Gives};
@@ -35,14 +36,14 @@ pub enum TagKind<'a> {
 }
 
 impl<'a> Meaning for Tag<'a> {
-    ghost Tree = { spec.Definition (List ℕ) ℕ };
+    ghost Tree = { spec.Definition Name ℕ };
 
     ghost tree = { tag_definition };
 
     ghost syntax = { tag };
 
     fn lawful()
-        ensures { Lawful (tag {N = List ℕ} {P = ℕ}) }
+        ensures { Lawful (tag {N = Name} {P = ℕ}) }
     {}
 }
 

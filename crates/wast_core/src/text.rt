@@ -1,5 +1,6 @@
 //! Modules as the whole of a text.
 ghost use Rattle.std.specs.Prelude.{◌≡◌, ◌∷◌, ℕ, List, IfOk, map};
+ghost use Rattle.wast_grammar.specs.Tokens.{Name};
 ghost use Rattle.wast_parser.specs.Lawful.{Lawful};
 ghost use Rattle.wast_parser.specs.State.{ahead, Keeps};
 ghost use Rattle.wast_parser.specs.Reading.{Gives};
@@ -24,14 +25,14 @@ pub struct TextModule<'a> {
 }
 
 impl<'a> Meaning for TextModule<'a> {
-    ghost Tree = { spec.Module (List ℕ) ℕ };
+    ghost Tree = { spec.Module Name ℕ };
 
     ghost tree = { λ t. module_tree t.«module» };
 
     ghost syntax = { wat };
 
     fn lawful()
-        ensures { Lawful (wat {N = List ℕ} {P = ℕ}) }
+        ensures { Lawful (wat {N = Name} {P = ℕ}) }
     {}
 }
 
@@ -62,6 +63,7 @@ fn parse_bare<'a>(parser: &mut Parser<'a>) -> Result<Module<'a>, Error>
             id: None,
             name: None,
             kind: ModuleKind::Text(fields),
+            refusal: None,
         }),
     }
 }

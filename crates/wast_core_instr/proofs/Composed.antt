@@ -1,5 +1,6 @@
 -- What is read is seen as another value.
 use Rattle.std.proofs.Common.{◌≡◌, ℕ, List, ap, ◌∙◌, Option, Some}
+use Rattle.wast_grammar.specs.Tokens.{Name}
 use Rattle.wast_parser.specs.Tokens.{SignificantToken}
 use Rattle.wast_parser.specs.Grammar.{Syntax, seen}
 use Rattle.wast_parser.specs.Spelling.{◌>>=◌}
@@ -7,11 +8,11 @@ use Rattle.wast_parser.specs.Reading.{Refuses}
 use Rattle.wast_parser_base.specs.Problem.{Problem}
 use Rattle.wast_parser_core.proofs.States.{refuses_all}
 
-module _ {A B : Type 0} (f : A → B) (g : Syntax (List ℕ) ℕ A) (ts : List (SignificantToken (List ℕ) ℕ)) where
-  abbrev again : Option (A × List (SignificantToken (List ℕ) ℕ)) → Option (B × List (SignificantToken (List ℕ) ℕ))
+module _ {A B : Type 0} (f : A → B) (g : Syntax Name ℕ A) (ts : List (SignificantToken Name ℕ)) where
+  abbrev again : Option (A × List (SignificantToken Name ℕ)) → Option (B × List (SignificantToken Name ℕ))
   again o = o >>= λ x. Some (f x.0, x.1)
 
-  pub read_as : (a : A) (b : B) (rest : List (SignificantToken (List ℕ) ℕ)) → g.reads ts ≡ Some (a, rest) → f a ≡ b → (seen f g).reads ts ≡ Some (b, rest)
+  pub read_as : (a : A) (b : B) (rest : List (SignificantToken Name ℕ)) → g.reads ts ≡ Some (a, rest) → f a ≡ b → (seen f g).reads ts ≡ Some (b, rest)
   read_as a b rest r e = ap again r ∙ ap (λ z. Some (z, rest)) e
 
   pub refused_as : (p : Problem) → Refuses p (g.reads ts) → Refuses p ((seen f g).reads ts)

@@ -2,3 +2,4 @@ pub mod Composed
 pub mod GroupKinds
 pub mod GroupLaws
 pub mod InstructionLaws
+pub mod MemArgs

@@ -1,5 +1,5 @@
 -- Instructions as they are written: abstract syntax trees (WebAssembly 3.0, 6.5), over names of type N and places of type P.
-use Rattle.std.specs.Prelude.{ℕ, ℤ, Bool, true, false, List, Option, Some}
+use Rattle.std.specs.Prelude.{ℕ, ℤ, Bool, true, false, List, Option, Some, None}
 use Rattle.wast_parser.specs.Identifiers.{Named, Reference}
 use Rattle.wast_value_types.specs.ValueTree.{HeapType, RefType, ValType}
 use Rattle.wast_operands.specs.OperandTree.{Ordering, MemArg, Vector, Handle}
@@ -46,3 +46,14 @@ abbrev pub choose_second : {N P : Type 0} → Operands N P → Bool
 choose_second (Types (Some ts)) = true
 choose_second (Ref t) = t.nullable
 choose_second _ = false
+
+-- the memory argument among operands, and operands with another in its place
+abbrev pub mem_arg_in : {N P : Type 0} → Operands N P → Option (MemArg N P)
+mem_arg_in (Memory m) = Some m
+mem_arg_in (MemoryLane m n) = Some m
+mem_arg_in _ = None
+
+abbrev pub with_mem_arg : {N P : Type 0} → MemArg N P → Operands N P → Operands N P
+with_mem_arg m (Memory old) = Memory m
+with_mem_arg m (MemoryLane old n) = MemoryLane m n
+with_mem_arg m operands = operands

@@ -1,5 +1,6 @@
 -- What the grammar sees of instructions: their operands, and which they are.
 use Rattle.std.specs.Prelude.{ℕ, List, map, option_map}
+use Rattle.wast_grammar.specs.Tokens.{Name}
 use Rattle.wast_parser.specs.Identifiers.{identifier_tree, index_tree}
 use Rattle.wast_value_types.specs.ValueViews.{heap_tree, ref_tree}
 use Rattle.wast_operands.specs.OperandViews.{float_tree, handlers_tree, mem_arg_tree, memory_arg_tree, memory_copy_tree, ordering_tree, table_arg_tree, table_copy_tree, vector_tree}
@@ -20,7 +21,7 @@ use Rattle.wast_core_instr.specs.declared.vector_arg.VectorArgOp.TheVariants as 
 use Rattle.wast_core_instr.specs.declared.proposal.ProposalOp.{ProposalOp}
 use Rattle.wast_core_instr.specs.declared.proposal.ProposalOp.TheVariants as proposals
 
-abbrev pub bulk_operands : BulkOp → Operands (List ℕ) ℕ
+abbrev pub bulk_operands : BulkOp → Operands Name ℕ
 bulk_operands (bulks.DataDrop index) = One (index_tree index)
 bulk_operands (bulks.ElemDrop index) = One (index_tree index)
 bulk_operands (bulks.MemoryFill memory) = Optional (memory_arg_tree memory)
@@ -32,7 +33,7 @@ bulk_operands (bulks.TableCopy tables) = OptionalTwo (table_copy_tree tables)
 bulk_operands (bulks.MemoryInit operands) = OptionalThen (option_map index_tree operands.mem) (index_tree operands.«data»)
 bulk_operands (bulks.TableInit operands) = OptionalThen (option_map index_tree operands.table) (index_tree operands.elem)
 
-abbrev pub gc_operands : GcOp → Operands (List ℕ) ℕ
+abbrev pub gc_operands : GcOp → Operands Name ℕ
 gc_operands gcs.RefIsNull = NoOperands
 gc_operands gcs.RefEq = NoOperands
 gc_operands gcs.RefAsNonNull = NoOperands
@@ -70,7 +71,7 @@ gc_operands (gcs.RefCast ref_type) = Ref (ref_tree ref_type.ty)
 gc_operands (gcs.BrOnCast cast) = Cast (cast_tree cast.value.label cast.value.from_type cast.value.to_type)
 gc_operands (gcs.BrOnCastFail cast) = Cast (cast_tree cast.value.label cast.value.from_type cast.value.to_type)
 
-abbrev pub vector_arg_operands : VectorArgOp → Operands (List ℕ) ℕ
+abbrev pub vector_arg_operands : VectorArgOp → Operands Name ℕ
 vector_arg_operands (vector_args.V128Const value) = Lanes (vector_tree value)
 vector_arg_operands (vector_args.I8x16ExtractLaneS lane) = Lane lane.lane
 vector_arg_operands (vector_args.I8x16ExtractLaneU lane) = Lane lane.lane
@@ -110,7 +111,7 @@ vector_arg_operands (vector_args.V128Store16Lane operands) = MemoryLane (mem_arg
 vector_arg_operands (vector_args.V128Store32Lane operands) = MemoryLane (mem_arg_tree operands.memarg) operands.lane.lane
 vector_arg_operands (vector_args.V128Store64Lane operands) = MemoryLane (mem_arg_tree operands.memarg) operands.lane.lane
 
-abbrev pub proposal_operands : ProposalOp → Operands (List ℕ) ℕ
+abbrev pub proposal_operands : ProposalOp → Operands Name ℕ
 proposal_operands proposals.Pause = NoOperands
 proposal_operands proposals.RefI31Shared = NoOperands
 proposal_operands (proposals.ContNew index) = One (index_tree index)
@@ -163,7 +164,7 @@ proposal_operands (proposals.StructAtomicRmwXor operand) = Ordered (ordering_tre
 proposal_operands (proposals.StructAtomicRmwXchg operand) = Ordered (ordering_tree operand.ordering) (Two (index_tree operand.inner.struct_type) (index_tree operand.inner.field))
 proposal_operands (proposals.StructAtomicRmwCmpxchg operand) = Ordered (ordering_tree operand.ordering) (Two (index_tree operand.inner.struct_type) (index_tree operand.inner.field))
 
-abbrev pub instruction_operands : Instruction → Operands (List ℕ) ℕ
+abbrev pub instruction_operands : Instruction → Operands Name ℕ
 instruction_operands instructions.Unreachable = NoOperands
 instruction_operands instructions.Nop = NoOperands
 instruction_operands (instructions.Block block_type) = Block (block_tree block_type.value)
@@ -221,5 +222,5 @@ instruction_operands (instructions.VectorArg op) = vector_arg_operands op
 instruction_operands (instructions.Proposal op) = proposal_operands op
 
 -- which it is, and its operands
-abbrev pub instruction_tree : Instruction → spec.Instruction (List ℕ) ℕ
+abbrev pub instruction_tree : Instruction → spec.Instruction Name ℕ
 instruction_tree i = record { head = head (entry_of (instruction_word i)) (choose_second (instruction_operands i)); operands = instruction_operands i }

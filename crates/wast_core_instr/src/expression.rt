@@ -1,5 +1,6 @@
 //! Expressions of instructions.
 ghost use Rattle.std.specs.Prelude.{◌≡◌, ℕ, ◌+◌, ◌≤◌, List, [], ◌∷◌, None, IfOk, length};
+ghost use Rattle.wast_grammar.specs.Tokens.{Name};
 ghost use Rattle.wast_parser.specs.Grammar.{seen};
 ghost use Rattle.wast_parser.specs.Lawful.{Lawful};
 ghost use Rattle.wast_parser.specs.State.{ahead, Keeps};
@@ -110,14 +111,14 @@ impl<'a> From<Instructions<Instruction<'a>>> for Expression<'a> {
 }
 
 impl<'a> Meaning for Expression<'a> {
-    ghost Tree = { items.Expression (spec.Instruction (List ℕ) ℕ) };
+    ghost Tree = { items.Expression (spec.Instruction Name ℕ) };
 
     ghost tree = { expression_tree };
 
     ghost syntax = { expression instruction instruction_heads instruction_made };
 
     fn lawful()
-        ensures { Lawful (expression (instruction {N = List ℕ} {P = ℕ}) instruction_heads instruction_made) }
+        ensures { Lawful (expression (instruction {N = Name} {P = ℕ}) instruction_heads instruction_made) }
     {
         <Instruction as Operation>::lawful();
         Instruction::heeds();

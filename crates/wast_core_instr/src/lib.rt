@@ -3,7 +3,8 @@
 //! An [`Instruction`] has a variant for each mnemonic; those of one family stand behind a variant of their own, as they do in the
 //! encoder, whose operations without operands they are. It is read by its word, which says what operands stand behind it. An
 //! [`Expression`] is what folded and flat items unfold to: `(i32.add (i32.const 1) (i32.const 2))` and
-//! `i32.const 1 i32.const 2 i32.add` are one.
+//! `i32.const 1 i32.const 2 i32.add` are one. The types of operands stand in the parts `wast_operands` and
+//! `wast_typed_operands`, how expressions are read in `wast_expressions`, and words in `wast_mnemonics`; this crate hands them on.
 //!
 //! # What has to be believed
 //!
@@ -20,6 +21,7 @@ mod compose;
 mod expression;
 mod gc;
 mod instruction;
+mod memarg;
 mod operation;
 mod parse;
 mod proposal;
@@ -31,3 +33,14 @@ pub use gc::GcOp;
 pub use instruction::Instruction;
 pub use proposal::ProposalOp;
 pub use vector_arg::VectorArgOp;
+pub use wast_expressions::{BranchHint, Steps};
+pub use wast_operands::{
+    ArrayCopy, ArrayFill, ArrayInit, ArrayNewData, ArrayNewElem, ArrayNewFixed, BrTableIndices,
+    ContBind, FloatLit, Handle, I8x16Shuffle, LaneArg, LoadOrStoreLane, MemArg, MemArgOrdering,
+    MemArgTarget, MemoryArg, MemoryCopy, MemoryInit, Ordered, Ordering, Resume, ResumeTable,
+    ResumeThrow, ResumeThrowRef, StructAccess, Switch, TableArg, TableCopy, TableInit, V128Const,
+};
+pub use wast_typed_operands::{
+    BlockType, BrOnCast, BrOnCastDescEq, BrOnCastDescEqFail, BrOnCastFail, CallIndirect, RefCast,
+    RefCastDescEq, RefTest, SelectTypes, TryTable, TryTableCatch, TryTableCatchKind,
+};

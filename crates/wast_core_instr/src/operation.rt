@@ -1,5 +1,6 @@
 //! Instructions in the items of expressions.
 ghost use Rattle.std.specs.Prelude.{◌≡◌, ℕ, List, IfOk};
+ghost use Rattle.wast_grammar.specs.Tokens.{Name};
 ghost use Rattle.wast_parser.specs.Look.{ask};
 ghost use Rattle.wast_parser.specs.Lawful.{LawfulBut};
 ghost use Rattle.wast_parser.specs.State.{ahead, Keeps};
@@ -19,7 +20,7 @@ use wast_mnemonics::{Word, laws};
 use wast_parser::{Cursor, Error, Parse, Parser, Span};
 
 impl<'a> Operation for Instruction<'a> {
-    ghost Tree = { spec.Instruction (List ℕ) ℕ };
+    ghost Tree = { spec.Instruction Name ℕ };
 
     ghost tree = { instruction_tree };
 
@@ -30,21 +31,21 @@ impl<'a> Operation for Instruction<'a> {
     ghost made = { instruction_made };
 
     fn peek_word(cursor: Cursor<'_, '_>) -> Result<bool, Error>
-        ensures { Asks result (stands cursor.entry).source (ask (ins_tests (instruction_heads {N = List ℕ} {P = ℕ})) (ahead (stands cursor.entry))) }
+        ensures { Asks result (stands cursor.entry).source (ask (ins_tests (instruction_heads {N = Name} {P = ℕ})) (ahead (stands cursor.entry))) }
     {
         cursor.peek_among::<Word>()
     }
 
     fn lawful()
-        ensures { LawfulBut (one_ins (instruction {N = List ℕ} {P = ℕ}) instruction_heads) instruction_heads.own }
+        ensures { LawfulBut (one_ins (instruction {N = Name} {P = ℕ}) instruction_heads) instruction_heads.own }
     {}
 
     fn heeds()
-        ensures { Heeds (instruction_heads {N = List ℕ} {P = ℕ}) }
+        ensures { Heeds (instruction_heads {N = Name} {P = ℕ}) }
     {}
 
     fn spelled()
-        ensures { Spelled (instruction {N = List ℕ} {P = ℕ}) instruction_made }
+        ensures { Spelled (instruction {N = Name} {P = ℕ}) instruction_made }
     {
         laws::every_word();
     }

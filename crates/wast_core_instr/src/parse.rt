@@ -1,5 +1,6 @@
 //! Instructions, each by its word.
 ghost use Rattle.std.specs.Prelude.{◌≡◌, ℕ, List, IfOk};
+ghost use Rattle.wast_grammar.specs.Tokens.{Name};
 ghost use Rattle.wast_parser.specs.Lawful.{Lawful};
 ghost use Rattle.wast_parser.specs.State.{ahead, Keeps};
 ghost use Rattle.wast_parser.specs.Reading.{Gives};
@@ -29,14 +30,14 @@ use wast_operands::{LoadOrStoreLane, MemArg};
 use wast_parser::{Error, Index, Meaning, Parse, Parser};
 
 impl<'a> Meaning for Instruction<'a> {
-    ghost Tree = { spec.Instruction (List ℕ) ℕ };
+    ghost Tree = { spec.Instruction Name ℕ };
 
     ghost tree = { instruction_tree };
 
     ghost syntax = { instruction };
 
     fn lawful()
-        ensures { Lawful (instruction {N = List ℕ} {P = ℕ}) }
+        ensures { Lawful (instruction {N = Name} {P = ℕ}) }
     {}
 }
 

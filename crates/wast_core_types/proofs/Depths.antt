@@ -1,5 +1,6 @@
 -- A composite type is read by opening each group `(shared`, what stands within, and closing each.
 use Rattle.std.proofs.Common.{◌≡◌, ℕ, zero, suc, ◌-◌, true, false, List, length, ◌<◌, Option, Some, None, refl, ◌∙◌, ap, codes, arith}
+use Rattle.wast_grammar.specs.Tokens.{Name}
 use Rattle.wast_parser.specs.Significant.{TextToken}
 use Rattle.wast_parser.specs.Spelling.{◌>>=◌, that_open, that_close}
 use Rattle.wast_parser.specs.Look.{ask}
@@ -16,7 +17,7 @@ abbrev Tokens : Type 0
 Tokens = List TextToken
 
 abbrev Comp : Type 0
-Comp = CompType (List ℕ) ℕ
+Comp = CompType Name ℕ
 
 abbrev shared : List ℕ
 shared = codes "shared"
@@ -76,7 +77,7 @@ shared_unopened n ts a e = first (one_of that_open ts) refl e
 pub shared_faulty : (n : ℕ) (ts : Tokens) → ask shared_starts ts ≡ None → within n ts ≡ None
 shared_faulty n ts a = rw (comp_turn ts, a) refl
 
-abbrev plain : InnerType (List ℕ) ℕ × Tokens → Option (Comp × Tokens)
+abbrev plain : InnerType Name ℕ × Tokens → Option (Comp × Tokens)
 plain x = Some (unshared x.0, x.1)
 
 -- where no group is left to be opened

@@ -33,7 +33,7 @@ module _ {N P : Type 0} where
       (s.0, Open p ∷ (Word w p ∷ s.1) ++ Close p ∷ [], (Word w p ∷ s.1, p, p, refl, ((p, s.0), refl, (Word w p ∷ [], s.1, refl, (Word w p, refl, ap (λ b. cond b (Some p) None) (same_self w)), s.2))))
 
   pub index_spelled : N → P → Spelled index
-  index_spelled n p = (ByName ((n, p), 0), Id (Some n) p ∷ [], inr (((n, p), 0), refl, ((n, p), refl, (Id (Some n) p, refl, refl))))
+  index_spelled n p = (ByName (n, p), Id (Some n) p ∷ [], inr ((n, p), refl, (Id (Some n) p, refl, refl)))
 
   pub val_types_spelled : Spelled val_types
   val_types_spelled = ([], [], refl)

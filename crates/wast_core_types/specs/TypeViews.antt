@@ -1,16 +1,18 @@
 -- What the grammar sees of the code's types.
 use Rattle.std.specs.Prelude.{ℕ, List, Option, map, option_map}
 use Rattle.std.specs.Cow.{cow_str_bytes}
+use Rattle.wast_grammar.specs.Tokens.{Name}
 use Rattle.wast_parser_base.specs.Identifier.{Identifier}
 use Rattle.wast_parser_base.specs.declared.index.NameAnnotation.{NameAnnotation}
 use Rattle.wast_parser.specs.Identifiers.{identifier_tree, index_tree}
 use Rattle.wast_value_types.specs.ValueTree as values
 use Rattle.wast_value_types.specs.ValueViews.{val_tree, storage_tree}
 use Rattle.wast_value_types.specs.declared.val_type.ValType.{ValType}
-use Rattle.wast_core_types.specs.TypeTree.{Local, Sig, CompType, TypeUse}
+use Rattle.wast_core_types.specs.TypeTree.{Local, Sig, CompType}
 use Rattle.wast_core_types.specs.TypeTree as spec
 use Rattle.wast_core_types.specs.TypeTree.{InnerType, FuncType, StructType, ContType}
 use Rattle.wast_core_types.specs.declared.signature.FunctionType.{FunctionType}
+use Rattle.wast_core_types.specs.declared.type_use.TypeUse.{TypeUse}
 use Rattle.wast_core_types.specs.declared.composite.ArrayType.{ArrayType}
 use Rattle.wast_core_types.specs.declared.composite.StructField.{StructField}
 use Rattle.wast_core_types.specs.declared.composite.InnerTypeKind.{InnerTypeKind}
@@ -24,30 +26,33 @@ abbrev pub name_tree : NameAnnotation → List ℕ
 name_tree a = cow_str_bytes a.name
 
 -- SIGNATURES
-abbrev pub param_tree : Option Identifier × Option NameAnnotation × ValType → Local (List ℕ) ℕ
+abbrev pub param_tree : Option Identifier × Option NameAnnotation × ValType → Local Name ℕ
 param_tree p = record { id = option_map identifier_tree p.0; given = option_map name_tree p.1; val_type = val_tree p.2 }
 
-abbrev pub sig_tree : FunctionType → Sig (List ℕ) ℕ
+abbrev pub sig_tree : FunctionType → Sig Name ℕ
 sig_tree t = record { params = map param_tree t.params.items; results = map val_tree t.results.items }
 
+abbrev pub use_tree : TypeUse FunctionType → spec.TypeUse Name ℕ
+use_tree u = record { index = option_map index_tree u.index; inline = option_map sig_tree u.inline }
+
 -- COMPOSITE TYPES
-abbrev pub array_tree : ArrayType → values.FieldType (List ℕ) ℕ
+abbrev pub array_tree : ArrayType → values.FieldType Name ℕ
 array_tree t = record { mutable = t.mutable; storage = storage_tree t.ty }
 
-abbrev pub struct_field_tree : StructField → spec.StructField (List ℕ) ℕ
+abbrev pub struct_field_tree : StructField → spec.StructField Name ℕ
 struct_field_tree f = record { id = option_map identifier_tree f.id; field_type = record { mutable = f.mutable; storage = storage_tree f.ty } }
 
-abbrev pub inner_tree : InnerTypeKind → InnerType (List ℕ) ℕ
+abbrev pub inner_tree : InnerTypeKind → InnerType Name ℕ
 inner_tree (kinds.Func t) = FuncType (sig_tree t)
 inner_tree (kinds.Struct t) = StructType (map struct_field_tree t.fields.items)
 inner_tree (kinds.Array t) = spec.ArrayType (array_tree t)
 inner_tree (kinds.Cont t) = ContType (index_tree t.0)
 
-abbrev pub comp_tree : CompositeType → CompType (List ℕ) ℕ
+abbrev pub comp_tree : CompositeType → CompType Name ℕ
 comp_tree t = record { shared = t.shared; inner = inner_tree t.kind }
 
 -- TYPE DEFINITIONS
-abbrev pub definition_tree : TypeDef → spec.TypeDef (List ℕ) ℕ
+abbrev pub definition_tree : TypeDef → spec.TypeDef Name ℕ
 definition_tree d = record {
   is_final = d.final_type;
   supertype = option_map index_tree d.parent;
@@ -56,8 +61,8 @@ definition_tree d = record {
   comp = record { shared = d.shared; inner = inner_tree d.kind };
 }
 
-abbrev pub item_tree : TypeItem → spec.TypeItem (List ℕ) ℕ
+abbrev pub item_tree : TypeItem → spec.TypeItem Name ℕ
 item_tree t = record { place = t.span; id = option_map identifier_tree t.id; given = option_map name_tree t.name; definition = definition_tree t.def }
 
-abbrev pub rec_tree : Rec → spec.Rec (List ℕ) ℕ
+abbrev pub rec_tree : Rec → spec.Rec Name ℕ
 rec_tree r = record { place = r.span; types = map item_tree r.types.items }

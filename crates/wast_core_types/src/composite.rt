@@ -1,5 +1,6 @@
 //! Composite types.
 ghost use Rattle.std.specs.Prelude.{◌≡◌, ℕ, List, [], ◌∷◌, map, IfOk, IfErr, Some, false, refl};
+ghost use Rattle.wast_grammar.specs.Tokens.{Name};
 ghost use Rattle.wast_parser.specs.Look.{ask, join};
 ghost use Rattle.wast_parser.specs.Lawful.{Lawful, Leads};
 ghost use Rattle.wast_parser.specs.Significant.{TextToken};
@@ -36,14 +37,14 @@ pub struct StructField<'a> {
 
 /// The fields of one group.
 impl<'a> Meaning for Several<StructField<'a>> {
-    ghost Tree = { List (spec.StructField (List ℕ) ℕ) };
+    ghost Tree = { List (spec.StructField Name ℕ) };
 
     ghost tree = { λ g. map struct_field_tree g.items.items };
 
     ghost syntax = { named_fields };
 
     fn lawful()
-        ensures { Lawful (named_fields {N = List ℕ} {P = ℕ}) }
+        ensures { Lawful (named_fields {N = Name} {P = ℕ}) }
     {}
 }
 
@@ -64,7 +65,7 @@ impl<'a> Parse<'a> for Several<StructField<'a>> {
 
 impl<'a> Body for Several<StructField<'a>> {
     fn spelled()
-        ensures { (s : List (spec.StructField (List ℕ) ℕ)) × (us : List TextToken) × named_fields.spells s us }
+        ensures { (s : List (spec.StructField Name ℕ)) × (us : List TextToken) × named_fields.spells s us }
     {}
 
     ghost plain = { refl };
@@ -114,14 +115,14 @@ pub struct StructType<'a> {
 }
 
 impl<'a> Meaning for StructType<'a> {
-    ghost Tree = { List (spec.StructField (List ℕ) ℕ) };
+    ghost Tree = { List (spec.StructField Name ℕ) };
 
     ghost tree = { λ t. map struct_field_tree t.fields.items };
 
     ghost syntax = { struct_type };
 
     fn lawful()
-        ensures { Lawful (struct_type {N = List ℕ} {P = ℕ}) }
+        ensures { Lawful (struct_type {N = Name} {P = ℕ}) }
     {}
 }
 
@@ -135,7 +136,7 @@ impl<'a> Parse<'a> for StructType<'a> {
 
 impl<'a> Body for StructType<'a> {
     fn spelled()
-        ensures { (s : List (spec.StructField (List ℕ) ℕ)) × (us : List TextToken) × struct_type.spells s us }
+        ensures { (s : List (spec.StructField Name ℕ)) × (us : List TextToken) × struct_type.spells s us }
     {}
 
     ghost plain = { refl };
@@ -151,14 +152,14 @@ pub struct ArrayType<'a> {
 }
 
 impl<'a> Meaning for ArrayType<'a> {
-    ghost Tree = { spec_value.FieldType (List ℕ) ℕ };
+    ghost Tree = { spec_value.FieldType Name ℕ };
 
     ghost tree = { array_tree };
 
     ghost syntax = { field_type };
 
     fn lawful()
-        ensures { Lawful (field_type {N = List ℕ} {P = ℕ}) }
+        ensures { Lawful (field_type {N = Name} {P = ℕ}) }
     {}
 }
 
@@ -174,7 +175,7 @@ impl<'a> Parse<'a> for ArrayType<'a> {
 
 impl<'a> Body for ArrayType<'a> {
     fn spelled()
-        ensures { (t : spec_value.FieldType (List ℕ) ℕ) × (us : List TextToken) × field_type.spells t us }
+        ensures { (t : spec_value.FieldType Name ℕ) × (us : List TextToken) × field_type.spells t us }
     {}
 
     ghost plain = { refl };
@@ -187,14 +188,14 @@ impl<'a> Body for ArrayType<'a> {
 pub struct ContType<'a>(pub Index<'a>);
 
 impl<'a> Meaning for ContType<'a> {
-    ghost Tree = { Reference (List ℕ) ℕ };
+    ghost Tree = { Reference Name ℕ };
 
     ghost tree = { λ t. index_tree t.0 };
 
     ghost syntax = { index };
 
     fn lawful()
-        ensures { Lawful (index {N = List ℕ} {P = ℕ}) }
+        ensures { Lawful (index {N = Name} {P = ℕ}) }
     {}
 }
 
@@ -206,7 +207,7 @@ impl<'a> Parse<'a> for ContType<'a> {
 
 impl<'a> Body for ContType<'a> {
     fn spelled()
-        ensures { (i : Reference (List ℕ) ℕ) × (us : List TextToken) × index.spells i us }
+        ensures { (i : Reference Name ℕ) × (us : List TextToken) × index.spells i us }
     {}
 
     ghost plain = { refl };
@@ -216,7 +217,7 @@ impl<'a> Body for ContType<'a> {
 
 impl<'a> Body for Index<'a> {
     fn spelled()
-        ensures { (i : Reference (List ℕ) ℕ) × (us : List TextToken) × index.spells i us }
+        ensures { (i : Reference Name ℕ) × (us : List TextToken) × index.spells i us }
     {}
 
     ghost plain = { refl };
@@ -234,14 +235,14 @@ pub enum InnerTypeKind<'a> {
 }
 
 impl<'a> Meaning for InnerTypeKind<'a> {
-    ghost Tree = { spec.InnerType (List ℕ) ℕ };
+    ghost Tree = { spec.InnerType Name ℕ };
 
     ghost tree = { inner_tree };
 
     ghost syntax = { inner_type };
 
     fn lawful()
-        ensures { Lawful (inner_type {N = List ℕ} {P = ℕ}) }
+        ensures { Lawful (inner_type {N = Name} {P = ℕ}) }
     {}
 }
 
@@ -271,14 +272,14 @@ pub struct CompositeType<'a> {
 }
 
 impl<'a> Meaning for CompositeType<'a> {
-    ghost Tree = { spec.CompType (List ℕ) ℕ };
+    ghost Tree = { spec.CompType Name ℕ };
 
     ghost tree = { comp_tree };
 
     ghost syntax = { comp_type };
 
     fn lawful()
-        ensures { Lawful (comp_type {N = List ℕ} {P = ℕ}) }
+        ensures { Lawful (comp_type {N = Name} {P = ℕ}) }
     {}
 }
 

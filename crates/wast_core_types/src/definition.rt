@@ -1,5 +1,6 @@
 //! Type definitions.
 ghost use Rattle.std.specs.Prelude.{◌≡◌, ℕ, List, Bool, Option, [], ◌∷◌, map, option_map, refl};
+ghost use Rattle.wast_grammar.specs.Tokens.{Name};
 ghost use Rattle.wast_parser.specs.Look.{ask};
 ghost use Rattle.wast_parser.specs.Lawful.{Lawful, Leads};
 ghost use Rattle.wast_parser.specs.Significant.{TextToken};
@@ -36,14 +37,14 @@ pub struct TypeDef<'a> {
 }
 
 impl<'a> Meaning for TypeDef<'a> {
-    ghost Tree = { spec.TypeDef (List ℕ) ℕ };
+    ghost Tree = { spec.TypeDef Name ℕ };
 
     ghost tree = { definition_tree };
 
     ghost syntax = { type_def };
 
     fn lawful()
-        ensures { Lawful (type_def {N = List ℕ} {P = ℕ}) }
+        ensures { Lawful (type_def {N = Name} {P = ℕ}) }
     {}
 }
 
@@ -66,14 +67,14 @@ struct SubType<'a> {
 }
 
 impl<'a> Meaning for SubType<'a> {
-    ghost Tree = { spec.TypeDef (List ℕ) ℕ };
+    ghost Tree = { spec.TypeDef Name ℕ };
 
     ghost tree = { λ s. definition_tree s.def };
 
     ghost syntax = { sub_type };
 
     fn lawful()
-        ensures { Lawful (sub_type {N = List ℕ} {P = ℕ}) }
+        ensures { Lawful (sub_type {N = Name} {P = ℕ}) }
     {}
 }
 
@@ -90,7 +91,7 @@ impl<'a> Parse<'a> for SubType<'a> {
 
 impl<'a> Body for SubType<'a> {
     fn spelled()
-        ensures { (d : spec.TypeDef (List ℕ) ℕ) × (us : List TextToken) × sub_type.spells d us }
+        ensures { (d : spec.TypeDef Name ℕ) × (us : List TextToken) × sub_type.spells d us }
     {}
 
     ghost plain = { refl };
@@ -123,14 +124,14 @@ impl<'a> Described<'a> {
 }
 
 impl<'a> Meaning for Described<'a> {
-    ghost Tree = { Option (Reference (List ℕ) ℕ) × (Option (Reference (List ℕ) ℕ) × spec.CompType (List ℕ) ℕ) };
+    ghost Tree = { Option (Reference Name ℕ) × (Option (Reference Name ℕ) × spec.CompType Name ℕ) };
 
     ghost tree = { λ d. (option_map index_tree d.describes, (option_map index_tree d.descriptor, comp_tree d.comp)) };
 
     ghost syntax = { described };
 
     fn lawful()
-        ensures { Lawful (described {N = List ℕ} {P = ℕ}) }
+        ensures { Lawful (described {N = Name} {P = ℕ}) }
     {}
 }
 
@@ -159,14 +160,14 @@ pub struct TypeItem<'a> {
 }
 
 impl<'a> Meaning for TypeItem<'a> {
-    ghost Tree = { spec.TypeItem (List ℕ) ℕ };
+    ghost Tree = { spec.TypeItem Name ℕ };
 
     ghost tree = { item_tree };
 
     ghost syntax = { type_item };
 
     fn lawful()
-        ensures { Lawful (type_item {N = List ℕ} {P = ℕ}) }
+        ensures { Lawful (type_item {N = Name} {P = ℕ}) }
     {}
 }
 
@@ -183,7 +184,7 @@ impl<'a> Peek for TypeItem<'a> {
     ghost sure = { refl };
 
     fn leads()
-        ensures { Leads (type_item {N = List ℕ} {P = ℕ}).spells type_starts }
+        ensures { Leads (type_item {N = Name} {P = ℕ}).spells type_starts }
     {}
 
     fn peek(cursor: Cursor<'_, '_>) -> Result<bool, Error>
@@ -208,14 +209,14 @@ struct TypeBody<'a> {
 }
 
 impl<'a> Meaning for TypeBody<'a> {
-    ghost Tree = { spec.TypeItem (List ℕ) ℕ };
+    ghost Tree = { spec.TypeItem Name ℕ };
 
     ghost tree = { λ b. item_tree b.item };
 
     ghost syntax = { type_body };
 
     fn lawful()
-        ensures { Lawful (type_body {N = List ℕ} {P = ℕ}) }
+        ensures { Lawful (type_body {N = Name} {P = ℕ}) }
     {}
 }
 
@@ -245,14 +246,14 @@ pub struct Rec<'a> {
 }
 
 impl<'a> Meaning for Rec<'a> {
-    ghost Tree = { spec.Rec (List ℕ) ℕ };
+    ghost Tree = { spec.Rec Name ℕ };
 
     ghost tree = { rec_tree };
 
     ghost syntax = { rec_group };
 
     fn lawful()
-        ensures { Lawful (rec_group {N = List ℕ} {P = ℕ}) }
+        ensures { Lawful (rec_group {N = Name} {P = ℕ}) }
     {}
 }
 
@@ -270,14 +271,14 @@ struct RecBody<'a> {
 }
 
 impl<'a> Meaning for RecBody<'a> {
-    ghost Tree = { spec.Rec (List ℕ) ℕ };
+    ghost Tree = { spec.Rec Name ℕ };
 
     ghost tree = { λ b. rec_tree b.group };
 
     ghost syntax = { rec_body };
 
     fn lawful()
-        ensures { Lawful (rec_body {N = List ℕ} {P = ℕ}) }
+        ensures { Lawful (rec_body {N = Name} {P = ℕ}) }
     {}
 }
 

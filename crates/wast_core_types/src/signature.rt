@@ -1,5 +1,6 @@
 //! Signatures.
 ghost use Rattle.std.specs.Prelude.{◌≡◌, ℕ, List, [], ◌∷◌, map, IfOk, codes, refl};
+ghost use Rattle.wast_grammar.specs.Tokens.{Name};
 ghost use Rattle.wast_parser.specs.Look.{ask};
 ghost use Rattle.wast_parser.specs.Grammar.{Syntax, either, map_reads, maybe, seen, seq};
 ghost use Rattle.wast_parser.specs.Lawful.{Lawful, Leads};
@@ -33,14 +34,14 @@ pub struct FunctionType<'a> {
 }
 
 impl<'a> Meaning for FunctionType<'a> {
-    ghost Tree = { spec.Sig (List ℕ) ℕ };
+    ghost Tree = { spec.Sig Name ℕ };
 
     ghost tree = { sig_tree };
 
     ghost syntax = { sig };
 
     fn lawful()
-        ensures { Lawful (sig {N = List ℕ} {P = ℕ}) }
+        ensures { Lawful (sig {N = Name} {P = ℕ}) }
     {}
 }
 
@@ -61,7 +62,7 @@ impl<'a> Peek for FunctionType<'a> {
     ghost sure = { refl };
 
     fn leads()
-        ensures { Leads (sig {N = List ℕ} {P = ℕ}).spells sig_starts }
+        ensures { Leads (sig {N = Name} {P = ℕ}).spells sig_starts }
     {}
 
     fn peek(cursor: Cursor<'_, '_>) -> Result<bool, Error>
@@ -77,7 +78,7 @@ impl<'a> Peek for FunctionType<'a> {
 
 impl<'a> Body for FunctionType<'a> {
     fn spelled()
-        ensures { (s : spec.Sig (List ℕ) ℕ) × (us : List TextToken) × sig.spells s us }
+        ensures { (s : spec.Sig Name ℕ) × (us : List TextToken) × sig.spells s us }
     {}
 
     ghost plain = { refl };
@@ -98,14 +99,14 @@ impl<'a> From<FunctionTypeNoNames<'a>> for FunctionType<'a> {
 }
 
 impl<'a> Meaning for FunctionTypeNoNames<'a> {
-    ghost Tree = { spec.Sig (List ℕ) ℕ };
+    ghost Tree = { spec.Sig Name ℕ };
 
     ghost tree = { λ t. sig_tree t.0 };
 
     ghost syntax = { bare_sig };
 
     fn lawful()
-        ensures { Lawful (bare_sig {N = List ℕ} {P = ℕ}) }
+        ensures { Lawful (bare_sig {N = Name} {P = ℕ}) }
     {}
 }
 
@@ -127,7 +128,7 @@ impl<'a> Peek for FunctionTypeNoNames<'a> {
     ghost sure = { refl };
 
     fn leads()
-        ensures { Leads (bare_sig {N = List ℕ} {P = ℕ}).spells sig_starts }
+        ensures { Leads (bare_sig {N = Name} {P = ℕ}).spells sig_starts }
     {}
 
     fn peek(cursor: Cursor<'_, '_>) -> Result<bool, Error>
@@ -150,14 +151,14 @@ fn peek_sig(cursor: Cursor<'_, '_>) -> Result<bool, Error>
 
 /// The parameters, or locals, of one group.
 impl<'a> Meaning for Several<Param<'a>> {
-    ghost Tree = { List (spec.Local (List ℕ) ℕ) };
+    ghost Tree = { List (spec.Local Name ℕ) };
 
     ghost tree = { λ g. map param_tree g.items.items };
 
     ghost syntax = { named_locals };
 
     fn lawful()
-        ensures { Lawful (named_locals {N = List ℕ} {P = ℕ}) }
+        ensures { Lawful (named_locals {N = Name} {P = ℕ}) }
     {}
 }
 
@@ -176,7 +177,7 @@ impl<'a> Parse<'a> for Several<Param<'a>> {
 
 impl<'a> Body for Several<Param<'a>> {
     fn spelled()
-        ensures { (s : List (spec.Local (List ℕ) ℕ)) × (us : List TextToken) × named_locals.spells s us }
+        ensures { (s : List (spec.Local Name ℕ)) × (us : List TextToken) × named_locals.spells s us }
     {}
 
     ghost plain = { refl };
@@ -240,14 +241,14 @@ fn without_names<'a>(alloc: Global, types: Vec<ValType<'a>>) -> Result<Vec<Param
 
 /// The types of one group.
 impl<'a> Meaning for Several<ValType<'a>> {
-    ghost Tree = { List (spec_value.ValType (List ℕ) ℕ) };
+    ghost Tree = { List (spec_value.ValType Name ℕ) };
 
     ghost tree = { λ g. map val_tree g.items.items };
 
     ghost syntax = { val_types };
 
     fn lawful()
-        ensures { Lawful (val_types {N = List ℕ} {P = ℕ}) }
+        ensures { Lawful (val_types {N = Name} {P = ℕ}) }
     {}
 }
 
@@ -260,7 +261,7 @@ impl<'a> Parse<'a> for Several<ValType<'a>> {
 
 impl<'a> Body for Several<ValType<'a>> {
     fn spelled()
-        ensures { (s : List (spec_value.ValType (List ℕ) ℕ)) × (us : List TextToken) × val_types.spells s us }
+        ensures { (s : List (spec_value.ValType Name ℕ)) × (us : List TextToken) × val_types.spells s us }
     {}
 
     ghost plain = { refl };

@@ -1,5 +1,6 @@
 //! Type uses.
 ghost use Rattle.std.specs.Prelude.{◌≡◌, ℕ, List, Option, Some, None, codes, option_map};
+ghost use Rattle.wast_grammar.specs.Tokens.{Name};
 ghost use Rattle.wast_parser.specs.Grammar.{seq_reads, maybe_reads};
 ghost use Rattle.wast_parser.specs.Lawful.{Lawful};
 ghost use Rattle.wast_parser.specs.State.{ahead, Keeps};
@@ -7,7 +8,7 @@ ghost use Rattle.wast_parser.specs.Reading.{Gives};
 ghost use Rattle.wast_parser.specs.Identifiers.{index_tree};
 ghost use Rattle.wast_core_types.specs.TypeTree as spec;
 ghost use Rattle.wast_core_types.specs.TypeSyntax.{index_of, type_use, bare_use};
-ghost use Rattle.wast_core_types.specs.TypeViews.{sig_tree};
+ghost use Rattle.wast_core_types.specs.TypeViews.{sig_tree, use_tree};
 
 use crate::group::{Grouped, value_of};
 use crate::keyword;
@@ -47,14 +48,14 @@ impl<'a> From<TypeUse<'a, FunctionTypeNoNames<'a>>> for TypeUse<'a, FunctionType
 }
 
 impl<'a> Meaning for TypeUse<'a, FunctionType<'a>> {
-    ghost Tree = { spec.TypeUse (List ℕ) ℕ };
+    ghost Tree = { spec.TypeUse Name ℕ };
 
-    ghost tree = { λ u. record { index = option_map index_tree u.index; inline = option_map sig_tree u.inline } };
+    ghost tree = { use_tree };
 
     ghost syntax = { type_use };
 
     fn lawful()
-        ensures { Lawful (type_use {N = List ℕ} {P = ℕ}) }
+        ensures { Lawful (type_use {N = Name} {P = ℕ}) }
     {}
 }
 
@@ -65,14 +66,14 @@ impl<'a> Parse<'a> for TypeUse<'a, FunctionType<'a>> {
 }
 
 impl<'a> Meaning for TypeUse<'a, FunctionTypeNoNames<'a>> {
-    ghost Tree = { spec.TypeUse (List ℕ) ℕ };
+    ghost Tree = { spec.TypeUse Name ℕ };
 
     ghost tree = { λ u. record { index = option_map index_tree u.index; inline = option_map (λ t. sig_tree t.0) u.inline } };
 
     ghost syntax = { bare_use };
 
     fn lawful()
-        ensures { Lawful (bare_use {N = List ℕ} {P = ℕ}) }
+        ensures { Lawful (bare_use {N = Name} {P = ℕ}) }
     {}
 }
 

@@ -1,5 +1,6 @@
 //! The productions of custom fields.
 ghost use Rattle.std.specs.Prelude.{◌≡◌, ℕ, List, [], ◌∷◌, refl, codes, false};
+ghost use Rattle.wast_grammar.specs.Tokens.{Name};
 ghost use Rattle.wast_parser.specs.Look.{ask, this_annotation};
 ghost use Rattle.wast_parser.specs.Lawful.{Lawful, Leads};
 ghost use Rattle.wast_parser.specs.State.{ahead};
@@ -23,7 +24,7 @@ impl<'a> Meaning for Custom<'a> {
     ghost syntax = { custom };
 
     fn lawful()
-        ensures { Lawful (custom {N = List ℕ} {P = ℕ}) }
+        ensures { Lawful (custom {N = Name} {P = ℕ}) }
     {}
 }
 
@@ -45,7 +46,7 @@ impl<'a> Peek for Custom<'a> {
     ghost sure = { refl };
 
     fn leads()
-        ensures { Leads (custom {N = List ℕ} {P = ℕ}).spells custom_starts }
+        ensures { Leads (custom {N = Name} {P = ℕ}).spells custom_starts }
     {}
 
     fn peek(cursor: Cursor<'_, '_>) -> Result<bool, Error>
@@ -86,7 +87,7 @@ impl<'a> Meaning for RawCustomSection<'a> {
     ghost syntax = { raw_section };
 
     fn lawful()
-        ensures { Lawful (raw_section {N = List ℕ} {P = ℕ}) }
+        ensures { Lawful (raw_section {N = Name} {P = ℕ}) }
     {}
 }
 
@@ -113,7 +114,7 @@ impl<'a> Peek for RawCustomSection<'a> {
     ghost sure = { refl };
 
     fn leads()
-        ensures { Leads (raw_section {N = List ℕ} {P = ℕ}).spells (this_annotation (codes "custom") ∷ []) }
+        ensures { Leads (raw_section {N = Name} {P = ℕ}).spells (this_annotation (codes "custom") ∷ []) }
     {}
 
     fn peek(cursor: Cursor<'_, '_>) -> Result<bool, Error>

@@ -1,5 +1,6 @@
 //! The production of `dylink.0`.
 ghost use Rattle.std.specs.Prelude.{◌≡◌, ◌++◌, ℕ, List, [], ◌∷◌, map, refl, codes, false, OnOk, IfOk, option_map, option_to_list};
+ghost use Rattle.wast_grammar.specs.Tokens.{Name};
 ghost use Rattle.wast_parser.specs.Look.{ask, this_annotation};
 ghost use Rattle.wast_parser.specs.Lawful.{Lawful, Leads};
 ghost use Rattle.wast_parser.specs.State.{ahead, Keeps};
@@ -22,7 +23,7 @@ impl<'a> Meaning for Dylink0<'a> {
     ghost syntax = { dylink };
 
     fn lawful()
-        ensures { Lawful (dylink {N = List ℕ} {P = ℕ}) }
+        ensures { Lawful (dylink {N = Name} {P = ℕ}) }
     {}
 }
 
@@ -42,7 +43,7 @@ impl<'a> Peek for Dylink0<'a> {
     ghost sure = { refl };
 
     fn leads()
-        ensures { Leads (dylink {N = List ℕ} {P = ℕ}).spells (this_annotation (codes "dylink.0") ∷ []) }
+        ensures { Leads (dylink {N = Name} {P = ℕ}).spells (this_annotation (codes "dylink.0") ∷ []) }
     {}
 
     fn peek(cursor: Cursor<'_, '_>) -> Result<bool, Error>

@@ -1,5 +1,6 @@
 //! What producers say of themselves.
 ghost use Rattle.std.specs.Prelude.{◌≡◌, ℕ, List, [], ◌∷◌, refl, codes, false};
+ghost use Rattle.wast_grammar.specs.Tokens.{Name};
 ghost use Rattle.wast_parser.specs.Look.{ask, this_annotation};
 ghost use Rattle.wast_parser.specs.Lawful.{Lawful, Leads};
 ghost use Rattle.wast_parser.specs.State.{ahead};
@@ -85,7 +86,7 @@ impl<'a> Meaning for Producers<'a> {
     ghost syntax = { producers };
 
     fn lawful()
-        ensures { Lawful (producers {N = List ℕ} {P = ℕ}) }
+        ensures { Lawful (producers {N = Name} {P = ℕ}) }
     {}
 }
 
@@ -105,7 +106,7 @@ impl<'a> Peek for Producers<'a> {
     ghost sure = { refl };
 
     fn leads()
-        ensures { Leads (producers {N = List ℕ} {P = ℕ}).spells (this_annotation (codes "producers") ∷ []) }
+        ensures { Leads (producers {N = Name} {P = ℕ}).spells (this_annotation (codes "producers") ∷ []) }
     {}
 
     fn peek(cursor: Cursor<'_, '_>) -> Result<bool, Error>
@@ -127,7 +128,7 @@ impl<'a> Meaning for Producer<'a> {
     ghost syntax = { producer };
 
     fn lawful()
-        ensures { Lawful (producer {N = List ℕ} {P = ℕ}) }
+        ensures { Lawful (producer {N = Name} {P = ℕ}) }
     {}
 }
 
@@ -152,7 +153,7 @@ impl<'a> Peek for Producer<'a> {
     ghost sure = { refl };
 
     fn leads()
-        ensures { Leads (producer {N = List ℕ} {P = ℕ}).spells producer_starts }
+        ensures { Leads (producer {N = Name} {P = ℕ}).spells producer_starts }
     {}
 
     fn peek(cursor: Cursor<'_, '_>) -> Result<bool, Error>

@@ -1,5 +1,6 @@
 //! The groups of `dylink.0`.
 ghost use Rattle.std.specs.Prelude.{◌≡◌, ℕ, List, [], ◌∷◌, Option, map, refl, codes, false, option_map, unwrap_or};
+ghost use Rattle.wast_grammar.specs.Tokens.{Name};
 ghost use Rattle.wast_parser.specs.Look.{ask, this_group};
 ghost use Rattle.wast_parser.specs.Lawful.{Lawful, Leads};
 ghost use Rattle.wast_parser.specs.State.{ahead, Keeps};
@@ -78,7 +79,7 @@ impl<'a> Meaning for Dylink0Subsection<'a> {
     ghost syntax = { dylink_group };
 
     fn lawful()
-        ensures { Lawful (dylink_group {N = List ℕ} {P = ℕ}) }
+        ensures { Lawful (dylink_group {N = Name} {P = ℕ}) }
     {}
 }
 
@@ -98,7 +99,7 @@ impl<'a> Peek for Dylink0Subsection<'a> {
     ghost sure = { refl };
 
     fn leads()
-        ensures { Leads (dylink_group {N = List ℕ} {P = ℕ}).spells group_starts }
+        ensures { Leads (dylink_group {N = Name} {P = ℕ}).spells group_starts }
     {}
 
     fn peek(cursor: Cursor<'_, '_>) -> Result<bool, Error>

@@ -1,6 +1,7 @@
 //! The productions of values of data segments.
 ghost use Rattle.std.specs.Prelude.{◌≡◌, ◌*◌, ℕ, List, length, map, refl};
 ghost use Rattle.std.specs.List.{flat_map};
+ghost use Rattle.wast_grammar.specs.Tokens.{Name};
 ghost use Rattle.wast_parser.specs.Look.{ask};
 ghost use Rattle.wast_parser.specs.Grammar.{seen, many};
 ghost use Rattle.wast_parser.specs.Lawful.{Lawful, Leads};
@@ -30,7 +31,7 @@ impl<'a> Meaning for DataVal<'a> {
     ghost syntax = { value };
 
     fn lawful()
-        ensures { Lawful (value {N = List ℕ} {P = ℕ}) }
+        ensures { Lawful (value {N = Name} {P = ℕ}) }
     {}
 }
 
@@ -50,7 +51,7 @@ impl<'a> Peek for DataVal<'a> {
     ghost sure = { refl };
 
     fn leads()
-        ensures { Leads (value {N = List ℕ} {P = ℕ}).spells value_starts }
+        ensures { Leads (value {N = Name} {P = ℕ}).spells value_starts }
     {}
 
     fn peek(cursor: Cursor<'_, '_>) -> Result<bool, Error>

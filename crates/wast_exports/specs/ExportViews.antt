@@ -1,6 +1,7 @@
 -- What the grammar sees of the code's exports, and of what stands inline.
 use Rattle.std.specs.Prelude.{ℕ, List, map}
 use Rattle.std.specs.Cow.{cow_str_bytes}
+use Rattle.wast_grammar.specs.Tokens.{Name}
 use Rattle.wast_parser.specs.Identifiers.{index_tree}
 use Rattle.wast_exports.specs.Exports as spec
 use Rattle.wast_exports.specs.declared.export.ExportKind.{ExportKind}
@@ -17,7 +18,7 @@ kind_view kinds.Memory = spec.Memory
 kind_view kinds.Global = spec.Global
 kind_view kinds.Tag = spec.Tag
 
-abbrev pub export_tree : Export → spec.Export (List ℕ) ℕ
+abbrev pub export_tree : Export → spec.Export Name ℕ
 export_tree e = record { place = e.span; name = cow_str_bytes e.name; kind = kind_view e.kind; item = index_tree e.item }
 
 abbrev pub export_name_tree : ExportName → List ℕ

@@ -1,5 +1,6 @@
 //! Exports.
 ghost use Rattle.std.specs.Prelude.{◌≡◌, ℕ, List, [], ◌∷◌, refl, codes, false};
+ghost use Rattle.wast_grammar.specs.Tokens.{Name};
 ghost use Rattle.wast_parser.specs.Lawful.{Lawful, Leads};
 ghost use Rattle.wast_parser.specs.State.{ahead, Keeps};
 ghost use Rattle.wast_parser.specs.Reading.{Gives};
@@ -111,14 +112,14 @@ impl Peek for ExportKind {
 }
 
 impl<'a> Meaning for Export<'a> {
-    ghost Tree = { spec.Export (List ℕ) ℕ };
+    ghost Tree = { spec.Export Name ℕ };
 
     ghost tree = { export_tree };
 
     ghost syntax = { export };
 
     fn lawful()
-        ensures { Lawful (export {N = List ℕ} {P = ℕ}) }
+        ensures { Lawful (export {N = Name} {P = ℕ}) }
     {}
 }
 

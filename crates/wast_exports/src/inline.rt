@@ -1,5 +1,6 @@
 //! Exports and imports that stand inline in the field that they are of.
 ghost use Rattle.std.specs.Prelude.{◌≡◌, ℕ, List, [], ◌∷◌, refl, codes, false};
+ghost use Rattle.wast_grammar.specs.Tokens.{Name};
 ghost use Rattle.wast_parser.specs.Look.{ask};
 ghost use Rattle.wast_parser.specs.Lawful.{Lawful, Leads};
 ghost use Rattle.wast_parser.specs.State.{ahead};
@@ -39,7 +40,7 @@ impl<'a> Meaning for InlineExport<'a> {
     ghost syntax = { inline_export };
 
     fn lawful()
-        ensures { Lawful (inline_export {N = List ℕ} {P = ℕ}) }
+        ensures { Lawful (inline_export {N = Name} {P = ℕ}) }
     {}
 }
 
@@ -57,7 +58,7 @@ impl<'a> Peek for InlineExport<'a> {
     ghost sure = { refl };
 
     fn leads()
-        ensures { Leads (inline_export {N = List ℕ} {P = ℕ}).spells export_starts }
+        ensures { Leads (inline_export {N = Name} {P = ℕ}).spells export_starts }
     {}
 
     fn peek(cursor: Cursor<'_, '_>) -> Result<bool, Error>
@@ -79,7 +80,7 @@ impl<'a> Meaning for ExportName<'a> {
     ghost syntax = { export_name };
 
     fn lawful()
-        ensures { Lawful (export_name {N = List ℕ} {P = ℕ}) }
+        ensures { Lawful (export_name {N = Name} {P = ℕ}) }
     {}
 }
 
@@ -99,7 +100,7 @@ impl<'a> Peek for ExportName<'a> {
     ghost sure = { refl };
 
     fn leads()
-        ensures { Leads (export_name {N = List ℕ} {P = ℕ}).spells export_starts }
+        ensures { Leads (export_name {N = Name} {P = ℕ}).spells export_starts }
     {}
 
     fn peek(cursor: Cursor<'_, '_>) -> Result<bool, Error>
@@ -125,7 +126,7 @@ impl<'a> Meaning for InlineImport<'a> {
     ghost syntax = { inline_import };
 
     fn lawful()
-        ensures { Lawful (inline_import {N = List ℕ} {P = ℕ}) }
+        ensures { Lawful (inline_import {N = Name} {P = ℕ}) }
     {}
 }
 
@@ -146,7 +147,7 @@ impl<'a> Peek for InlineImport<'a> {
     ghost sure = { refl };
 
     fn leads()
-        ensures { Leads (inline_import {N = List ℕ} {P = ℕ}).spells import_starts }
+        ensures { Leads (inline_import {N = Name} {P = ℕ}).spells import_starts }
     {}
 
     fn peek(cursor: Cursor<'_, '_>) -> Result<bool, Error>

@@ -1,5 +1,6 @@
 -- A small set of instructions without operands: a word, and where it stands.
 use Rattle.std.specs.Prelude.{ℕ, if◌then◌else◌, List, [], ◌∷◌, codes}
+use Rattle.wast_grammar.specs.Tokens.{Name}
 use Rattle.wast_parser.specs.Spelling.{any_is}
 use Rattle.wast_parser.specs.Grammar.{Syntax, among}
 use Rattle.wast_expressions.specs.Items.{Made}
@@ -24,7 +25,7 @@ mnemonic_text mnemonics.End = codes "end"
 abbrev pub op_tree : Op → List ℕ × ℕ
 op_tree x = (mnemonic_text x.word, x.span)
 
-abbrev pub op : Syntax (List ℕ) ℕ (List ℕ × ℕ)
+abbrev pub op : Syntax Name ℕ (List ℕ × ℕ)
 op = among (λ w. w) the_words []
 
 abbrev pub op_kind : List ℕ → GroupKind

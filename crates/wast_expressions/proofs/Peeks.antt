@@ -1,6 +1,6 @@
 -- Looking for words, hints, groups and items.
 use Rattle.std.proofs.Common.{◌≡◌, ℕ, Bool, true, false, List, [], ◌∷◌, Option, Some, None, refl, sym, ◌∙◌, ap, cond}
-use Rattle.wast_grammar.specs.Tokens.{Open, Close, Id, Word, Mark, Integer, Float, Text, Reserved, Broken}
+use Rattle.wast_grammar.specs.Tokens.{Name, Open, Close, Id, Word, Mark, Integer, Float, Text, Reserved, Broken}
 use Rattle.wast_grammar.specs.Significant.{TextToken}
 use Rattle.wast_grammar.specs.Spelling.{◌>>=◌}
 use Rattle.wast_grammar.specs.Look.{On, AWord, AMark, AFault, Any, This, OneOf, Opening, Look, Test, Texts, first, look, holds, any_fits, at, join, faults, ask, unders}
@@ -47,12 +47,12 @@ module _ {I : Type 0} (heads : Heads I) where
 
 -- HINTS
 -- a hint, of which one is given
-pub hint_leads : ℕ → Leads (hint {N = List ℕ} {P = ℕ}).spells hint_tests
+pub hint_leads : ℕ → Leads (hint {N = Name} {P = ℕ}).spells hint_tests
 hint_leads p =
     seen_leads hint_value _ hint_tests
     (paren_leads hint_body hint_body_laws (On false AMark (This hint_mark) ∷ [])
     (seen_leads (λ x. x.1) (seq (mark hint_mark) (only is_hint string)).spells (On false AMark (This hint_mark) ∷ [])
-    (next_leads (mark hint_mark) (λ _. only is_hint string) (only {N = List ℕ} {P = ℕ} is_hint string).starts false [] (On false AMark (This hint_mark) ∷ []) (seq_laws (mark hint_mark) (only is_hint string) (mark_laws hint_mark) (only_laws is_hint string string_laws) refl) refl (mark_leads hint_mark) refl refl
+    (next_leads (mark hint_mark) (λ _. only is_hint string) (only {N = Name} {P = ℕ} is_hint string).starts false [] (On false AMark (This hint_mark) ∷ []) (seq_laws (mark hint_mark) (only is_hint string) (mark_laws hint_mark) (only_laws is_hint string string_laws) refl) refl (mark_leads hint_mark) refl refl
     (λ a. (0 ∷ [], Text (0 ∷ []) p ∷ [], (refl, (Text (0 ∷ []) p, refl, refl))))))
     refl refl refl refl refl)
 

@@ -3,7 +3,7 @@ use Rattle.std.proofs.Common.{◌≡◌, ℕ, ◌<◌, Bool, true, false, not, L
 use Rattle.std.specs.Prelude.{Result, Ok, Err, OnOk, IfErr, codes}
 use Rattle.std.proofs.lemmas.Bool.{cases_lt}
 use Rattle.std.proofs.lemmas.List.{map-append}
-use Rattle.wast_grammar.specs.Tokens.{Open, Close, Id, Word, Mark, Integer, Float, Text, Reserved, Broken}
+use Rattle.wast_grammar.specs.Tokens.{Name, Open, Close, Id, Word, Mark, Integer, Float, Text, Reserved, Broken}
 use Rattle.wast_grammar.specs.Significant.{TextToken}
 use Rattle.wast_grammar.specs.Spelling.{◌>>=◌, that_open, that_one}
 use Rattle.wast_grammar.specs.Look.{NotEnd, at, ask}
@@ -60,7 +60,7 @@ ends_so (Broken ∷ ts) = refl
 pub behind_word : {B : Type 0} (w : List ℕ) (ts : List TextToken) (f : ℕ × List TextToken → Option B) → (one_of that_open ts >>= λ o. one_of (that_one w) o.1 >>= f) ≡ (arm_word w ts >>= f)
 behind_word w ts f = sym (bind_bind (one_of that_open ts) (λ o. one_of (that_one w) o.1) f)
 
-module _ {I T : Type 0} (tree : I → T) (ins : Syntax (List ℕ) ℕ T) (heads : Heads T) (m : Made ℕ T) where
+module _ {I T : Type 0} (tree : I → T) (ins : Syntax Name ℕ T) (heads : Heads T) (m : Made ℕ T) where
   -- where items stand
   pub row_item : (u w : Partial I) (l : Level I) (ts : List TextToken) → w ≡ record u { stack = l ∷ u.stack } → ask (item_tests heads) ts ≡ Some true → one_item ins heads m (levels_tree tree w.stack) (out_tree tree w.out) ts ≡ row_turn ins heads m (level_tree tree l ∷ levels_tree tree u.stack) (out_tree tree u.out) ts
   row_item u w l ts e f = ap (λ (z : Partial I). one_item ins heads m (levels_tree tree z.stack) (out_tree tree z.out) ts) e ∙ sym (rw f refl)
@@ -88,7 +88,7 @@ module _ {I T : Type 0} (tree : I → T) (ins : Syntax (List ℕ) ℕ T) (heads 
   more_condition u w h i ts e f = ap (λ (z : Partial I). open_group ins heads m (levels_tree tree z.stack) (out_tree tree z.out) None ts) e ∙ sym (rw f refl)
 
   -- a group opens
-  abbrev headed_by : List (machine.Level T) → List (Option ℕ × T) → Option ℕ → T × List TextToken → Option (machine.State (List ℕ) ℕ T)
+  abbrev headed_by : List (machine.Level T) → List (Option ℕ × T) → Option ℕ → T × List TextToken → Option (machine.State Name ℕ T)
   headed_by st out h i = Some (machine.headed ins heads m (heads.kind i.0) st out h i.0 i.1)
 
   pub group_opened : (st : List (machine.Level T)) (out : List (Option ℕ × T)) (h : Option ℕ) (p : ℕ) (t : T) (ts us rest : List TextToken) → one_of that_open ts ≡ Some (p, us) → ins.reads us ≡ Some (t, rest) → open_group ins heads m st out h ts ≡ Some (machine.headed ins heads m (heads.kind t) st out h t rest)
@@ -106,7 +106,7 @@ module _ {I T : Type 0} (tree : I → T) (ins : Syntax (List ℕ) ℕ T) (heads 
   plain_closes u v l ts e f = sym (ap (λ (z : Partial I). machine.plain_turn ins heads m (levels_tree tree z.stack) (out_tree tree z.out) ts) e ∙ rw f refl)
 
   -- the head of a folded instruction
-  abbrev ended_by : List (machine.Level T) → List (Option ℕ × T) → T × List TextToken → Option (machine.State (List ℕ) ℕ T)
+  abbrev ended_by : List (machine.Level T) → List (Option ℕ × T) → T × List TextToken → Option (machine.State Name ℕ T)
   ended_by st out i = Some (machine.state (machine.EndWith None i.0 ∷ st) out i.1)
 
   pub head_opened : (st : List (machine.Level T)) (out : List (Option ℕ × T)) (p : ℕ) (t : T) (ts us rest : List TextToken) → one_of that_open ts ≡ Some (p, us) → ins.reads us ≡ Some (t, rest) → machine.folded_head ins heads st out ts ≡ Some (machine.state (machine.EndWith None t ∷ st) out rest)
@@ -120,10 +120,10 @@ module _ {I T : Type 0} (tree : I → T) (ins : Syntax (List ℕ) ℕ T) (heads 
       ∙ ap (λ z. machine.state (machine.Arm ∷ level_tree tree l ∷ levels_tree tree u.stack) z rest) (out_more tree u.out h i ∙ ap (λ k. out_tree tree u.out ++ (k, tree i) ∷ []) p ∙ ap (λ k. out_tree tree u.out ++ (g, k) ∷ []) q))
 
   -- the arms
-  abbrev arm_state : List (Option ℕ × T) → machine.Level T → List (machine.Level T) → ℕ × List TextToken → Option (machine.State (List ℕ) ℕ T)
+  abbrev arm_state : List (Option ℕ × T) → machine.Level T → List (machine.Level T) → ℕ × List TextToken → Option (machine.State Name ℕ T)
   arm_state out l st w = Some (machine.state (machine.Arm ∷ l ∷ st) out w.1)
 
-  abbrev else_state : List (machine.Level T) → List (Option ℕ × T) → ℕ × List TextToken → Option (machine.State (List ℕ) ℕ T)
+  abbrev else_state : List (machine.Level T) → List (Option ℕ × T) → ℕ × List TextToken → Option (machine.State Name ℕ T)
   else_state st out w = Some (machine.state (machine.Arm ∷ machine.AfterElse ∷ st) (out ++ (None, m.else_at w.0) ∷ []) w.1)
 
   pub else_word : (st : List (machine.Level T)) (out : List (Option ℕ × T)) (ts rest : List TextToken) (p : ℕ) → arm_word (codes "else") ts ≡ Some (p, rest) → else_turn ins heads m st out ts ≡ Some (machine.state (machine.Arm ∷ machine.AfterElse ∷ st) (out ++ (None, m.else_at p) ∷ []) rest)
@@ -132,7 +132,7 @@ module _ {I T : Type 0} (tree : I → T) (ins : Syntax (List ℕ) ℕ T) (heads 
   pub else_none : (st : List (machine.Level T)) (out : List (Option ℕ × T)) (ts : List TextToken) → arm_word (codes "else") ts ≡ None → else_turn ins heads m st out ts ≡ None
   else_none st out ts e = behind_word (codes "else") ts (else_state st out) ∙ ap (λ z. z >>= else_state st out) e
 
-  abbrev then_word_of : Option ℕ → T → List (machine.Level T) → List (Option ℕ × T) → Option ℕ → List TextToken → Option (machine.State (List ℕ) ℕ T)
+  abbrev then_word_of : Option ℕ → T → List (machine.Level T) → List (Option ℕ × T) → Option ℕ → List TextToken → Option (machine.State Name ℕ T)
   then_word_of h i st out g ts = cond (both_hints h g) None (arm_word (codes "then") ts >>= arm_state (out ++ (either_hint h g, i) ∷ []) machine.AfterThen st)
 
   then_hint : (h : Option ℕ) (i : T) (st : List (machine.Level T)) (out : List (Option ℕ × T)) (ts us : List TextToken) (g : Option ℕ) → (maybe hint_tests hint).reads ts ≡ Some (g, us) → then_turn ins heads m h i st out ts ≡ then_word_of h i st out g us

@@ -1,5 +1,6 @@
 -- What the grammar sees of the types of the code.
 use Rattle.std.specs.Prelude.{◌≡◌, ◌+◌, ℕ, true, false, if◌then◌else◌, List, [], ◌∷◌, map, Option, Some, None, Result, Ok, Err}
+use Rattle.wast_grammar.specs.Tokens.{Name}
 use Rattle.wast_parser.specs.Reading.{Refuses}
 use Rattle.wast_parser.specs.State.{ahead}
 use Rattle.wast_parser.specs.Cursors.{stands, Follows}
@@ -35,7 +36,7 @@ made_as m making.Else p = m.else_at p
 made_as m making.End p = m.end_at p
 
 -- the instruction that is read, or made, and the tokens after it
-abbrev pub obtained : {I : Type 0} → Syntax (List ℕ) ℕ I → Made ℕ I → Origin → List TextToken → Option (I × List TextToken)
+abbrev pub obtained : {I : Type 0} → Syntax Name ℕ I → Made ℕ I → Origin → List TextToken → Option (I × List TextToken)
 obtained g m origins.Written ts = g.reads ts
 obtained g m (origins.Made kind p) ts = Some (made_as m kind p, ts)
 
@@ -45,7 +46,7 @@ IsHintOf bytes None = is_hint bytes ≡ false
 IsHintOf bytes (Some v) = (is_hint bytes ≡ true) × (bytes ≡ v ∷ [])
 
 -- a word of an instruction
-abbrev pub any_word : {I : Type 0} → spec.Heads I → Syntax (List ℕ) ℕ (List ℕ × ℕ)
+abbrev pub any_word : {I : Type 0} → spec.Heads I → Syntax Name ℕ (List ℕ × ℕ)
 any_word heads = words (λ w. if holds (OneOf heads.words heads.but) w then Some w else None) (OneOf heads.words heads.but)
 
 module _ {I T : Type 0} (tree : I → T) where
@@ -67,7 +68,7 @@ module _ {I T : Type 0} (tree : I → T) where
   levels_tree ls = map level_tree ls
 
 -- where a loop is
-abbrev pub here : {I T : Type 0} → (I → T) → Partial I → List TextToken → machine.State (List ℕ) ℕ T
+abbrev pub here : {I T : Type 0} → (I → T) → Partial I → List TextToken → machine.State Name ℕ T
 here tree u ts = machine.state (levels_tree tree u.stack) (out_tree tree u.out) ts
 
 -- what a turn answers and leaves
@@ -90,5 +91,5 @@ refused_turns (Ok x) = 0
 refused_turns (Err p) = 1
 
 -- So many turns were taken from these tokens on.
-abbrev pub Counts : {T A : Type 0} → Syntax (List ℕ) ℕ T → spec.Heads T → Made ℕ T → List TextToken → Result A Problem → ℕ → Type 0
-Counts {T} ins heads m ts result n = (t : machine.State (List ℕ) ℕ T) × (r : machine.Reach ins heads m (machine.is_done ins heads m) (machine.start ins heads m ts) t) × (n ≡ machine.turns ins heads m r + refused_turns result)
+abbrev pub Counts : {T A : Type 0} → Syntax Name ℕ T → spec.Heads T → Made ℕ T → List TextToken → Result A Problem → ℕ → Type 0
+Counts {T} ins heads m ts result n = (t : machine.State Name ℕ T) × (r : machine.Reach ins heads m (machine.is_done ins heads m) (machine.start ins heads m ts) t) × (n ≡ machine.turns ins heads m r + refused_turns result)

@@ -1,5 +1,6 @@
 //! Branch hints: `(@metadata.code.branch_hint s)`.
 ghost use Rattle.std.specs.Prelude.{◌≡◌, ℕ, List, [], ◌∷◌, refl};
+ghost use Rattle.wast_grammar.specs.Tokens.{Name};
 ghost use Rattle.wast_parser.specs.Lawful.{Lawful, Leads};
 ghost use Rattle.wast_parser.specs.Look.{ask};
 ghost use Rattle.wast_parser.specs.Grammar.{maybe};
@@ -45,7 +46,7 @@ impl Meaning for HintValue {
     ghost syntax = { hint };
 
     fn lawful()
-        ensures { Lawful (hint {N = List ℕ} {P = ℕ}) }
+        ensures { Lawful (hint {N = Name} {P = ℕ}) }
     {}
 }
 
@@ -62,7 +63,7 @@ impl Peek for HintValue {
     ghost sure = { refl };
 
     fn leads()
-        ensures { Leads (hint {N = List ℕ} {P = ℕ}).spells hint_tests }
+        ensures { Leads (hint {N = Name} {P = ℕ}).spells hint_tests }
     {}
 
     fn peek(cursor: Cursor<'_, '_>) -> Result<bool, Error>
@@ -94,7 +95,7 @@ impl Meaning for HintBody {
     ghost syntax = { hint_body };
 
     fn lawful()
-        ensures { Lawful (hint_body {N = List ℕ} {P = ℕ}) }
+        ensures { Lawful (hint_body {N = Name} {P = ℕ}) }
     {}
 }
 

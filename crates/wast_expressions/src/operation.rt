@@ -1,5 +1,6 @@
 //! What expressions ask of instructions.
 ghost use Rattle.std.specs.Prelude.{◌≡◌, ℕ, List, IfOk, OnErr};
+ghost use Rattle.wast_grammar.specs.Tokens.{Name};
 ghost use Rattle.wast_parser.specs.Look.{ask};
 ghost use Rattle.wast_parser.specs.Grammar.{Syntax};
 ghost use Rattle.wast_parser.specs.Lawful.{LawfulBut};
@@ -33,7 +34,7 @@ pub trait Operation: Sized + Drop {
     ghost tree: { Self → Tree };
 
     /// Which tokens spell it, and how it is read.
-    ghost syntax: { Syntax (List ℕ) ℕ Tree };
+    ghost syntax: { Syntax Name ℕ Tree };
 
     /// The words of instructions, what may follow them, which group each heads, and what would go on with it.
     ghost heads: { Heads Tree };

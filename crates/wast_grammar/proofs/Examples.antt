@@ -7,7 +7,7 @@ use Rattle.wast_lexer.specs.declared.token.TokenKind.{TokenKind}
 use Rattle.wast_lexer.specs.declared.token.TokenKind.TheVariants as kinds
 use Rattle.wast_lexer.specs.Lexeme.{Lexeme}
 use Rattle.wast_lexer.specs.Groups.Balanced.{Nothing as NoParens, Plain as OnePlain}
-use Rattle.wast_grammar.specs.Tokens.{is_whole, Open, Close, Id, Word, Mark, Integer, Text, Broken, Literal, number, literal, string_value, name_value, marked_value, id_name}
+use Rattle.wast_grammar.specs.Tokens.{Name, as_read, is_whole, Open, Close, Id, Word, Mark, Integer, Text, Broken, Literal, number, literal, string_value, name_value, marked_value, id_name}
 use Rattle.wast_grammar.specs.Significant.{TextToken, token_of, is_unknown, opens_dropped, Dropped, IsSignificant, significant, AreSignificant, IsShown}
 use Rattle.wast_grammar.specs.Significant.Dropped.{Nothing, Blank, Group}
 use Rattle.wast_grammar.specs.Spelling.{◌>>=◌, same_text, any_is, find_by, find_but, after, that_word, that_one, that_mark, that_id, that_integer, that_float, that_text, that_open, that_close}
@@ -149,8 +149,11 @@ bound = refl
 abbrev pub word_at : String → ℕ → TextToken
 word_at w p = Word (codes w) p
 
+abbrev pub named : String → Name
+named n = as_read (codes n)
+
 abbrev pub id_at : String → ℕ → TextToken
-id_at n p = Id (Some (codes n)) p
+id_at n p = Id (Some (named n)) p
 
 abbrev pub mark_at : String → ℕ → TextToken
 mark_at n p = Mark (codes n) p
@@ -185,7 +188,7 @@ says_one = refl
 says_mark : that_mark (codes "name") (mark_at "name" 1) ≡ Some 1
 says_mark = refl
 
-says_id : that_id (id_at "x" 1) ≡ Some (codes "x", 1)
+says_id : that_id (id_at "x" 1) ≡ Some (named "x", 1)
 says_id = refl
 
 -- an identifier without a name is read by nothing
@@ -337,10 +340,10 @@ front = id_at "x" 0 ∷ word_at "f" 3 ∷ id_at "x" 5 ∷ []
 abbrev other : List TextToken
 other = id_at "y" 4 ∷ word_at "f" 7 ∷ id_at "y" 8 ∷ []
 
-moved : move (λ n. codes "y") (λ p. p + 1) (id_at "x" 0) ≡ id_at "y" 1
+moved : move (λ n. named "y") (λ p. p + 1) (id_at "x" 0) ≡ id_at "y" 1
 moved = refl
 
-names_paired : names front other ≡ (codes "x", codes "y") ∷ (codes "x", codes "y") ∷ []
+names_paired : names front other ≡ (named "x", named "y") ∷ (named "x", named "y") ∷ []
 names_paired = refl
 
 places_paired : places front other ≡ (0, 4) ∷ (3, 7) ∷ (5, 8) ∷ []
@@ -355,7 +358,7 @@ they_are_alike = (tt, (refl, (tt, tt)))
 names_matched : Matched (names front other)
 names_matched = (((λ e. refl, λ e. refl), tt), (tt, tt))
 
-names_carried : Carries (λ n. codes "y") (names front other)
+names_carried : Carries (λ n. named "y") (names front other)
 names_carried = (refl, (refl, tt))
 
 places_rise : Rising (places front other)

@@ -1,24 +1,24 @@
 -- Worked examples of productions: what they read and spell, by computation, and their laws, each a term that mirrors it.
 -- An ambiguous production has no law: a condition of it computes to false, as the last section shows.
 use Rattle.std.proofs.Common.{◌≡◌, ℕ, suc, ap, Bool, true, false, not, ◌&&◌, List, [], ◌∷◌, Option, Some, None, inl, inr, refl, codes, nat_lt}
+use Rattle.wast_grammar.specs.Tokens as tokens
 use Rattle.wast_grammar.specs.Tokens.{SignificantToken, Open, Close, Id, Word, Integer, Literal}
-use Rattle.wast_grammar.specs.Spelling.{◌>>=◌, same_text}
+use Rattle.wast_grammar.specs.Spelling.{◌>>=◌, same_name}
 use Rattle.wast_grammar.specs.Significant.{TextToken}
 use Rattle.wast_grammar.specs.Look.{AnInteger, AnId, AWord, OneOf, Any, Test, On, this_group, apart, join, faults}
 use Rattle.wast_grammar.specs.Grammar.{Syntax, word, among, begun, mark, id, integer, float, string, nothing, next, seq, wide, seen, only, maybe, many, times, either, fenced, led, group, annotation, part}
 use Rattle.wast_grammar.specs.Recursion.{fix}
 use Rattle.wast_grammar.specs.Behind.{next_but, row}
 use Rattle.wast_grammar.specs.Nested.{nested_but, Items, Done, Plain, Folded, unfolded, tokens_of}
-use Rattle.wast_grammar.proofs.Examples.{word_at, id_at, mark_at, nameless_at, open_at, close_at, broken, seven, seven_at, text_at, heaps, mnemonics, indices}
+use Rattle.wast_grammar.proofs.Examples.{named, word_at, id_at, mark_at, nameless_at, open_at, close_at, broken, seven, seven_at, text_at, heaps, mnemonics, indices}
 use Rattle.wast_grammar.proofs.GrammarLaws.{Lawful, word_laws, among_laws, id_laws, integer_laws, string_laws, nothing_laws, seen_laws, only_laws, seq_laws, next_laws, maybe_laws, many_laws, times_laws, either_laws, fenced_laws, group_laws, annotation_laws, bound_laws, wide_laws, one_value, all_spelled}
 use Rattle.wast_grammar.proofs.Looks.{within_self}
 use Rattle.wast_grammar.proofs.Twins.{Paired, group_twins, part_twins, part_laws, twins_read}
 use Rattle.wast_grammar.proofs.RecursionLaws.{Steps, fix_laws, under_self, under_seen, under_group, under_either}
 use Rattle.wast_grammar.proofs.BehindLaws.{but_of, row_laws, next_but_laws}
 use Rattle.wast_grammar.proofs.NestedLaws.{nested_but_laws}
-use Rattle.wast_grammar.proofs.Decide.{tokens_decide, renaming, carried_over}
+use Rattle.wast_grammar.proofs.Decide.{names_decide, tokens_decide, renaming, carried_over}
 use Rattle.wast_grammar.specs.Alike.{Alike, Same, Matched, Rising, Carries, names as paired, places}
-use Rattle.std.specs.Cmp.Lexicographic.{bytes_decides}
 
 -- ONE TOKEN
 reads_word : (word (codes "func")).reads (word_at "func" 3 ∷ id_at "x" 8 ∷ []) ≡ Some (3, id_at "x" 8 ∷ [])
@@ -45,7 +45,7 @@ reads_begun = refl
 reads_mark : (mark (codes "name")).reads (mark_at "name" 3 ∷ []) ≡ Some (3, [])
 reads_mark = refl
 
-reads_id : id.reads (id_at "x" 3 ∷ []) ≡ Some ((codes "x", 3), [])
+reads_id : id.reads (id_at "x" 3 ∷ []) ≡ Some ((named "x", 3), [])
 reads_id = refl
 
 reads_no_id : id.reads (nameless_at 3 ∷ []) ≡ None
@@ -84,11 +84,11 @@ module _ {N P : Type 0} where
 reads_number : index.reads (seven_at 3 ∷ close_at 4 ∷ []) ≡ Some (Number 7 3, close_at 4 ∷ [])
 reads_number = refl
 
-reads_name : index.reads (id_at "x" 3 ∷ []) ≡ Some (Name (codes "x") 3, [])
+reads_name : index.reads (id_at "x" 3 ∷ []) ≡ Some (Name (named "x") 3, [])
 reads_name = refl
 
-spells_name : index.spells (Name (codes "x") 3) (id_at "x" 3 ∷ [])
-spells_name = inr ((codes "x", 3), refl, (id_at "x" 3, refl, refl))
+spells_name : index.spells (Name (named "x") 3) (id_at "x" 3 ∷ [])
+spells_name = inr ((named "x", 3), refl, (id_at "x" 3, refl, refl))
 
 fault_met : index.reads (broken ∷ []) ≡ None
 fault_met = refl
@@ -107,11 +107,11 @@ module _ {N P : Type 0} where
 abbrev elem_tokens : List TextToken
 elem_tokens = open_at 0 ∷ word_at "elem" 1 ∷ id_at "e" 6 ∷ word_at "func" 9 ∷ seven_at 14 ∷ id_at "x" 16 ∷ close_at 18 ∷ []
 
-reads_elem : elem.reads elem_tokens ≡ Some ((Some (codes "e", 6), Number 7 14 ∷ Name (codes "x") 16 ∷ []), [])
+reads_elem : elem.reads elem_tokens ≡ Some ((Some (named "e", 6), Number 7 14 ∷ Name (named "x") 16 ∷ []), [])
 reads_elem = refl
 
 -- these tokens spell that, and nothing else
-elem_once : (a : Option (List ℕ × ℕ) × List (Idx (List ℕ) ℕ)) → elem.spells a elem_tokens → a ≡ (Some (codes "e", 6), Number 7 14 ∷ Name (codes "x") 16 ∷ [])
+elem_once : (a : Option (tokens.Name × ℕ) × List (Idx tokens.Name ℕ)) → elem.spells a elem_tokens → a ≡ (Some (named "e", 6), Number 7 14 ∷ Name (named "x") 16 ∷ [])
 elem_once a s = one_value elem elem_laws refl elem_tokens a _ s (all_spelled elem elem_laws elem_tokens _ reads_elem)
 
 -- COUNTED: so many integers, and as many as an integer says
@@ -157,11 +157,11 @@ module _ {N P : Type 0} where
 reads_note : name_note.reads (open_at 0 ∷ mark_at "name" 1 ∷ text_at "a" 7 ∷ close_at 10 ∷ []) ≡ Some (codes "a", [])
 reads_note = refl
 
-reads_closed : closed.reads (open_at 0 ∷ id_at "x" 1 ∷ close_at 3 ∷ []) ≡ Some (((codes "x", 1), 3), [])
+reads_closed : closed.reads (open_at 0 ∷ id_at "x" 1 ∷ close_at 3 ∷ []) ≡ Some (((named "x", 1), 3), [])
 reads_closed = refl
 
 -- by the relation: the parentheses, and what stands within
-spells_closed : closed.spells ((codes "x", 1), 3) (open_at 0 ∷ id_at "x" 1 ∷ close_at 3 ∷ [])
+spells_closed : closed.spells ((named "x", 1), 3) (open_at 0 ∷ id_at "x" 1 ∷ close_at 3 ∷ [])
 spells_closed = (id_at "x" 1 ∷ [], 0, refl, (id_at "x" 1, refl, refl))
 
 spells_two : two_lanes.spells ((seven, 0) ∷ (seven, 2) ∷ []) (seven_at 0 ∷ seven_at 2 ∷ [])
@@ -261,7 +261,7 @@ module _ {N P : Type 0} where
   folded_sum_laws : Lawful folded_sum
   folded_sum_laws = nested_but_laws sum_word (λ _. []) (but_of _ sum_word_laws) refl refl (λ _. refl) refl refl refl
 
-reads_flat : labelled_sum.reads (id_at "x" 0 ∷ word_at "one" 3 ∷ word_at "two" 7 ∷ word_at "add" 11 ∷ close_at 14 ∷ []) ≡ Some (((codes "x", 0), codes "one" ∷ codes "two" ∷ codes "add" ∷ []), close_at 14 ∷ [])
+reads_flat : labelled_sum.reads (id_at "x" 0 ∷ word_at "one" 3 ∷ word_at "two" 7 ∷ word_at "add" 11 ∷ close_at 14 ∷ []) ≡ Some (((named "x", 0), codes "one" ∷ codes "two" ∷ codes "add" ∷ []), close_at 14 ∷ [])
 reads_flat = refl
 
 -- not up to an end
@@ -269,7 +269,7 @@ reads_no_flat : flat_sum.reads (word_at "one" 0 ∷ seven_at 4 ∷ []) ≡ None
 reads_no_flat = refl
 
 -- (add (one) two)
-abbrev folded_items : Items (List ℕ) ℕ (List ℕ)
+abbrev folded_items : Items tokens.Name ℕ (List ℕ)
 folded_items = Folded 0 14 (codes "add") (word_at "add" 1 ∷ []) (Folded 5 9 (codes "one") (word_at "one" 6 ∷ []) Done (Plain (codes "two") (word_at "two" 11 ∷ []) Done)) Done
 
 abbrev folded_tokens : List TextToken
@@ -288,17 +288,17 @@ reads_folded = refl
 abbrev one_twice : (N P : Type 0) → (N → N → Bool) → List (SignificantToken N P) → Option Bool
 one_twice N P eq ts = (group (codes "elem") (seq id id)).reads ts >>= λ x. Some (eq x.0.0.0 x.0.1.0)
 
-twice_decided : (ts us : List TextToken) → Alike ts us → Same (paired ts us) → Rising (places ts us) → one_twice (List ℕ) ℕ same_text us ≡ one_twice (List ℕ) ℕ same_text ts
+twice_decided : (ts us : List TextToken) → Alike ts us → Same (paired ts us) → Rising (places ts us) → one_twice tokens.Name ℕ same_name us ≡ one_twice tokens.Name ℕ same_name ts
 twice_decided = tokens_decide one_twice
 
-twice_renamed : (ts us : List TextToken) → Alike ts us → Matched (paired ts us) → Rising (places ts us) → one_twice (List ℕ) ℕ same_text us ≡ one_twice (List ℕ) ℕ same_text ts
+twice_renamed : (ts us : List TextToken) → Alike ts us → Matched (paired ts us) → Rising (places ts us) → one_twice tokens.Name ℕ same_name us ≡ one_twice tokens.Name ℕ same_name ts
 twice_renamed = renaming one_twice
 
 -- that some tokens spell one is decided too: a relation is an answer
 abbrev is_pair : (N P : Type 0) → (N → N → Bool) → List (SignificantToken N P) → Type 0
 is_pair N P eq ts = (a : (N × P) × (N × P)) × (group (codes "elem") (seq id id)).spells a ts
 
-pair_renamed : (ts us : List TextToken) → Alike ts us → Matched (paired ts us) → Rising (places ts us) → is_pair (List ℕ) ℕ same_text us ≡ is_pair (List ℕ) ℕ same_text ts
+pair_renamed : (ts us : List TextToken) → Alike ts us → Matched (paired ts us) → Rising (places ts us) → is_pair tokens.Name ℕ same_name us ≡ is_pair tokens.Name ℕ same_name ts
 pair_renamed = renaming is_pair
 
 -- what is read has its name and place carried along
@@ -313,32 +313,32 @@ carry_none N P None = refl
 carry_none N P (Some x) = refl
 
 id_carried : (ts us : List TextToken) → Alike ts us → Matched (paired ts us) → Matched (places ts us) →
-    (f : List ℕ → List ℕ) × (g : ℕ → ℕ) × Carries f (paired ts us) × Carries g (places ts us) × (read_id (List ℕ) ℕ same_text us ≡ carry_id (List ℕ) (List ℕ) ℕ ℕ f g (read_id (List ℕ) ℕ same_text ts))
-id_carried = carried_over (λ N P. Option (N × P)) carry_id carry_none read_id same_text bytes_decides
+    (f : tokens.Name → tokens.Name) × (g : ℕ → ℕ) × Carries f (paired ts us) × Carries g (places ts us) × (read_id tokens.Name ℕ same_name us ≡ carry_id tokens.Name tokens.Name ℕ ℕ f g (read_id tokens.Name ℕ same_name ts))
+id_carried = carried_over (λ N P. Option (N × P)) carry_id carry_none read_id same_name names_decide
 
 -- AMBIGUOUS: index* index*
 abbrev Lists : Type 0
-Lists = List (Idx (List ℕ) ℕ) × List (Idx (List ℕ) ℕ)
+Lists = List (Idx tokens.Name ℕ) × List (Idx tokens.Name ℕ)
 
-abbrev two_lists : Syntax (List ℕ) ℕ Lists
+abbrev two_lists : Syntax tokens.Name ℕ Lists
 two_lists = seq (many indices index) (many indices index)
 
 -- its law would ask for `apart (many indices index).stops (many indices index).starts ≡ true`, by `refl`
-lists_clash : apart (many indices (index {N = List ℕ} {P = ℕ})).stops (many indices (index {N = List ℕ} {P = ℕ})).starts ≡ false
+lists_clash : apart (many indices (index {N = tokens.Name} {P = ℕ})).stops (many indices (index {N = tokens.Name} {P = ℕ})).starts ≡ false
 lists_clash = refl
 
 -- an index stands in the one list, or in the other
 abbrev in_first : Lists
-in_first = (Name (codes "x") 0 ∷ [], [])
+in_first = (Name (named "x") 0 ∷ [], [])
 
 abbrev in_second : Lists
-in_second = ([], Name (codes "x") 0 ∷ [])
+in_second = ([], Name (named "x") 0 ∷ [])
 
 abbrev index_x : List TextToken
 index_x = id_at "x" 0 ∷ []
 
-spells_x : index.spells (Name (codes "x") 0) index_x
-spells_x = inr ((codes "x", 0), refl, (id_at "x" 0, refl, refl))
+spells_x : index.spells (Name (named "x") 0) index_x
+spells_x = inr ((named "x", 0), refl, (id_at "x" 0, refl, refl))
 
 first_spelled : two_lists.spells in_first index_x
 first_spelled = (index_x, [], refl, (index_x, [], refl, spells_x, refl), refl)

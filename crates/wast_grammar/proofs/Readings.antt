@@ -1,13 +1,14 @@
 -- What a text spells: its significant tokens are read and spelled, and it spells one value at most.
 use Rattle.std.proofs.Common.{◌≡◌, ℕ, Bool, false, List, [], Some, refl, subst}
 use Rattle.wast_lexer.specs.Lexeme.{Lexeme}
+use Rattle.wast_grammar.specs.Tokens.{Name}
 use Rattle.wast_grammar.specs.Significant.{TextToken, IsSignificant, AreSignificant, significant}
 use Rattle.wast_grammar.specs.Look.{any_end}
 use Rattle.wast_grammar.specs.Grammar.{Syntax}
 use Rattle.wast_grammar.proofs.GrammarLaws.{Lawful, one_value, all_spelled}
 use Rattle.wast_grammar.proofs.SignificantLaws.{shown_law, whole_significant, one_list}
 
-module _ {A : Type 0} (g : Syntax (List ℕ) ℕ A) (lg : Lawful g) where
+module _ {A : Type 0} (g : Syntax Name ℕ A) (lg : Lawful g) where
   -- Where all that a parser is shown is read, no fault stands behind it, and the text has significant tokens, which spell
   -- the value.
   pub read_all : (names : List (List ℕ)) (broken : Bool) (ls : List Lexeme) (a : A) → g.reads (significant names broken ls) ≡ Some (a, []) →

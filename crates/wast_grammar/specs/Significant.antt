@@ -1,16 +1,16 @@
 -- Which tokens of a text are significant, where some annotations are registered by name (WebAssembly 3.0, 6.2.3 to 6.2.5).
-use Rattle.std.specs.Prelude.{◌≡◌, ◌⊎◌, ℕ, zero, suc, Bool, true, false, not, ◌&&◌, if◌then◌else◌, List, [], ◌∷◌, ◌++◌, map}
+use Rattle.std.specs.Prelude.{◌≡◌, ◌⊎◌, ℕ, zero, suc, Bool, true, false, not, ◌&&◌, if◌then◌else◌, List, [], ◌∷◌, ◌++◌, map, option_map}
 use Rattle.wast_lexer.specs.declared.token.TokenKind.{TokenKind}
 use Rattle.wast_lexer.specs.declared.token.TokenKind.TheVariants as kinds
 use Rattle.wast_lexer.specs.Groups.{Balanced, paren_of}
 use Rattle.wast_lexer.specs.Tiling.{Tiles, is_annotation}
 use Rattle.wast_lexer.specs.Lexeme.{Lexeme}
-use Rattle.wast_grammar.specs.Tokens.{SignificantToken, Open, Close, Id, Word, Mark, Integer, Float, Text, Reserved, Broken, literal, string_value, marked_value, id_name}
+use Rattle.wast_grammar.specs.Tokens.{Name, as_read, SignificantToken, Open, Close, Id, Word, Mark, Integer, Float, Text, Reserved, Broken, literal, string_value, marked_value, id_name}
 use Rattle.wast_grammar.specs.Spelling.{any_is}
 
--- a token of a text: names are texts, places are offsets
+-- a token of a text: places are offsets
 abbrev pub TextToken : Type 0
-TextToken = SignificantToken (List ℕ) ℕ
+TextToken = SignificantToken Name ℕ
 
 -- the token that a lexeme is; white space and comments are none
 abbrev pub token_of : TokenKind → List ℕ → ℕ → List TextToken
@@ -19,7 +19,7 @@ token_of kinds.LineComment text place = []
 token_of kinds.BlockComment text place = []
 token_of kinds.LParen text place = Open place ∷ []
 token_of kinds.RParen text place = Close place ∷ []
-token_of kinds.Id text place = Id (id_name text) place ∷ []
+token_of kinds.Id text place = Id (option_map as_read (id_name text)) place ∷ []
 token_of kinds.Keyword text place = Word text place ∷ []
 token_of kinds.Annotation text place = Mark (marked_value text) place ∷ []
 token_of (kinds.Integer kind) text place = Integer (literal text) text place ∷ []

@@ -1,9 +1,9 @@
 -- Which tokens spell a value: a relation for each way to make a production (WebAssembly 3.0, 6.1.1). No relation looks
 -- ahead, and none says in which order things are tried. `Grammar` makes each production by a combinator of the same
 -- name, of which this is the part that a reader has to believe; how a reader decides is said there and in `Look`.
-use Rattle.std.specs.Prelude.{◌≡◌, ◌⊎◌, ℕ, Bool, true, false, if◌then◌else◌, List, [], ◌∷◌, ◌++◌, length, Option, Some, None, nat_eq}
+use Rattle.std.specs.Prelude.{◌≡◌, ◌⊎◌, ℕ, Bool, true, false, if◌then◌else◌, List, [], ◌∷◌, ◌++◌, length, Option, Some, None, ◌&&◌, nat_eq}
 use Rattle.std.specs.Cmp.Lexicographic.{pointwise}
-use Rattle.wast_grammar.specs.Tokens.{SignificantToken, Open, Close, Id, Word, Mark, Integer, Float, Text, Literal}
+use Rattle.wast_grammar.specs.Tokens.{Name, SignificantToken, Open, Close, Id, Word, Mark, Integer, Float, Text, Literal}
 
 -- which tokens spell a value
 abbrev pub Spells : Type 0 → Type 0 → Type 0 → Type 1
@@ -18,6 +18,9 @@ None >>= f = None
 
 abbrev pub same_text : List ℕ → List ℕ → Bool
 same_text v w = pointwise nat_eq v w
+
+abbrev pub same_name : Name → Name → Bool
+same_name n m = same_text n.0 m.0 && nat_eq n.1 m.1
 
 -- whether one of these texts is that one
 abbrev pub any_is : List ℕ → List (List ℕ) → Bool

@@ -11,6 +11,13 @@ pub record Literal : Type 0 where
   pub minus : Bool
   pub size : ℕ
 
+-- The name of an identifier, and its generation: 0 where it is read, and a number of its own where it is made for what has none.
+abbrev pub Name : Type 0
+Name = List ℕ × ℕ
+
+abbrev pub as_read : List ℕ → Name
+as_read bytes = (bytes, 0)
+
 -- A token, with the place where it stands. Identifiers are of any type N and places of any type P: no definition over
 -- tokens tells one name or one place from another, but by a test that it is given.
 pub data SignificantToken (N P : Type 0) : Type 0 where
@@ -98,6 +105,6 @@ marked_value text = name_value (drop 1 text)
 abbrev pub name_of : List ℕ → Option (List ℕ)
 name_of bytes = if is_empty bytes || not (is_utf8 bytes) then None else Some bytes
 
--- the name that an identifier stands for
+-- the bytes of the name that an identifier stands for
 abbrev pub id_name : List ℕ → Option (List ℕ)
 id_name text = name_of (marked_value text)

@@ -4,12 +4,11 @@ use Rattle.std.specs.List.{slice_get}
 use Rattle.std.specs.Global.{Vec}
 use Rattle.std.specs.Vec.{with_item}
 use Rattle.std.specs.Cow.{cow_str_bytes}
+use Rattle.wast_grammar.specs.Tokens.{Name}
 use Rattle.wast_parser.specs.Identifiers.{identifier_tree, index_tree}
 use Rattle.wast_value_types.specs.ValueViews.{table_tree, memory_tree, global_tree}
 use Rattle.wast_core_types.specs.TypeTree as types
-use Rattle.wast_core_types.specs.TypeViews.{name_tree, sig_tree}
-use Rattle.wast_core_types.specs.declared.FunctionType.{FunctionType}
-use Rattle.wast_core_types.specs.declared.TypeUse.{TypeUse}
+use Rattle.wast_core_types.specs.TypeViews.{name_tree, use_tree}
 use Rattle.wast_imports.specs.ImportTree as spec
 use Rattle.wast_imports.specs.ImportSyntax as syntax
 use Rattle.wast_imports.specs.declared.head.Head.{Head}
@@ -25,17 +24,13 @@ use Rattle.wast_imports.specs.declared.import.ImportItems.TheVariants as items
 use Rattle.wast_imports.specs.declared.import.Imports.{Imports}
 use Rattle.wast_imports.specs.declared.export_type.ExportType.{ExportType}
 
-abbrev pub head_tree : Head → syntax.Head (List ℕ) ℕ
+abbrev pub head_tree : Head → syntax.Head Name ℕ
 head_tree h = (option_map identifier_tree h.id, option_map name_tree h.name)
 
--- ITEMS
-abbrev pub use_tree : TypeUse FunctionType → types.TypeUse (List ℕ) ℕ
-use_tree u = record { index = option_map index_tree u.index; inline = option_map sig_tree u.inline }
-
-abbrev pub tag_tree : TagType → types.TypeUse (List ℕ) ℕ
+abbrev pub tag_tree : TagType → types.TypeUse Name ℕ
 tag_tree (tags.Exception ty) = use_tree ty
 
-abbrev pub extern_tree : ItemKind → spec.ExternType (List ℕ) ℕ
+abbrev pub extern_tree : ItemKind → spec.ExternType Name ℕ
 extern_tree (kinds.Func ty) = spec.OfFunc (use_tree ty)
 extern_tree (kinds.FuncExact ty) = spec.OfExactFunc (use_tree ty)
 extern_tree (kinds.Table ty) = spec.OfTable (table_tree ty)
@@ -43,11 +38,11 @@ extern_tree (kinds.Memory ty) = spec.OfMemory (memory_tree ty)
 extern_tree (kinds.Global ty) = spec.OfGlobal (global_tree ty)
 extern_tree (kinds.Tag ty) = spec.OfTag (tag_tree ty)
 
-abbrev pub item_tree : ItemSig → spec.Item (List ℕ) ℕ
+abbrev pub item_tree : ItemSig → spec.Item Name ℕ
 item_tree s = record { place = s.span; id = option_map identifier_tree s.id; given = option_map name_tree s.name; extern_type = extern_tree s.kind }
 
 -- IMPORTS
-abbrev pub member_tree : ImportGroup1Item → List ℕ × spec.Item (List ℕ) ℕ
+abbrev pub member_tree : ImportGroup1Item → List ℕ × spec.Item Name ℕ
 member_tree i = (cow_str_bytes i.name, item_tree i.sig)
 
 abbrev pub member_name_tree : ImportGroup2Item → List ℕ
@@ -58,15 +53,15 @@ from_of (items.Single from name sig) = cow_str_bytes from
 from_of (items.Group1 from members) = cow_str_bytes from
 from_of (items.Group2 from sig members) = cow_str_bytes from
 
-abbrev pub items_tree : ImportItems → spec.ImportItems (List ℕ) ℕ
+abbrev pub items_tree : ImportItems → spec.ImportItems Name ℕ
 items_tree (items.Single from name sig) = spec.Single (cow_str_bytes name) (item_tree sig)
 items_tree (items.Group1 from members) = spec.Group1 (map member_tree members.items)
 items_tree (items.Group2 from sig members) = spec.Group2 (map member_name_tree members.items) (item_tree sig)
 
-abbrev pub imports_tree : Imports → spec.Imports (List ℕ) ℕ
+abbrev pub imports_tree : Imports → spec.Imports Name ℕ
 imports_tree i = record { place = i.span; from = from_of i.items; items = items_tree i.items }
 
-abbrev pub export_type_tree : ExportType → spec.ExportType (List ℕ) ℕ
+abbrev pub export_type_tree : ExportType → spec.ExportType Name ℕ
 export_type_tree e = record { place = e.span; name = cow_str_bytes e.name; item = item_tree e.item }
 
 -- what each import of them is of, in order

@@ -1,5 +1,6 @@
 //! What is exported under a name.
 ghost use Rattle.std.specs.Prelude.{◌≡◌, ℕ, List};
+ghost use Rattle.wast_grammar.specs.Tokens.{Name};
 ghost use Rattle.wast_parser.specs.Lawful.{Lawful};
 ghost use Rattle.wast_imports.specs.ImportTree as spec;
 ghost use Rattle.wast_imports.specs.ImportSyntax.{export_type};
@@ -21,14 +22,14 @@ pub struct ExportType<'a> {
 }
 
 impl<'a> Meaning for ExportType<'a> {
-    ghost Tree = { spec.ExportType (List ℕ) ℕ };
+    ghost Tree = { spec.ExportType Name ℕ };
 
     ghost tree = { export_type_tree };
 
     ghost syntax = { export_type };
 
     fn lawful()
-        ensures { Lawful (export_type {N = List ℕ} {P = ℕ}) }
+        ensures { Lawful (export_type {N = Name} {P = ℕ}) }
     {}
 }
 

@@ -1,5 +1,6 @@
 //! What fields and items are called.
 ghost use Rattle.std.specs.Prelude.{◌≡◌, ℕ, List};
+ghost use Rattle.wast_grammar.specs.Tokens.{Name};
 ghost use Rattle.wast_parser.specs.Lawful.{Lawful};
 ghost use Rattle.wast_imports.specs.ImportSyntax as spec;
 ghost use Rattle.wast_imports.specs.ImportSyntax.{head};
@@ -15,14 +16,14 @@ pub struct Head<'a> {
 }
 
 impl<'a> Meaning for Head<'a> {
-    ghost Tree = { spec.Head (List ℕ) ℕ };
+    ghost Tree = { spec.Head Name ℕ };
 
     ghost tree = { head_tree };
 
     ghost syntax = { head };
 
     fn lawful()
-        ensures { Lawful (head {N = List ℕ} {P = ℕ}) }
+        ensures { Lawful (head {N = Name} {P = ℕ}) }
     {}
 }
 

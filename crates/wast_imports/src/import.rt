@@ -2,6 +2,7 @@
 ghost use Rattle.std.specs.Prelude.{◌≡◌, ◌<◌, ℕ, List, length, IfOk, map, Option, Some, None, option_map};
 ghost use Rattle.std.specs.Cow.{cow_str_bytes};
 ghost use Rattle.std.specs.List.{slice_get};
+ghost use Rattle.wast_grammar.specs.Tokens.{Name};
 ghost use Rattle.wast_parser.specs.Lawful.{Lawful};
 ghost use Rattle.wast_parser.specs.State.{ahead, Keeps};
 ghost use Rattle.wast_parser.specs.Reading.{Gives};
@@ -132,14 +133,14 @@ impl<'a> Imports<'a> {
 }
 
 impl<'a> Meaning for Imports<'a> {
-    ghost Tree = { spec.Imports (List ℕ) ℕ };
+    ghost Tree = { spec.Imports Name ℕ };
 
     ghost tree = { imports_tree };
 
     ghost syntax = { imports };
 
     fn lawful()
-        ensures { Lawful (imports {N = List ℕ} {P = ℕ}) }
+        ensures { Lawful (imports {N = Name} {P = ℕ}) }
     {}
 }
 

@@ -1,5 +1,6 @@
 //! External types, and items.
 ghost use Rattle.std.specs.Prelude.{◌≡◌, ℕ, List, [], ◌∷◌, Option, false, refl};
+ghost use Rattle.wast_grammar.specs.Tokens.{Name};
 ghost use Rattle.wast_parser.specs.Look.{ask};
 ghost use Rattle.wast_parser.specs.Grammar.{among};
 ghost use Rattle.wast_parser.specs.Lawful.{Lawful, Leads};
@@ -12,7 +13,8 @@ ghost use Rattle.wast_exports.specs.Exports.{export_word, export_kinds};
 ghost use Rattle.wast_exports.specs.ExportViews.{kind_view};
 ghost use Rattle.wast_imports.specs.ImportTree as spec;
 ghost use Rattle.wast_imports.specs.ImportSyntax.{item_starts, exact_use, func_type, extern_type, item, bare_item};
-ghost use Rattle.wast_imports.specs.ImportViews.{use_tree, tag_tree, extern_tree, item_tree};
+ghost use Rattle.wast_core_types.specs.TypeViews.{use_tree};
+ghost use Rattle.wast_imports.specs.ImportViews.{tag_tree, extern_tree, item_tree};
 
 use crate::head::Head;
 use wast_core_types::{FunctionType, GlobalType, MemoryType, TableType, TypeUse};
@@ -54,14 +56,14 @@ pub enum TagType<'a> {
 }
 
 impl<'a> Meaning for TagType<'a> {
-    ghost Tree = { types.TypeUse (List ℕ) ℕ };
+    ghost Tree = { types.TypeUse Name ℕ };
 
     ghost tree = { tag_tree };
 
     ghost syntax = { type_use };
 
     fn lawful()
-        ensures { Lawful (type_use {N = List ℕ} {P = ℕ}) }
+        ensures { Lawful (type_use {N = Name} {P = ℕ}) }
     {}
 }
 
@@ -73,14 +75,14 @@ impl<'a> Parse<'a> for TagType<'a> {
 }
 
 impl<'a> Meaning for ItemSig<'a> {
-    ghost Tree = { spec.Item (List ℕ) ℕ };
+    ghost Tree = { spec.Item Name ℕ };
 
     ghost tree = { item_tree };
 
     ghost syntax = { item };
 
     fn lawful()
-        ensures { Lawful (item {N = List ℕ} {P = ℕ}) }
+        ensures { Lawful (item {N = Name} {P = ℕ}) }
     {}
 }
 
@@ -106,7 +108,7 @@ impl<'a> Peek for ItemSig<'a> {
     ghost sure = { refl };
 
     fn leads()
-        ensures { Leads (item {N = List ℕ} {P = ℕ}).spells item_starts }
+        ensures { Leads (item {N = Name} {P = ℕ}).spells item_starts }
     {}
 
     fn peek(cursor: Cursor<'_, '_>) -> Result<bool, Error>

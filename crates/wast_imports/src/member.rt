@@ -1,5 +1,6 @@
 //! Members of groups of imports.
 ghost use Rattle.std.specs.Prelude.{◌≡◌, ℕ, List, [], ◌∷◌, IfOk, map, false, refl};
+ghost use Rattle.wast_grammar.specs.Tokens.{Name};
 ghost use Rattle.wast_parser.specs.Look.{ask};
 ghost use Rattle.wast_parser.specs.Lawful.{Lawful, Leads};
 ghost use Rattle.wast_parser.specs.State.{ahead};
@@ -21,14 +22,14 @@ pub(crate) struct Member<T> {
 }
 
 impl<'a> Meaning for Member<ImportGroup1Item<'a>> {
-    ghost Tree = { List ℕ × spec.Item (List ℕ) ℕ };
+    ghost Tree = { List ℕ × spec.Item Name ℕ };
 
     ghost tree = { λ m. member_tree m.item };
 
     ghost syntax = { member };
 
     fn lawful()
-        ensures { Lawful (member {N = List ℕ} {P = ℕ}) }
+        ensures { Lawful (member {N = Name} {P = ℕ}) }
     {}
 }
 
@@ -51,7 +52,7 @@ impl<'a> Peek for Member<ImportGroup1Item<'a>> {
     ghost sure = { refl };
 
     fn leads()
-        ensures { Leads (member {N = List ℕ} {P = ℕ}).spells member_starts }
+        ensures { Leads (member {N = Name} {P = ℕ}).spells member_starts }
     {}
 
     fn peek(cursor: Cursor<'_, '_>) -> Result<bool, Error>
@@ -77,7 +78,7 @@ impl<'a> Meaning for Member<ImportGroup2Item<'a>> {
     ghost syntax = { member_name };
 
     fn lawful()
-        ensures { Lawful (member_name {N = List ℕ} {P = ℕ}) }
+        ensures { Lawful (member_name {N = Name} {P = ℕ}) }
     {}
 }
 
@@ -99,7 +100,7 @@ impl<'a> Peek for Member<ImportGroup2Item<'a>> {
     ghost sure = { refl };
 
     fn leads()
-        ensures { Leads (member_name {N = List ℕ} {P = ℕ}).spells member_starts }
+        ensures { Leads (member_name {N = Name} {P = ℕ}).spells member_starts }
     {}
 
     fn peek(cursor: Cursor<'_, '_>) -> Result<bool, Error>

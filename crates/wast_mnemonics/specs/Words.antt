@@ -6,9 +6,6 @@ use Rattle.wast_grammar.specs.Spelling.{find_by}
 use Rattle.wast_mnemonics.specs.TextTable.{TextOperands, Listed, Ordered, SelectTypes, AnyRef, Resume, ResumeThrow, TextEntry, text_entry, text_table}
 use Rattle.wast_mnemonics.specs.Mnemonics.{word_mnemonic, index_mnemonic, indices_mnemonic, optional_index_mnemonic, copy_mnemonic, init_mnemonic, memory_mnemonic, memory_lane_mnemonic}
 use Rattle.wast_mnemonics.specs.ProposalMnemonics.{index_proposal_mnemonic, indices_proposal_mnemonic, ordered_index_proposal_mnemonic, ordered_optional_index_proposal_mnemonic, ordered_indices_proposal_mnemonic}
-use Rattle.wast_mnemonics.specs.Heads as spec
-use Rattle.wast_mnemonics.specs.declared.group.GroupKind.{GroupKind}
-use Rattle.wast_mnemonics.specs.declared.group.GroupKind.TheVariants as kinds
 use Rattle.wast_mnemonics.specs.declared.word.Word.{Word}
 use Rattle.wast_mnemonics.specs.declared.word.Word.TheVariants as words
 use Rattle.wast_mnemonics.specs.declared.proposal.ProposalWord.{ProposalWord}
@@ -110,8 +107,3 @@ word_operands (words.Proposal word) = proposal_operands word
 -- the entry of a word in the text's table
 abbrev pub entry_of : Word → TextEntry
 entry_of w = text_entry (word_mnemonic w) (word_operands w) (entries_of (word_mnemonic w) table)
-
-abbrev pub kind_view : GroupKind → spec.GroupKind
-kind_view kinds.Operands = spec.Operands
-kind_view kinds.Body = spec.Body
-kind_view kinds.Arms = spec.Arms

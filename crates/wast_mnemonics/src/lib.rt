@@ -21,7 +21,7 @@
 //! | `TextTable` | the list: mnemonic, what stands after it, and the entries of the table among which that chooses |
 //! | `Mnemonics`, `ProposalMnemonics` | how each word is written |
 //! | `Words` | the entry of each word |
-//! | `Heads` | which instruction a head is, and what a folded group has behind it |
+//! | `Heads` | which instruction a mnemonic and its operands are |
 //! | `Samples`, `Laws` | entries by hand, and the statements of the law functions |
 //!
 //! `Rows` serves private contracts. The laws: the list is the table and the uncovered instructions, each mnemonic once
@@ -29,14 +29,12 @@
 #![tactic(auto)]
 
 mod alignment;
-mod group;
 pub mod laws;
 mod lookup;
 mod proposal;
 mod table;
 mod word;
 
-pub use group::GroupKind;
 pub use proposal::{
     CastProposal, IndexProposal, IndicesProposal, OrderedIndexProposal, OrderedIndicesProposal,
     OrderedOptionalIndexProposal, PlainProposal, ProposalWord, ResumeProposal,

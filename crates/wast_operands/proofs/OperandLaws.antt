@@ -202,6 +202,6 @@ module _ {N P : Type 0} where
   -- `(on $n switch)`
   pub handle_leads : N → P → Leads (handle {N = N} {P = P}).spells handle_starts
   handle_leads n p =
-      let tag = ByName ((n, p), 0) in
+      let tag = ByName (n, p) in
       group_leads (codes "on") handle_body handle_body_laws (OnSwitch tag) (Id (Some n) p ∷ Word (codes "switch") p ∷ [])
-      ((tag, None), refl, (Id (Some n) p ∷ [], Word (codes "switch") p ∷ [], refl, inr (((n, p), 0), refl, ((n, p), refl, (Id (Some n) p, refl, refl))), inr (p, refl, (Word (codes "switch") p, refl, refl))))
+      ((tag, None), refl, (Id (Some n) p ∷ [], Word (codes "switch") p ∷ [], refl, inr ((n, p), refl, (Id (Some n) p, refl, refl)), inr (p, refl, (Word (codes "switch") p, refl, refl))))

@@ -2,6 +2,7 @@
 use Rattle.std.specs.Prelude.{ℕ, ℤ, List, [], ◌∷◌, map, Option, Some, None, option_map}
 use Rattle.std.specs.List.{flat_map}
 use Rattle.std.specs.Int.{Width, w8, w16, w32, w64, to_le_bytes, cast_unsigned}
+use Rattle.wast_grammar.specs.Tokens.{Name}
 use Rattle.wast_parser_base.specs.declared.index.Index.{Index}
 use Rattle.wast_parser.specs.Identifiers.{Reference, index_tree}
 use Rattle.wast_operands.specs.OperandTree as spec
@@ -43,7 +44,7 @@ use Rattle.wast_operands.specs.declared.resume.ContBind.{ContBind}
 
 -- INDICES
 abbrev pub TextReference : Type 0
-TextReference = Reference (List ℕ) ℕ
+TextReference = Reference Name ℕ
 
 abbrev pub pair_tree : Index × Index → TextReference × TextReference
 pair_tree p = (index_tree p.0, index_tree p.1)
@@ -93,7 +94,7 @@ ordering_tree orderings.AcqRel = spec.AcqRel
 ordering_tree orderings.SeqCst = spec.SeqCst
 
 -- MEMORY ARGUMENTS
-abbrev pub target_tree : MemArgTarget → spec.MemArgTarget (List ℕ) ℕ
+abbrev pub target_tree : MemArgTarget → spec.MemArgTarget Name ℕ
 target_tree (targets.Memory i) = spec.Memory (index_tree i)
 target_tree (targets.Array i) = spec.Array (index_tree i)
 
@@ -104,10 +105,10 @@ mem_arg_ordering_tree (accesses.Rmw o p) = (ordering_tree o, Some (ordering_tree
 abbrev pub modifiers_tree : Modifiers → spec.Modifiers
 modifiers_tree m = record { ordering = option_map mem_arg_ordering_tree m.ordering; offset = m.offset; align = m.align }
 
-abbrev pub mem_arg_tree : MemArg → spec.MemArg (List ℕ) ℕ
+abbrev pub mem_arg_tree : MemArg → spec.MemArg Name ℕ
 mem_arg_tree m = record { target = option_map target_tree m.target; ordering = option_map mem_arg_ordering_tree m.ordering; offset = m.offset; align = m.align }
 
-abbrev pub lane_access_tree : LoadOrStoreLane → spec.MemArg (List ℕ) ℕ × ℕ
+abbrev pub lane_access_tree : LoadOrStoreLane → spec.MemArg Name ℕ × ℕ
 lane_access_tree l = (mem_arg_tree l.memarg, l.lane.lane)
 
 -- VECTORS
@@ -140,20 +141,20 @@ vector_bytes (spec.Integers w lanes) = Some (flat_map (lane_bytes w) lanes)
 vector_bytes (spec.Floats w lanes) = None
 
 -- CONTINUATIONS
-abbrev pub handle_tree : Handle → spec.Handle (List ℕ) ℕ
+abbrev pub handle_tree : Handle → spec.Handle Name ℕ
 handle_tree (handles.OnLabel tag label) = spec.OnLabel (index_tree tag) (index_tree label)
 handle_tree (handles.OnSwitch tag) = spec.OnSwitch (index_tree tag)
 
-abbrev pub handlers_tree : ResumeTable → List (spec.Handle (List ℕ) ℕ)
+abbrev pub handlers_tree : ResumeTable → List (spec.Handle Name ℕ)
 handlers_tree t = map handle_tree t.handlers.items
 
-abbrev pub resume_tree : Resume → TextReference × List (spec.Handle (List ℕ) ℕ)
+abbrev pub resume_tree : Resume → TextReference × List (spec.Handle Name ℕ)
 resume_tree r = (index_tree r.type_index, handlers_tree r.table)
 
-abbrev pub resume_throw_tree : ResumeThrow → TextReference × (TextReference × List (spec.Handle (List ℕ) ℕ))
+abbrev pub resume_throw_tree : ResumeThrow → TextReference × (TextReference × List (spec.Handle Name ℕ))
 resume_throw_tree r = (index_tree r.type_index, (index_tree r.tag_index, handlers_tree r.table))
 
-abbrev pub resume_throw_ref_tree : ResumeThrowRef → TextReference × List (spec.Handle (List ℕ) ℕ)
+abbrev pub resume_throw_ref_tree : ResumeThrowRef → TextReference × List (spec.Handle Name ℕ)
 resume_throw_ref_tree r = (index_tree r.type_index, handlers_tree r.table)
 
 abbrev pub switch_tree : Switch → TextReference × TextReference

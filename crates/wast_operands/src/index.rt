@@ -1,5 +1,6 @@
 //! Operands that are indices.
 ghost use Rattle.std.specs.Prelude.{◌≡◌, ℕ, List, map, Option, IfOk, option_map};
+ghost use Rattle.wast_grammar.specs.Tokens.{Name};
 ghost use Rattle.wast_parser.specs.Lawful.{Lawful};
 ghost use Rattle.wast_parser.specs.Identifiers.{Reference, index, index_tree};
 ghost use Rattle.wast_operands.specs.OperandSyntax.{but_last, label_table, optional_index, optional_indices, one_or_two, two_indices, index_count};
@@ -18,14 +19,14 @@ pub struct BrTableIndices<'a> {
 }
 
 impl<'a> Meaning for BrTableIndices<'a> {
-    ghost Tree = { List (Reference (List ℕ) ℕ) × Reference (List ℕ) ℕ };
+    ghost Tree = { List (Reference Name ℕ) × Reference Name ℕ };
 
     ghost tree = { label_table_tree };
 
     ghost syntax = { label_table };
 
     fn lawful()
-        ensures { Lawful (label_table {N = List ℕ} {P = ℕ}) }
+        ensures { Lawful (label_table {N = Name} {P = ℕ}) }
     {}
 }
 
@@ -61,14 +62,14 @@ pub struct TableArg<'a> {
 }
 
 impl<'a> Meaning for TableArg<'a> {
-    ghost Tree = { Option (Reference (List ℕ) ℕ) };
+    ghost Tree = { Option (Reference Name ℕ) };
 
     ghost tree = { table_arg_tree };
 
     ghost syntax = { optional_index };
 
     fn lawful()
-        ensures { Lawful (optional_index {N = List ℕ} {P = ℕ}) }
+        ensures { Lawful (optional_index {N = Name} {P = ℕ}) }
     {}
 }
 
@@ -86,14 +87,14 @@ pub struct MemoryArg<'a> {
 }
 
 impl<'a> Meaning for MemoryArg<'a> {
-    ghost Tree = { Option (Reference (List ℕ) ℕ) };
+    ghost Tree = { Option (Reference Name ℕ) };
 
     ghost tree = { memory_arg_tree };
 
     ghost syntax = { optional_index };
 
     fn lawful()
-        ensures { Lawful (optional_index {N = List ℕ} {P = ℕ}) }
+        ensures { Lawful (optional_index {N = Name} {P = ℕ}) }
     {}
 }
 
@@ -111,14 +112,14 @@ pub struct TableCopy<'a> {
 }
 
 impl<'a> Meaning for TableCopy<'a> {
-    ghost Tree = { Option (Reference (List ℕ) ℕ × Reference (List ℕ) ℕ) };
+    ghost Tree = { Option (Reference Name ℕ × Reference Name ℕ) };
 
     ghost tree = { table_copy_tree };
 
     ghost syntax = { optional_indices };
 
     fn lawful()
-        ensures { Lawful (optional_indices {N = List ℕ} {P = ℕ}) }
+        ensures { Lawful (optional_indices {N = Name} {P = ℕ}) }
     {}
 }
 
@@ -136,14 +137,14 @@ pub struct MemoryCopy<'a> {
 }
 
 impl<'a> Meaning for MemoryCopy<'a> {
-    ghost Tree = { Option (Reference (List ℕ) ℕ × Reference (List ℕ) ℕ) };
+    ghost Tree = { Option (Reference Name ℕ × Reference Name ℕ) };
 
     ghost tree = { memory_copy_tree };
 
     ghost syntax = { optional_indices };
 
     fn lawful()
-        ensures { Lawful (optional_indices {N = List ℕ} {P = ℕ}) }
+        ensures { Lawful (optional_indices {N = Name} {P = ℕ}) }
     {}
 }
 
@@ -162,14 +163,14 @@ pub struct TableInit<'a> {
 }
 
 impl<'a> Meaning for TableInit<'a> {
-    ghost Tree = { Option (Reference (List ℕ) ℕ) × Reference (List ℕ) ℕ };
+    ghost Tree = { Option (Reference Name ℕ) × Reference Name ℕ };
 
     ghost tree = { table_init_tree };
 
     ghost syntax = { one_or_two };
 
     fn lawful()
-        ensures { Lawful (one_or_two {N = List ℕ} {P = ℕ}) }
+        ensures { Lawful (one_or_two {N = Name} {P = ℕ}) }
     {}
 }
 
@@ -188,14 +189,14 @@ pub struct MemoryInit<'a> {
 }
 
 impl<'a> Meaning for MemoryInit<'a> {
-    ghost Tree = { Option (Reference (List ℕ) ℕ) × Reference (List ℕ) ℕ };
+    ghost Tree = { Option (Reference Name ℕ) × Reference Name ℕ };
 
     ghost tree = { memory_init_tree };
 
     ghost syntax = { one_or_two };
 
     fn lawful()
-        ensures { Lawful (one_or_two {N = List ℕ} {P = ℕ}) }
+        ensures { Lawful (one_or_two {N = Name} {P = ℕ}) }
     {}
 }
 
@@ -214,14 +215,14 @@ pub struct StructAccess<'a> {
 }
 
 impl<'a> Meaning for StructAccess<'a> {
-    ghost Tree = { Reference (List ℕ) ℕ × Reference (List ℕ) ℕ };
+    ghost Tree = { Reference Name ℕ × Reference Name ℕ };
 
     ghost tree = { struct_access_tree };
 
     ghost syntax = { two_indices };
 
     fn lawful()
-        ensures { Lawful (two_indices {N = List ℕ} {P = ℕ}) }
+        ensures { Lawful (two_indices {N = Name} {P = ℕ}) }
     {}
 }
 
@@ -240,14 +241,14 @@ pub struct ArrayFill<'a> {
 }
 
 impl<'a> Meaning for ArrayFill<'a> {
-    ghost Tree = { Reference (List ℕ) ℕ };
+    ghost Tree = { Reference Name ℕ };
 
     ghost tree = { λ a. index_tree a.array };
 
     ghost syntax = { index };
 
     fn lawful()
-        ensures { Lawful (index {N = List ℕ} {P = ℕ}) }
+        ensures { Lawful (index {N = Name} {P = ℕ}) }
     {}
 }
 
@@ -266,14 +267,14 @@ pub struct ArrayCopy<'a> {
 }
 
 impl<'a> Meaning for ArrayCopy<'a> {
-    ghost Tree = { Reference (List ℕ) ℕ × Reference (List ℕ) ℕ };
+    ghost Tree = { Reference Name ℕ × Reference Name ℕ };
 
     ghost tree = { array_copy_tree };
 
     ghost syntax = { two_indices };
 
     fn lawful()
-        ensures { Lawful (two_indices {N = List ℕ} {P = ℕ}) }
+        ensures { Lawful (two_indices {N = Name} {P = ℕ}) }
     {}
 }
 
@@ -296,14 +297,14 @@ pub struct ArrayInit<'a> {
 }
 
 impl<'a> Meaning for ArrayInit<'a> {
-    ghost Tree = { Reference (List ℕ) ℕ × Reference (List ℕ) ℕ };
+    ghost Tree = { Reference Name ℕ × Reference Name ℕ };
 
     ghost tree = { array_init_tree };
 
     ghost syntax = { two_indices };
 
     fn lawful()
-        ensures { Lawful (two_indices {N = List ℕ} {P = ℕ}) }
+        ensures { Lawful (two_indices {N = Name} {P = ℕ}) }
     {}
 }
 
@@ -323,14 +324,14 @@ pub struct ArrayNewFixed<'a> {
 }
 
 impl<'a> Meaning for ArrayNewFixed<'a> {
-    ghost Tree = { Reference (List ℕ) ℕ × ℕ };
+    ghost Tree = { Reference Name ℕ × ℕ };
 
     ghost tree = { array_new_fixed_tree };
 
     ghost syntax = { index_count };
 
     fn lawful()
-        ensures { Lawful (index_count {N = List ℕ} {P = ℕ}) }
+        ensures { Lawful (index_count {N = Name} {P = ℕ}) }
     {}
 }
 
@@ -350,14 +351,14 @@ pub struct ArrayNewData<'a> {
 }
 
 impl<'a> Meaning for ArrayNewData<'a> {
-    ghost Tree = { Reference (List ℕ) ℕ × Reference (List ℕ) ℕ };
+    ghost Tree = { Reference Name ℕ × Reference Name ℕ };
 
     ghost tree = { array_new_data_tree };
 
     ghost syntax = { two_indices };
 
     fn lawful()
-        ensures { Lawful (two_indices {N = List ℕ} {P = ℕ}) }
+        ensures { Lawful (two_indices {N = Name} {P = ℕ}) }
     {}
 }
 
@@ -377,14 +378,14 @@ pub struct ArrayNewElem<'a> {
 }
 
 impl<'a> Meaning for ArrayNewElem<'a> {
-    ghost Tree = { Reference (List ℕ) ℕ × Reference (List ℕ) ℕ };
+    ghost Tree = { Reference Name ℕ × Reference Name ℕ };
 
     ghost tree = { array_new_elem_tree };
 
     ghost syntax = { two_indices };
 
     fn lawful()
-        ensures { Lawful (two_indices {N = List ℕ} {P = ℕ}) }
+        ensures { Lawful (two_indices {N = Name} {P = ℕ}) }
     {}
 }
 

@@ -1,5 +1,6 @@
 //! Orderings of atomic instructions.
 ghost use Rattle.std.specs.Prelude.{◌≡◌, ℕ, List, [], true, refl};
+ghost use Rattle.wast_grammar.specs.Tokens.{Name};
 ghost use Rattle.wast_parser.specs.Look.{ask, apart};
 ghost use Rattle.wast_parser.specs.Lawful.{Lawful, Leads};
 ghost use Rattle.wast_parser.specs.State.{ahead};
@@ -47,7 +48,7 @@ impl Meaning for Ordering {
     ghost syntax = { ordering };
 
     fn lawful()
-        ensures { Lawful (ordering {N = List ℕ} {P = ℕ}) }
+        ensures { Lawful (ordering {N = Name} {P = ℕ}) }
     {}
 }
 
@@ -64,7 +65,7 @@ impl Peek for Ordering {
     ghost sure = { refl };
 
     fn leads()
-        ensures { Leads (ordering {N = List ℕ} {P = ℕ}).spells ordering_starts }
+        ensures { Leads (ordering {N = Name} {P = ℕ}).spells ordering_starts }
     {}
 
     fn peek(cursor: Cursor<'_, '_>) -> Result<bool, Error>
@@ -86,7 +87,7 @@ impl Item for Ordering {
 pub trait Unordered: Meaning {
     ghost plain: { Self.registers ≡ [] };
 
-    ghost clear: { apart (optional_ordering {N = List ℕ} {P = ℕ}).stops Self.syntax.starts ≡ true };
+    ghost clear: { apart (optional_ordering {N = Name} {P = ℕ}).stops Self.syntax.starts ≡ true };
 }
 
 impl<'a> Unordered for Index<'a> {

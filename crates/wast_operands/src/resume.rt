@@ -1,5 +1,6 @@
 //! Operands of instructions on continuations.
 ghost use Rattle.std.specs.Prelude.{◌≡◌, ℕ, List, [], ◌∷◌, Option, option_map, codes, refl};
+ghost use Rattle.wast_grammar.specs.Tokens.{Name};
 ghost use Rattle.wast_parser.specs.Grammar.{led};
 ghost use Rattle.wast_parser.specs.Look.{ask};
 ghost use Rattle.wast_parser.specs.Lawful.{Lawful, Leads};
@@ -23,14 +24,14 @@ pub enum Handle<'a> {
 }
 
 impl<'a> Meaning for Handle<'a> {
-    ghost Tree = { spec.Handle (List ℕ) ℕ };
+    ghost Tree = { spec.Handle Name ℕ };
 
     ghost tree = { handle_tree };
 
     ghost syntax = { handle };
 
     fn lawful()
-        ensures { Lawful (handle {N = List ℕ} {P = ℕ}) }
+        ensures { Lawful (handle {N = Name} {P = ℕ}) }
     {}
 }
 
@@ -47,7 +48,7 @@ impl<'a> Peek for Handle<'a> {
     ghost sure = { refl };
 
     fn leads()
-        ensures { Leads (handle {N = List ℕ} {P = ℕ}).spells handle_starts }
+        ensures { Leads (handle {N = Name} {P = ℕ}).spells handle_starts }
     {}
 
     fn peek(cursor: Cursor<'_, '_>) -> Result<bool, Error>
@@ -72,14 +73,14 @@ struct HandleBody<'a> {
 }
 
 impl<'a> Meaning for HandleBody<'a> {
-    ghost Tree = { spec.Handle (List ℕ) ℕ };
+    ghost Tree = { spec.Handle Name ℕ };
 
     ghost tree = { λ b. handle_tree b.handle };
 
     ghost syntax = { led (codes "on") handle_body };
 
     fn lawful()
-        ensures { Lawful (led {N = List ℕ} {P = ℕ} (codes "on") handle_body) }
+        ensures { Lawful (led {N = Name} {P = ℕ} (codes "on") handle_body) }
     {}
 }
 
@@ -118,14 +119,14 @@ pub struct ResumeTable<'a> {
 }
 
 impl<'a> Meaning for ResumeTable<'a> {
-    ghost Tree = { List (spec.Handle (List ℕ) ℕ) };
+    ghost Tree = { List (spec.Handle Name ℕ) };
 
     ghost tree = { handlers_tree };
 
     ghost syntax = { handlers };
 
     fn lawful()
-        ensures { Lawful (handlers {N = List ℕ} {P = ℕ}) }
+        ensures { Lawful (handlers {N = Name} {P = ℕ}) }
     {}
 }
 
@@ -144,14 +145,14 @@ pub struct Resume<'a> {
 }
 
 impl<'a> Meaning for Resume<'a> {
-    ghost Tree = { Reference (List ℕ) ℕ × List (spec.Handle (List ℕ) ℕ) };
+    ghost Tree = { Reference Name ℕ × List (spec.Handle Name ℕ) };
 
     ghost tree = { resume_tree };
 
     ghost syntax = { resume };
 
     fn lawful()
-        ensures { Lawful (resume {N = List ℕ} {P = ℕ}) }
+        ensures { Lawful (resume {N = Name} {P = ℕ}) }
     {}
 }
 
@@ -172,14 +173,14 @@ pub struct ResumeThrow<'a> {
 }
 
 impl<'a> Meaning for ResumeThrow<'a> {
-    ghost Tree = { Reference (List ℕ) ℕ × (Reference (List ℕ) ℕ × List (spec.Handle (List ℕ) ℕ)) };
+    ghost Tree = { Reference Name ℕ × (Reference Name ℕ × List (spec.Handle Name ℕ)) };
 
     ghost tree = { resume_throw_tree };
 
     ghost syntax = { resume_throw };
 
     fn lawful()
-        ensures { Lawful (resume_throw {N = List ℕ} {P = ℕ}) }
+        ensures { Lawful (resume_throw {N = Name} {P = ℕ}) }
     {}
 }
 
@@ -204,14 +205,14 @@ pub struct ResumeThrowRef<'a> {
 }
 
 impl<'a> Meaning for ResumeThrowRef<'a> {
-    ghost Tree = { Reference (List ℕ) ℕ × List (spec.Handle (List ℕ) ℕ) };
+    ghost Tree = { Reference Name ℕ × List (spec.Handle Name ℕ) };
 
     ghost tree = { resume_throw_ref_tree };
 
     ghost syntax = { resume };
 
     fn lawful()
-        ensures { Lawful (resume {N = List ℕ} {P = ℕ}) }
+        ensures { Lawful (resume {N = Name} {P = ℕ}) }
     {}
 }
 
@@ -231,14 +232,14 @@ pub struct Switch<'a> {
 }
 
 impl<'a> Meaning for Switch<'a> {
-    ghost Tree = { Reference (List ℕ) ℕ × Reference (List ℕ) ℕ };
+    ghost Tree = { Reference Name ℕ × Reference Name ℕ };
 
     ghost tree = { switch_tree };
 
     ghost syntax = { two_indices };
 
     fn lawful()
-        ensures { Lawful (two_indices {N = List ℕ} {P = ℕ}) }
+        ensures { Lawful (two_indices {N = Name} {P = ℕ}) }
     {}
 }
 
@@ -261,14 +262,14 @@ pub struct ContBind<'a> {
 }
 
 impl<'a> Meaning for ContBind<'a> {
-    ghost Tree = { Reference (List ℕ) ℕ × Reference (List ℕ) ℕ };
+    ghost Tree = { Reference Name ℕ × Reference Name ℕ };
 
     ghost tree = { cont_bind_tree };
 
     ghost syntax = { two_indices };
 
     fn lawful()
-        ensures { Lawful (two_indices {N = List ℕ} {P = ℕ}) }
+        ensures { Lawful (two_indices {N = Name} {P = ℕ}) }
     {}
 }
 

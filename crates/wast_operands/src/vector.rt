@@ -1,6 +1,7 @@
 //! Constants of 128 bits, and lanes.
 ghost use Rattle.std.specs.Prelude.{◌≡◌, ℕ, List, [], map, length, refl};
 ghost use Rattle.std.specs.Int.{w32, w64};
+ghost use Rattle.wast_grammar.specs.Tokens.{Name};
 ghost use Rattle.wast_parser.specs.Look.{ask};
 ghost use Rattle.wast_parser.specs.Grammar.{times};
 ghost use Rattle.wast_parser.specs.Lawful.{Lawful, Leads};
@@ -27,7 +28,7 @@ impl<'a> Meaning for FloatLit<'a> {
     ghost syntax = { float_literal };
 
     fn lawful()
-        ensures { Lawful (float_literal {N = List ℕ} {P = ℕ}) }
+        ensures { Lawful (float_literal {N = Name} {P = ℕ}) }
     {}
 }
 
@@ -44,7 +45,7 @@ impl<'a> Peek for FloatLit<'a> {
     ghost sure = { refl };
 
     fn leads()
-        ensures { Leads (float_literal {N = List ℕ} {P = ℕ}).spells float_starts }
+        ensures { Leads (float_literal {N = Name} {P = ℕ}).spells float_starts }
     {}
 
     fn peek(cursor: Cursor<'_, '_>) -> Result<bool, Error>
@@ -80,7 +81,7 @@ impl Meaning for LaneArg {
     ghost syntax = { lane };
 
     fn lawful()
-        ensures { Lawful (lane {N = List ℕ} {P = ℕ}) }
+        ensures { Lawful (lane {N = Name} {P = ℕ}) }
     {}
 }
 
@@ -105,7 +106,7 @@ impl Meaning for I8x16Shuffle {
     ghost syntax = { shuffle };
 
     fn lawful()
-        ensures { Lawful (shuffle {N = List ℕ} {P = ℕ}) }
+        ensures { Lawful (shuffle {N = Name} {P = ℕ}) }
     {}
 }
 
@@ -136,7 +137,7 @@ impl<'a> Meaning for V128Const<'a> {
     ghost syntax = { vector };
 
     fn lawful()
-        ensures { Lawful (vector {N = List ℕ} {P = ℕ}) }
+        ensures { Lawful (vector {N = Name} {P = ℕ}) }
     {}
 }
 
@@ -153,7 +154,7 @@ impl<'a> Peek for V128Const<'a> {
     ghost sure = { refl };
 
     fn leads()
-        ensures { Leads (vector {N = List ℕ} {P = ℕ}).spells shape_starts }
+        ensures { Leads (vector {N = Name} {P = ℕ}).spells shape_starts }
     {}
 
     fn peek(cursor: Cursor<'_, '_>) -> Result<bool, Error>

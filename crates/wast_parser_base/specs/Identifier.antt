@@ -1,7 +1,8 @@
 -- Identifiers: what they are, and which are the same.
 use Rattle.std.specs.Prelude.{ℕ, ◌++◌, Bool, ◌==◌, List, codes}
-use Rattle.std.specs.Ordering.{on, eq_of_both}
-use Rattle.std.specs.Cmp.Lexicographic.{pointwise}
+use Rattle.std.specs.declared.cmp.Ordering.{Ordering}
+use Rattle.std.specs.Ordering.{on, eq_of_both, then_cmp, nat_cmp}
+use Rattle.std.specs.Cmp.Lexicographic.{pointwise, slice_cmp}
 use Rattle.std.specs.Hash as fed
 
 -- The decoded name; the generation, 0 of an identifier that was read and a number of its own of one that was made; and the
@@ -14,6 +15,10 @@ pub record Identifier : Type 0 where
 -- the same name and generation, whatever the places
 abbrev pub is_same : Identifier → Identifier → Bool
 is_same = eq_of_both (on (λ x. x.generation) ◌==◌) (on (λ x. x.name) (pointwise ◌==◌))
+
+-- the order of generations, and where they are the same that of names
+abbrev pub compare : Identifier → Identifier → Ordering
+compare = then_cmp (on (λ x. x.generation) nat_cmp) (on (λ x. x.name) (slice_cmp nat_cmp))
 
 -- what is hashed of one
 abbrev pub hash_input : Identifier → fed.HashWrites

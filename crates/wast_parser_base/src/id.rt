@@ -1,13 +1,16 @@
 //! Identifiers.
 
 ghost use Rattle.std.proofs.Common.{rules};
+ghost use Rattle.std.specs.Cmp.{partial_order_from_own_ties};
 ghost use Rattle.std.specs.Cmp.Rules.{comparing, hashing};
+ghost use Rattle.std.specs.Ordering.{as_partial_cmp};
 ghost use Rattle.std.specs.Cow.{cow_str_bytes};
 ghost use Rattle.std.specs.Prelude.{◌≡◌, IfOk};
 ghost use Rattle.wast_parser_base.specs.Identifier.{made_name, read_name};
 
 use std::alloc::{AllocError, Global};
 use std::borrow::CowStr;
+use std::cmp::Ordering;
 use std::fmt;
 use std::hash::{Hash, Hasher};
 use std::marker::Model;
@@ -16,7 +19,8 @@ use wast_lexer::Span;
 /// An identifier (6.3.5), or a name made in place of one. Contracts see an `Identifier` of `specs/`: the decoded name, the
 /// generation and the byte offset of the place.
 ///
-/// Two are equal exactly where their names are and their generations, wherever they stand; equal ones hash alike.
+/// Two are equal exactly where their names are and their generations, wherever they stand; equal ones hash alike. They are ordered
+/// by their generations, and then by their names, byte by byte.
 #[derive(Drop)]
 pub struct Id<'a> {
     name: CowStr<'a, Global>,
@@ -109,6 +113,36 @@ impl<'a> Eq for Id<'a> {
     ghost use Rattle.wast_parser_base.specs.Identifier.{is_same};
 
     ghost laws = { Prim.search (comparing, rules) };
+}
+
+impl<'a> Ord for Id<'a> {
+    ghost use Rattle.wast_parser_base.specs.Identifier.{compare};
+
+    ghost cmp = { compare };
+
+    ghost total = { Prim.search (comparing, rules) };
+
+    ghost matches_partial_cmp = { Prim.search (comparing, rules) };
+
+    ghost matches_eq = { Prim.search (comparing, rules) };
+
+    fn cmp(&self, other: &Self) -> Ordering {
+        self.generation
+            .cmp(&other.generation)
+            .then(self.name.as_str().cmp(other.name.as_str()))
+    }
+}
+
+impl<'a> PartialOrd for Id<'a> {
+    ghost use Rattle.wast_parser_base.specs.Identifier.{compare};
+
+    ghost partial_cmp = { as_partial_cmp compare };
+
+    ghost laws = { partial_order_from_own_ties (Prim.search (comparing, rules)) (Prim.search (comparing, rules)) };
+
+    fn partial_cmp(&self, other: &Self) -> Option<Ordering> {
+        Some(self.cmp(other))
+    }
 }
 
 impl<'a> Hash for Id<'a> {

@@ -14,7 +14,7 @@ use Rattle.wast_parser_core.proofs.IntegerLaws.{number_laws, name_laws, number_l
 
 module _ {N P : Type 0} where
   pub identifier_laws : Lawful (identifier {N = N} {P = P})
-  identifier_laws = seen_laws (λ x. (x, 0)) id id_laws
+  identifier_laws = id_laws
 
   pub index_laws : Lawful (index {N = N} {P = P})
   index_laws = either_laws (On false AnInteger Any ∷ []) (seen (λ n. ByNumber n.0 n.1) (number_in (2 ^ 32 - 1) None unsigned)) (seen ByName identifier)
@@ -34,7 +34,7 @@ module _ {N P : Type 0} where
 
   -- WHERE THEY BEGIN, where there is a name
   pub identifier_leads : N → Leads (identifier {N = N} {P = P}).spells (On false AnId Any ∷ [])
-  identifier_leads n = seen_leads (λ x. (x, 0)) id.spells (On false AnId Any ∷ []) (id_leads n)
+  identifier_leads n = id_leads n
 
   pub index_leads : N → Leads (index {N = N} {P = P}).spells (On false AnInteger Any ∷ On false AnId Any ∷ [])
   index_leads n = either_leads (seen (λ x. ByNumber x.0 x.1) (number_in (2 ^ 32 - 1) None unsigned)).spells (seen ByName identifier).spells (On false AnInteger Any ∷ []) (On false AnId Any ∷ [])
@@ -42,7 +42,7 @@ module _ {N P : Type 0} where
       (seen_leads ByName identifier.spells (On false AnId Any ∷ []) (identifier_leads n)) refl refl refl
 
   pub reference_leads : (w : List ℕ) → N → P → Leads (seq {N = N} {P = P} (word w) index).spells (this_word w ∷ [])
-  reference_leads w n p = headed_leads w index index_laws (ByName ((n, p), 0)) (Id (Some n) p ∷ []) (inr (((n, p), 0), refl, ((n, p), refl, (Id (Some n) p, refl, refl))))
+  reference_leads w n p = headed_leads w index index_laws (ByName (n, p)) (Id (Some n) p ∷ []) (inr ((n, p), refl, (Id (Some n) p, refl, refl)))
 
   pub item_ref_leads : (w : List ℕ) → N → P → Leads (item_ref {N = N} {P = P} w).spells (this_group w ∷ [])
   item_ref_leads w n p = paren_leads (seq (word w) index) (reference_laws w) (this_word w ∷ []) (reference_leads w n p) refl refl refl refl refl

@@ -1,6 +1,6 @@
 -- States before and after.
 use Rattle.std.proofs.Common.{Bool, Result, ◌≡◌, ◌≤◌, Option, Some, None, subst, ◌+◌, inl, inr, [], ◌∷◌, List, ℕ, ◌∙◌, ap, refl, sym, arith}
-use Rattle.wast_grammar.specs.Tokens.{Broken}
+use Rattle.wast_grammar.specs.Tokens.{Name, Broken}
 use Rattle.wast_parser_base.specs.Problem.{Problem}
 use Rattle.wast_parser_core.specs.State.{Source, State, ahead, Keeps, knowing}
 use Rattle.wast_grammar.specs.Grammar.{Reader}
@@ -17,10 +17,10 @@ pub keeps_in : (old s t : State) → s ≡ record old { at = s.at; depth = old.d
 keeps_in old s t e l q = record { source = q.source ∙ ap (λ z. z.source) e; names = q.names ∙ ap (λ z. z.names) e; depth = refl; onward = omega (arith, l, q.onward) }
 
 -- what registers no name is read by the names that are registered
-pub read_plain : {A : Type 0} (more : List (List ℕ)) (reads : Reader (List ℕ) ℕ A) (a : A) (old new : State) → more ≡ [] → reads (ahead (knowing more old)) ≡ Some (a, ahead (knowing more new)) → reads (ahead old) ≡ Some (a, ahead new)
+pub read_plain : {A : Type 0} (more : List (List ℕ)) (reads : Reader Name ℕ A) (a : A) (old new : State) → more ≡ [] → reads (ahead (knowing more old)) ≡ Some (a, ahead (knowing more new)) → reads (ahead old) ≡ Some (a, ahead new)
 read_plain more reads a old new e h = subst (λ m. reads (ahead (knowing m old)) ≡ Some (a, ahead (knowing m new))) e h
 
-pub refused_plain : {A : Type 0} (more : List (List ℕ)) (reads : Reader (List ℕ) ℕ A) (p : Problem) (old : State) → more ≡ [] → Refuses p (reads (ahead (knowing more old))) → Refuses p (reads (ahead old))
+pub refused_plain : {A : Type 0} (more : List (List ℕ)) (reads : Reader Name ℕ A) (p : Problem) (old : State) → more ≡ [] → Refuses p (reads (ahead (knowing more old))) → Refuses p (reads (ahead old))
 refused_plain more reads p old e h = subst (λ m. Refuses p (reads (ahead (knowing m old)))) e h
 
 -- a refusal of what comes next is one of all

@@ -1,5 +1,6 @@
 -- Identifiers, names of annotations, strings and integers in front.
 use Rattle.std.proofs.Common.{◌⊎◌, ◌≡◌, ℕ, Bool, true, false, cond, List, ◌∷◌, ◌++◌, Option, Some, None, refl, sym, ◌∙◌, ap, subst, inl, inr}
+use Rattle.std.specs.Prelude.{option_map}
 use Rattle.std.specs.Str.{IsUtf8, is_utf8}
 use Rattle.std.proofs.lemmas.Bool.{cases_Bool}
 use Rattle.std.proofs.lemmas.Str.{IsUtf8-from_is_utf8, is_utf8-from_IsUtf8}
@@ -15,7 +16,7 @@ use Rattle.wast_lexer.specs.declared.token.Token.{Token}
 use Rattle.wast_lexer.specs.declared.token.TokenKind.{TokenKind}
 use Rattle.wast_lexer.specs.declared.token.TokenKind.TheVariants as kinds
 use Rattle.wast_lexer.specs.Tiling.{is_annotation}
-use Rattle.wast_grammar.specs.Tokens.{Id, literal, string_value, marked_value, id_name}
+use Rattle.wast_grammar.specs.Tokens.{Name, as_read, Id, literal, string_value, marked_value, id_name}
 use Rattle.wast_grammar.specs.Significant.{TextToken, token_of, is_trivia}
 use Rattle.wast_grammar.specs.Spelling.{same_text, ◌>>=◌, that_id, that_mark, that_text, that_integer}
 use Rattle.wast_grammar.specs.Grammar.{Reader, one_of, only_reads}
@@ -41,11 +42,11 @@ unnamed word place span error is fault = (id_nameless word is).1 (elim fault.1 [
   | inr bad ↦ inr (bad.1, bad.2, bad.3)
 ])
 
-pub read_id : (s : State) (t : Token) (i : ℕ) (name : Option (List ℕ)) → IsNext s t i → is_identifier t.kind ≡ true → id_name (text_of s.source.text t) ≡ name → one_of that_id (ahead s) ≡ one_of that_id (Id name t.offset ∷ ahead (record s { at = i }))
+pub read_id : (s : State) (t : Token) (i : ℕ) (name : Option (List ℕ)) → IsNext s t i → is_identifier t.kind ≡ true → id_name (text_of s.source.text t) ≡ name → one_of that_id (ahead s) ≡ one_of that_id (Id (option_map as_read name) t.offset ∷ ahead (record s { at = i }))
 read_id s t i name next h e =
     ap (one_of that_id) next.found
     ∙ ap (λ k. one_of that_id (token_of k (text_of s.source.text t) t.offset ++ ahead (record s { at = i }))) (identifier_kind t.kind h)
-    ∙ ap (λ m. one_of that_id (Id m t.offset ∷ ahead (record s { at = i }))) e
+    ∙ ap (λ m. one_of that_id (Id (option_map as_read m) t.offset ∷ ahead (record s { at = i }))) e
 
 -- a fault that tells of an identifier is a refusal
 pub id_refused : (s : State) (t : Token) (i : ℕ) (fault : LexFault) → IsNext s t i → is_identifier t.kind ≡ true → IsIdFault (text_of s.source.text t) t.offset fault → Refuses (problem_of fault) (one_of that_id (ahead s))
@@ -159,7 +160,7 @@ read_integer s t i kind n h =
     ∙ ap (λ k. one_of that_integer (token_of k (text_of s.source.text t) t.offset ++ ahead (record s { at = i }))) h
 
 -- where none is read, none of a range is
-pub only_none : {A : Type 0} (p : A → Bool) (r : Reader (List ℕ) ℕ A) (ts : List TextToken) → r ts ≡ None → only_reads p r ts ≡ None
+pub only_none : {A : Type 0} (p : A → Bool) (r : Reader Name ℕ A) (ts : List TextToken) → r ts ≡ None → only_reads p r ts ≡ None
 only_none p r ts e = rw e refl
 
 -- a fault that tells of an identifier is want of memory, or it has no name

@@ -1,10 +1,11 @@
 -- Tokens in front, by the kind that is wanted.
 use Rattle.std.proofs.Common.{◌≡◌, ℕ, Bool, true, false, cond, ◌&&◌, List, [], ◌∷◌, ◌++◌, Some, None, refl, sym, ◌∙◌, ap}
+use Rattle.std.specs.Prelude.{option_map}
 use Rattle.wast_lexer.specs.declared.token.Token.{Token}
 use Rattle.wast_lexer.specs.declared.token.TokenKind.{TokenKind}
 use Rattle.wast_lexer.specs.declared.token.TokenKind.TheVariants as kinds
 use Rattle.wast_lexer.specs.TokenText.{text_of}
-use Rattle.wast_grammar.specs.Tokens.{Open, Close, Id, Word, Mark, Integer, Float, Text, Reserved, Broken, id_name, literal, marked_value, string_value}
+use Rattle.wast_grammar.specs.Tokens.{Name, as_read, Open, Close, Id, Word, Mark, Integer, Float, Text, Reserved, Broken, id_name, literal, marked_value, string_value}
 use Rattle.wast_grammar.specs.Significant.{TextToken, token_of, is_trivia}
 use Rattle.wast_grammar.specs.Spelling.{that_close}
 use Rattle.wast_grammar.specs.Look.{Shape, AnEnd, AnOpen, AClose, AWord, AMark, AnId, AnInteger, AFloat, AString, AReserved, same_shape, ask, On, Any}
@@ -106,7 +107,7 @@ asks_shape s (kinds.Float k) w p ts o h = same_bool (same_shape s AFloat)
 pub asked_shape : (s : State) (t : Token) (i : ℕ) (k : Wanted) → IsNext s t i → ask (On false (wanted k) Any ∷ []) (ahead s) ≡ Some (same_shape (wanted k) (shape_of t.kind))
 asked_shape s t i k n = ap (ask (On false (wanted k) Any ∷ [])) n.found ∙ asks_shape (wanted k) t.kind (text_of s.source.text t) t.offset (ahead (record s { at = i })) (wanted_open k) n.seen
 
-pub asked_none : (k : Wanted) → ask {N = List ℕ} {P = ℕ} (On false (wanted k) Any ∷ []) [] ≡ Some false
+pub asked_none : (k : Wanted) → ask {N = Name} {P = ℕ} (On false (wanted k) Any ∷ []) [] ≡ Some false
 asked_none k = same_bool (same_shape (wanted k) AnEnd) ∙ ap (λ b. Some b) (wanted_end k)
 
 -- WHAT IS TAKEN
@@ -263,11 +264,11 @@ no_id (Text n p ∷ ts) h = refl
 no_id (Reserved n p ∷ ts) h = refl
 no_id (Broken ∷ ts) h = refl
 
-took_id : (k : TokenKind) (w : List ℕ) (p : ℕ) (ts : List TextToken) → same_shape AnId (shape_of k) ≡ true → one_of said_id (token_of k w p ++ ts) ≡ Some (id_name w, ts)
+took_id : (k : TokenKind) (w : List ℕ) (p : ℕ) (ts : List TextToken) → same_shape AnId (shape_of k) ≡ true → one_of said_id (token_of k w p ++ ts) ≡ Some (option_map as_read (id_name w), ts)
 took_id kinds.Id w p ts h = refl
 took_id _ w p ts h = absurd (cc)
 
-pub next_id : (s : State) (t : Token) (i : ℕ) → IsNext s t i → same_shape AnId (shape_of t.kind) ≡ true → one_of said_id (ahead s) ≡ Some (id_name (text_of s.source.text t), ahead (record s { at = i }))
+pub next_id : (s : State) (t : Token) (i : ℕ) → IsNext s t i → same_shape AnId (shape_of t.kind) ≡ true → one_of said_id (ahead s) ≡ Some (option_map as_read (id_name (text_of s.source.text t)), ahead (record s { at = i }))
 next_id s t i n h = ap (one_of said_id) n.found ∙ took_id t.kind (text_of s.source.text t) t.offset (ahead (record s { at = i })) h
 
 pub identifier : (k : TokenKind) → same_shape AnId (shape_of k) ≡ true → is_identifier k ≡ true

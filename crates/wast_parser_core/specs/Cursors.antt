@@ -6,7 +6,7 @@ use Rattle.wast_parser_base.specs.Problem.{Problem}
 use Rattle.wast_parser_core.specs.State.{State, ahead, IsNext}
 use Rattle.wast_lexer.specs.Float.{Float as FloatParts}
 use Rattle.wast_lexer.specs.NumberParts.{IsFloatOf}
-use Rattle.wast_grammar.specs.Tokens.{SignificantToken, Literal, Id, Word, Mark, Integer, Float, Text, Reserved}
+use Rattle.wast_grammar.specs.Tokens.{Name, SignificantToken, Literal, Id, Word, Mark, Integer, Float, Text, Reserved}
 use Rattle.wast_grammar.specs.Significant.{TextToken}
 use Rattle.wast_grammar.specs.Look.{Shape, same_shape}
 use Rattle.wast_grammar.specs.Grammar.{one_of}
@@ -86,7 +86,7 @@ Copies view f c (Ok None) = TakesNone f c
 Copies view f c (Err p) = (p ≡ out_of_memory) ⊎ Stops p (stands c)
 
 -- the same of an identifier; one without a name is refused
-abbrev pub TakesId : {X : Type 0} → (X → List ℕ) → Cursor → Result (Option (X × Cursor)) Problem → Type 0
+abbrev pub TakesId : {X : Type 0} → (X → Name) → Cursor → Result (Option (X × Cursor)) Problem → Type 0
 TakesId view c (Ok (Some (x, d))) = TakesOne said_id c (Some (view x)) d
 TakesId view c (Ok None) = TakesNone said_id c
 TakesId view c (Err p) = (p ≡ out_of_memory) ⊎ (Stops p (stands c) ⊎ ((rest : List TextToken) × (one_of said_id (ahead (stands c)) ≡ Some (None, rest))))

@@ -1,5 +1,6 @@
 -- The syntax of identifiers, of indices and of the annotation that names (WebAssembly 3.0, 6.3.5 and 7.6.1).
 use Rattle.std.specs.Prelude.{ℕ, ◌-◌, ◌^◌, false, List, [], ◌∷◌, None, codes}
+use Rattle.wast_grammar.specs.Tokens.{Name}
 use Rattle.wast_grammar.specs.Look.{On, AnInteger, Any}
 use Rattle.wast_grammar.specs.Grammar.{Syntax, seen, seq, id, mark, word, either, paren}
 use Rattle.wast_parser_base.specs.Identifier.{Identifier}
@@ -8,9 +9,9 @@ use Rattle.wast_parser_base.specs.declared.index.Index.TheVariants as indices
 use Rattle.wast_parser_core.specs.Productions.{name}
 use Rattle.wast_parser_core.specs.Integers.{number_in, unsigned}
 
--- an identifier: the name, the place, and 0, since it was not made
+-- an identifier: its name, and the place
 abbrev pub Named : Type 0 → Type 0 → Type 0
-Named N P = (N × P) × ℕ
+Named N P = N × P
 
 -- what refers to something: a number and its place, or an identifier
 pub data Reference (N P : Type 0) : Type 0 where
@@ -19,7 +20,7 @@ pub data Reference (N P : Type 0) : Type 0 where
 
 module _ {N P : Type 0} where
   abbrev pub identifier : Syntax N P (Named N P)
-  identifier = seen (λ x. (x, 0)) id
+  identifier = id
 
   -- u32 or an identifier
   abbrev pub index : Syntax N P (Reference N P)
@@ -34,9 +35,9 @@ module _ {N P : Type 0} where
   item_ref w = paren (seq (word w) index)
 
 -- WHAT THE GRAMMAR SEES
-abbrev pub identifier_tree : Identifier → Named (List ℕ) ℕ
-identifier_tree x = ((x.name, x.place), x.generation)
+abbrev pub identifier_tree : Identifier → Named Name ℕ
+identifier_tree x = ((x.name, x.generation), x.place)
 
-abbrev pub index_tree : Index → Reference (List ℕ) ℕ
+abbrev pub index_tree : Index → Reference Name ℕ
 index_tree (indices.Num number span) = ByNumber number span
 index_tree (indices.Id id) = ByName (identifier_tree id)

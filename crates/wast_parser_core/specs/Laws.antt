@@ -1,13 +1,14 @@
 -- The laws that the crate's law functions prove.
 use Rattle.std.specs.Prelude.{◌≡◌, ◌↔◌, ℕ, false, List, [], Some}
+use Rattle.wast_grammar.specs.Tokens.{Name}
 use Rattle.wast_grammar.specs.Significant.{TextToken}
 use Rattle.wast_grammar.specs.Look.{any_end}
 use Rattle.wast_grammar.specs.Grammar.{Syntax}
 
 -- Where an end may follow it, tokens spell a value exactly where reading takes all of them and answers it.
-abbrev pub ReadWhereSpelled : {A : Type 0} → Syntax (List ℕ) ℕ A → Type 0
+abbrev pub ReadWhereSpelled : {A : Type 0} → Syntax Name ℕ A → Type 0
 ReadWhereSpelled {A} g = any_end g.stops ≡ false → (v : A) (ts : List TextToken) → g.spells v ts ↔ (g.reads ts ≡ Some (v, []))
 
 -- Where an end may follow it, no tokens spell two values.
-abbrev pub OneValue : {A : Type 0} → Syntax (List ℕ) ℕ A → Type 0
+abbrev pub OneValue : {A : Type 0} → Syntax Name ℕ A → Type 0
 OneValue {A} g = any_end g.stops ≡ false → (v w : A) (ts : List TextToken) → g.spells v ts → g.spells w ts → v ≡ w

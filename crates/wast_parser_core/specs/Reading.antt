@@ -1,7 +1,7 @@
 -- What a parser's calls answer.
 use Rattle.std.specs.Prelude.{◌≡◌, ◌≢◌, ◌⊎◌, ℕ, ◌+◌, Bool, true, false, List, [], ◌∷◌, Option, Some, None, Result, Ok, Err}
 use Rattle.wast_lexer.specs.declared.token.Token.{Token}
-use Rattle.wast_grammar.specs.Tokens.{Broken, Open, Close}
+use Rattle.wast_grammar.specs.Tokens.{Name, Broken, Open, Close}
 use Rattle.wast_grammar.specs.Spelling.{that_close}
 use Rattle.wast_grammar.specs.Significant.{TextToken}
 use Rattle.wast_grammar.specs.Grammar.{Reader, one_of}
@@ -22,11 +22,11 @@ Gives view (Ok x) s read = read ≡ Some (view x, ahead s)
 Gives view (Err p) s read = Refuses p read
 
 -- All of a text is read, where these names are registered while it is: no significant token is left behind it.
-abbrev pub ReadsAll : {A : Type 0} → Reader (List ℕ) ℕ A → List (List ℕ) → Source → A → Type 0
+abbrev pub ReadsAll : {A : Type 0} → Reader Name ℕ A → List (List ℕ) → Source → A → Type 0
 ReadsAll reads more source a = (end : State) × Keeps (start source) end × (reads (ahead (knowing more (start source))) ≡ Some (a, ahead (knowing more end))) × (ahead end ≡ [])
 
 -- Nothing is read, or a significant token is left.
-abbrev pub ReadsNotAll : {A : Type 0} → Reader (List ℕ) ℕ A → List (List ℕ) → Source → Type 0
+abbrev pub ReadsNotAll : {A : Type 0} → Reader Name ℕ A → List (List ℕ) → Source → Type 0
 ReadsNotAll {A} reads more source =
     (reads (ahead (knowing more (start source))) ≡ None)
     ⊎ ((a : A) × (end : State) × Keeps (start source) end × (reads (ahead (knowing more (start source))) ≡ Some (a, ahead (knowing more end))) × (ahead end ≢ []))

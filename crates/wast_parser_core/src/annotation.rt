@@ -6,12 +6,13 @@ ghost use Rattle.wast_lexer.specs.declared.token.TokenKind.TheVariants as kinds;
 ghost use Rattle.wast_grammar.specs.Spelling.{any_is, same_text};
 ghost use Rattle.wast_grammar.specs.Tokens.{marked_value};
 ghost use Rattle.wast_grammar.specs.Significant.{begins_unknown};
-ghost use Rattle.wast_parser_core.specs.State.{State, ahead, Keeps};
+ghost use Rattle.wast_parser_core.specs.State.{State, ahead, knowing, Keeps};
 ghost use Rattle.wast_parser_core.specs.Reading.{out_of_memory, Gives};
 
 use crate::kind::is_annotation;
 use crate::meaning::Parse;
 use crate::parser::Parser;
+use std::mem;
 use wast_lexer::Token;
 use wast_parser_base::Error;
 
@@ -51,6 +52,20 @@ impl<'a> Parser<'a> {
         self.register_annotation(name)?;
         let result = T::parse(self);
         self.unregister_last();
+        result
+    }
+
+    /// Reads one with more annotations registered, which are taken back on both outcomes.
+    pub fn with_annotations<T: Parse<'a>>(&mut self, names: &[&'a str]) -> Result<T, Error>
+        requires { T.registers ≡ [] }
+        ensures read { Gives T.tree result (knowing (map (λ n. n.now) names.now) self.new) (T.syntax.reads (ahead (knowing (map (λ n. n.now) names.now) self.old))) }
+        ensures keeps { Keeps self.old self.new }
+    {
+        let mut more = Vec::from_slice(self.alloc(), names)?;
+        more.extend_from_slice(&self.names)?;
+        let before = mem::replace(&mut self.names, more);
+        let result = T::parse(self);
+        self.names = before;
         result
     }
 

@@ -1,5 +1,6 @@
 //! A place among the tokens.
 ghost use Rattle.std.specs.Prelude.{◌≡◌, [], ◌∷◌, false};
+ghost use Rattle.wast_grammar.specs.Tokens.{as_read};
 ghost use Rattle.wast_grammar.specs.Look.{ask, On, Opening, AClose, AnId, AReserved, AWord, AnInteger, AFloat, AString, Any, this_word, this_group};
 ghost use Rattle.wast_parser_core.specs.State.{ahead, place_ahead};
 ghost use Rattle.wast_parser_core.specs.Reading.{Asks, SaysAt};
@@ -252,7 +253,7 @@ impl<'b, 'a> Cursor<'b, 'a> {
     /// Takes an identifier that has a name. One without a name is refused by a lexical error. Memory is wanted only where
     /// something is escaped.
     pub fn id(self) -> Result<Option<(CowStr<'a, Global>, Cursor<'b, 'a>)>, Error>
-        ensures { TakesId cow_str_bytes self.entry result }
+        ensures { TakesId (λ name. as_read (cow_str_bytes name)) self.entry result }
     {
         match self.take(Wanted::Id)? {
             Some((token, rest)) => match token.id(self.parser.alloc(), self.parser.text()) {

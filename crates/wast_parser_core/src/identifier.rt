@@ -1,5 +1,6 @@
 //! Identifiers and indices.
 ghost use Rattle.std.specs.Prelude.{◌≡◌, ℕ, List, [], ◌∷◌, Option, false, refl};
+ghost use Rattle.wast_grammar.specs.Tokens.{Name};
 ghost use Rattle.wast_grammar.specs.Look.{ask, On, AnInteger, AnId, Any, this_group};
 ghost use Rattle.wast_grammar.specs.Lawful.{Lawful, Leads};
 ghost use Rattle.wast_parser_core.specs.State.{ahead, Keeps};
@@ -15,14 +16,14 @@ use wast_lexer::Span;
 use wast_parser_base::{Error, Id, Index, ItemRef};
 
 impl<'a> Meaning for Id<'a> {
-    ghost Tree = { Named (List ℕ) ℕ };
+    ghost Tree = { Named Name ℕ };
 
     ghost tree = { identifier_tree };
 
     ghost syntax = { identifier };
 
     fn lawful()
-        ensures { Lawful (identifier {N = List ℕ} {P = ℕ}) }
+        ensures { Lawful (identifier {N = Name} {P = ℕ}) }
     {}
 }
 
@@ -39,7 +40,7 @@ impl<'a> Peek for Id<'a> {
     ghost sure = { refl };
 
     fn leads()
-        ensures { Leads (identifier {N = List ℕ} {P = ℕ}).spells (On false AnId Any ∷ []) }
+        ensures { Leads (identifier {N = Name} {P = ℕ}).spells (On false AnId Any ∷ []) }
     {}
 
     fn peek(cursor: Cursor<'_, '_>) -> Result<bool, Error>
@@ -58,14 +59,14 @@ impl<'a> Item for Id<'a> {
 }
 
 impl<'a> Meaning for Index<'a> {
-    ghost Tree = { Reference (List ℕ) ℕ };
+    ghost Tree = { Reference Name ℕ };
 
     ghost tree = { index_tree };
 
     ghost syntax = { index };
 
     fn lawful()
-        ensures { Lawful (index {N = List ℕ} {P = ℕ}) }
+        ensures { Lawful (index {N = Name} {P = ℕ}) }
     {}
 }
 
@@ -86,7 +87,7 @@ impl<'a> Peek for Index<'a> {
     ghost sure = { refl };
 
     fn leads()
-        ensures { Leads (index {N = List ℕ} {P = ℕ}).spells (On false AnInteger Any ∷ On false AnId Any ∷ []) }
+        ensures { Leads (index {N = Name} {P = ℕ}).spells (On false AnInteger Any ∷ On false AnId Any ∷ []) }
     {}
 
     fn peek(cursor: Cursor<'_, '_>) -> Result<bool, Error>
@@ -105,14 +106,14 @@ impl<'a> Item for Index<'a> {
 }
 
 impl<'a, N: KeywordName> Meaning for ItemRef<'a, Keyword<N>> {
-    ghost Tree = { ℕ × Reference (List ℕ) ℕ };
+    ghost Tree = { ℕ × Reference Name ℕ };
 
     ghost tree = { λ r. (r.kind.span, index_tree r.idx) };
 
     ghost syntax = { item_ref N.word };
 
     fn lawful()
-        ensures { Lawful (item_ref {N = List ℕ} {P = ℕ} N.word) }
+        ensures { Lawful (item_ref {N = Name} {P = ℕ} N.word) }
     {}
 }
 
@@ -135,7 +136,7 @@ impl<'a, N: KeywordName> Peek for ItemRef<'a, Keyword<N>> {
     ghost sure = { refl };
 
     fn leads()
-        ensures { Leads (item_ref {N = List ℕ} {P = ℕ} N.word).spells (this_group N.word ∷ []) }
+        ensures { Leads (item_ref {N = Name} {P = ℕ} N.word).spells (this_group N.word ∷ []) }
     {}
 
     fn peek(cursor: Cursor<'_, '_>) -> Result<bool, Error>

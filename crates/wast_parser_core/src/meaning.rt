@@ -1,5 +1,6 @@
 //! What can be read, looked for, and repeated.
 ghost use Rattle.std.specs.Prelude.{◌≡◌, ◌||◌, ℕ, Bool, List, [], Some, true, false};
+ghost use Rattle.wast_grammar.specs.Tokens.{Name};
 ghost use Rattle.wast_grammar.specs.Look.{ask, apart, faults, any_end};
 ghost use Rattle.wast_grammar.specs.Grammar.{Syntax};
 ghost use Rattle.wast_grammar.specs.Lawful.{Lawful, Leads};
@@ -19,7 +20,7 @@ pub trait Meaning: Sized + Drop {
     ghost tree: { Self → Tree };
 
     /// Which tokens spell it, and how it is read.
-    ghost syntax: { Syntax (List ℕ) ℕ Tree };
+    ghost syntax: { Syntax Name ℕ Tree };
 
     /// The annotations that it registers while it is read.
     ghost registers: { List (List ℕ) } = { [] };

@@ -1,6 +1,7 @@
 //! The annotation that gives a name.
 ghost use Rattle.std.specs.Prelude.{◌≡◌, ℕ, List, [], ◌∷◌, Option, codes, option_map};
 ghost use Rattle.std.specs.Cow.{cow_str_bytes};
+ghost use Rattle.wast_grammar.specs.Tokens.{Name};
 ghost use Rattle.wast_grammar.specs.Look.{this_annotation};
 ghost use Rattle.wast_grammar.specs.Grammar.{maybe, paren};
 ghost use Rattle.wast_grammar.specs.Lawful.{Lawful};
@@ -18,7 +19,7 @@ impl<'a> Meaning for NameAnnotation<'a> {
     ghost syntax = { name_annotation };
 
     fn lawful()
-        ensures { Lawful (name_annotation {N = List ℕ} {P = ℕ}) }
+        ensures { Lawful (name_annotation {N = Name} {P = ℕ}) }
     {}
 }
 
@@ -39,7 +40,7 @@ impl<'a> Meaning for Option<NameAnnotation<'a>> {
     ghost syntax = { maybe (this_annotation (codes "name") ∷ []) (paren name_annotation) };
 
     fn lawful()
-        ensures { Lawful (maybe {N = List ℕ} {P = ℕ} (this_annotation (codes "name") ∷ []) (paren name_annotation)) }
+        ensures { Lawful (maybe {N = Name} {P = ℕ} (this_annotation (codes "name") ∷ []) (paren name_annotation)) }
     {}
 }
 

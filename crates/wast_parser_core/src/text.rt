@@ -1,6 +1,7 @@
 //! Strings: their bytes, and the texts that they are.
 ghost use Rattle.std.specs.Prelude.{◌≡◌, ℕ, List, [], ◌∷◌, false, refl, string_bytes};
 ghost use Rattle.std.specs.Cow.{cow_str_bytes};
+ghost use Rattle.wast_grammar.specs.Tokens.{Name};
 ghost use Rattle.wast_grammar.specs.Look.{ask, On, AString, Any};
 ghost use Rattle.wast_grammar.specs.Grammar.{string};
 ghost use Rattle.wast_grammar.specs.Lawful.{Lawful, Leads};
@@ -26,7 +27,7 @@ impl<'a> Meaning for Bytes<'a> {
     ghost syntax = { string };
 
     fn lawful()
-        ensures { Lawful (string {N = List ℕ} {P = ℕ}) }
+        ensures { Lawful (string {N = Name} {P = ℕ}) }
     {}
 }
 
@@ -42,7 +43,7 @@ impl<'a> Peek for Bytes<'a> {
     ghost sure = { refl };
 
     fn leads()
-        ensures { Leads (string {N = List ℕ} {P = ℕ}).spells (On false AString Any ∷ []) }
+        ensures { Leads (string {N = Name} {P = ℕ}).spells (On false AString Any ∷ []) }
     {}
 
     fn peek(cursor: Cursor<'_, '_>) -> Result<bool, Error>
@@ -69,7 +70,7 @@ impl<'a> Meaning for CowStr<'a, Global> {
     ghost syntax = { name };
 
     fn lawful()
-        ensures { Lawful (name {N = List ℕ} {P = ℕ}) }
+        ensures { Lawful (name {N = Name} {P = ℕ}) }
     {}
 }
 
@@ -85,7 +86,7 @@ impl<'a> Peek for CowStr<'a, Global> {
     ghost sure = { refl };
 
     fn leads()
-        ensures { Leads (name {N = List ℕ} {P = ℕ}).spells (On false AString Any ∷ []) }
+        ensures { Leads (name {N = Name} {P = ℕ}).spells (On false AString Any ∷ []) }
     {}
 
     fn peek(cursor: Cursor<'_, '_>) -> Result<bool, Error>

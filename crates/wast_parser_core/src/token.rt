@@ -3,7 +3,7 @@ ghost use Rattle.std.specs.Prelude.{◌≡◌, ◌++◌, [], Some, MatchResult, 
 ghost use Rattle.std.specs.Cow.{cow_str_bytes};
 ghost use Rattle.wast_lexer.specs.declared.token.TokenKind.TheVariants as kinds;
 ghost use Rattle.wast_lexer.specs.TokenText.{IsOf, text_of};
-ghost use Rattle.wast_grammar.specs.Tokens.{literal, string_value};
+ghost use Rattle.wast_grammar.specs.Tokens.{as_read, literal, string_value};
 ghost use Rattle.wast_grammar.specs.Grammar.{word, mark, id, string};
 ghost use Rattle.wast_parser_core.specs.State.{ahead, Keeps, place_ahead};
 ghost use Rattle.wast_parser_core.specs.Reading.{out_of_memory, Gives, SaysAt};
@@ -48,7 +48,7 @@ impl<'a> Parser<'a> {
     /// Takes an identifier that has a name; answers the name, and where it stands. One without a name is refused by a
     /// lexical error.
     pub fn id(&mut self) -> Result<(CowStr<'a, Global>, Span), Error>
-        ensures read { Gives (λ x. (cow_str_bytes x.0, x.1)) result self.new (id.reads (ahead self.old)) }
+        ensures read { Gives (λ x. (as_read (cow_str_bytes x.0), x.1)) result self.new (id.reads (ahead self.old)) }
         ensures keeps { Keeps self.old self.new }
     {
         match self.next()? {

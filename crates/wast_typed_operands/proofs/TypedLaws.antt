@@ -70,13 +70,13 @@ module _ {N P : Type 0} where
 
   -- WHERE CLAUSES BEGIN
   abbrev an_index : N → P → Reference N P
-  an_index n p = ByName ((n, p), 0)
+  an_index n p = ByName (n, p)
 
   abbrev named : N → P → List (SignificantToken N P)
   named n p = Id (Some n) p ∷ []
 
   index_spelled : (n : N) (p : P) → index.spells (an_index n p) (named n p)
-  index_spelled n p = inr (((n, p), 0), refl, ((n, p), refl, (Id (Some n) p, refl, refl)))
+  index_spelled n p = inr ((n, p), refl, (Id (Some n) p, refl, refl))
 
   all_leads : (w : List ℕ) → N → P → Leads (group {N = N} {P = P} w index).spells (this_group w ∷ [])
   all_leads w n p = group_leads w index index_laws (an_index n p) (named n p) (index_spelled n p)

@@ -1,12 +1,14 @@
 //! The types of blocks.
 ghost use Rattle.std.specs.Prelude.{◌≡◌, ℕ, List};
+ghost use Rattle.wast_grammar.specs.Tokens.{Name};
 ghost use Rattle.wast_parser.specs.Lawful.{Lawful};
 ghost use Rattle.wast_parser.specs.State.{ahead, Keeps};
 ghost use Rattle.wast_parser.specs.Reading.{Gives};
 ghost use Rattle.wast_core_types.specs.TypeSyntax.{bare_use};
 ghost use Rattle.wast_typed_operands.specs.TypedTree as spec;
 ghost use Rattle.wast_typed_operands.specs.TypedSyntax.{block, try_table};
-ghost use Rattle.wast_typed_operands.specs.TypedViews.{use_tree, block_tree, try_table_tree};
+ghost use Rattle.wast_core_types.specs.TypeViews.{use_tree};
+ghost use Rattle.wast_typed_operands.specs.TypedViews.{block_tree, try_table_tree};
 
 use crate::catch::TryTableCatch;
 use wast_core_types::{FunctionType, FunctionTypeNoNames, TypeUse};
@@ -20,14 +22,14 @@ pub struct BlockType<'a> {
 }
 
 impl<'a> Meaning for BlockType<'a> {
-    ghost Tree = { spec.Block (List ℕ) ℕ };
+    ghost Tree = { spec.Block Name ℕ };
 
     ghost tree = { block_tree };
 
     ghost syntax = { block };
 
     fn lawful()
-        ensures { Lawful (block {N = List ℕ} {P = ℕ}) }
+        ensures { Lawful (block {N = Name} {P = ℕ}) }
     {}
 }
 
@@ -47,14 +49,14 @@ pub struct TryTable<'a> {
 }
 
 impl<'a> Meaning for TryTable<'a> {
-    ghost Tree = { spec.TryTable (List ℕ) ℕ };
+    ghost Tree = { spec.TryTable Name ℕ };
 
     ghost tree = { try_table_tree };
 
     ghost syntax = { try_table };
 
     fn lawful()
-        ensures { Lawful (try_table {N = List ℕ} {P = ℕ}) }
+        ensures { Lawful (try_table {N = Name} {P = ℕ}) }
     {}
 }
 

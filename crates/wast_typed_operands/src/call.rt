@@ -1,5 +1,6 @@
 //! Indirect calls.
 ghost use Rattle.std.specs.Prelude.{◌≡◌, ℕ, List};
+ghost use Rattle.wast_grammar.specs.Tokens.{Name};
 ghost use Rattle.wast_parser.specs.Lawful.{Lawful};
 ghost use Rattle.wast_parser.specs.State.{ahead, Keeps};
 ghost use Rattle.wast_parser.specs.Reading.{Gives};
@@ -20,14 +21,14 @@ pub struct CallIndirect<'a> {
 }
 
 impl<'a> Meaning for CallIndirect<'a> {
-    ghost Tree = { spec.Indirect (List ℕ) ℕ };
+    ghost Tree = { spec.Indirect Name ℕ };
 
     ghost tree = { indirect_tree };
 
     ghost syntax = { indirect };
 
     fn lawful()
-        ensures { Lawful (indirect {N = List ℕ} {P = ℕ}) }
+        ensures { Lawful (indirect {N = Name} {P = ℕ}) }
     {}
 }
 

@@ -1,5 +1,6 @@
 //! Reference types as operands, and branches on casts.
 ghost use Rattle.std.specs.Prelude.{◌≡◌, ℕ, List};
+ghost use Rattle.wast_grammar.specs.Tokens.{Name};
 ghost use Rattle.wast_parser.specs.Lawful.{Lawful};
 ghost use Rattle.wast_parser.specs.State.{ahead, Keeps};
 ghost use Rattle.wast_parser.specs.Reading.{Gives};
@@ -20,14 +21,14 @@ pub struct RefTest<'a> {
 }
 
 impl<'a> Meaning for RefTest<'a> {
-    ghost Tree = { values.RefType (List ℕ) ℕ };
+    ghost Tree = { values.RefType Name ℕ };
 
     ghost tree = { λ t. ref_tree t.ty };
 
     ghost syntax = { ref_type };
 
     fn lawful()
-        ensures { Lawful (ref_type {N = List ℕ} {P = ℕ}) }
+        ensures { Lawful (ref_type {N = Name} {P = ℕ}) }
     {
         RefType::lawful();
     }
@@ -47,14 +48,14 @@ pub struct RefCast<'a> {
 }
 
 impl<'a> Meaning for RefCast<'a> {
-    ghost Tree = { values.RefType (List ℕ) ℕ };
+    ghost Tree = { values.RefType Name ℕ };
 
     ghost tree = { λ t. ref_tree t.ty };
 
     ghost syntax = { ref_type };
 
     fn lawful()
-        ensures { Lawful (ref_type {N = List ℕ} {P = ℕ}) }
+        ensures { Lawful (ref_type {N = Name} {P = ℕ}) }
     {
         RefType::lawful();
     }
@@ -74,14 +75,14 @@ pub struct RefCastDescEq<'a> {
 }
 
 impl<'a> Meaning for RefCastDescEq<'a> {
-    ghost Tree = { values.RefType (List ℕ) ℕ };
+    ghost Tree = { values.RefType Name ℕ };
 
     ghost tree = { λ t. ref_tree t.ty };
 
     ghost syntax = { ref_type };
 
     fn lawful()
-        ensures { Lawful (ref_type {N = List ℕ} {P = ℕ}) }
+        ensures { Lawful (ref_type {N = Name} {P = ℕ}) }
     {
         RefType::lawful();
     }
@@ -103,14 +104,14 @@ pub struct BrOnCast<'a> {
 }
 
 impl<'a> Meaning for BrOnCast<'a> {
-    ghost Tree = { spec.Cast (List ℕ) ℕ };
+    ghost Tree = { spec.Cast Name ℕ };
 
     ghost tree = { λ c. cast_tree c.label c.from_type c.to_type };
 
     ghost syntax = { cast };
 
     fn lawful()
-        ensures { Lawful (cast {N = List ℕ} {P = ℕ}) }
+        ensures { Lawful (cast {N = Name} {P = ℕ}) }
     {
         cast_lawful();
     }
@@ -136,14 +137,14 @@ pub struct BrOnCastFail<'a> {
 }
 
 impl<'a> Meaning for BrOnCastFail<'a> {
-    ghost Tree = { spec.Cast (List ℕ) ℕ };
+    ghost Tree = { spec.Cast Name ℕ };
 
     ghost tree = { λ c. cast_tree c.label c.from_type c.to_type };
 
     ghost syntax = { cast };
 
     fn lawful()
-        ensures { Lawful (cast {N = List ℕ} {P = ℕ}) }
+        ensures { Lawful (cast {N = Name} {P = ℕ}) }
     {
         cast_lawful();
     }
@@ -169,14 +170,14 @@ pub struct BrOnCastDescEq<'a> {
 }
 
 impl<'a> Meaning for BrOnCastDescEq<'a> {
-    ghost Tree = { spec.Cast (List ℕ) ℕ };
+    ghost Tree = { spec.Cast Name ℕ };
 
     ghost tree = { λ c. cast_tree c.label c.from_type c.to_type };
 
     ghost syntax = { cast };
 
     fn lawful()
-        ensures { Lawful (cast {N = List ℕ} {P = ℕ}) }
+        ensures { Lawful (cast {N = Name} {P = ℕ}) }
     {
         cast_lawful();
     }
@@ -202,14 +203,14 @@ pub struct BrOnCastDescEqFail<'a> {
 }
 
 impl<'a> Meaning for BrOnCastDescEqFail<'a> {
-    ghost Tree = { spec.Cast (List ℕ) ℕ };
+    ghost Tree = { spec.Cast Name ℕ };
 
     ghost tree = { λ c. cast_tree c.label c.from_type c.to_type };
 
     ghost syntax = { cast };
 
     fn lawful()
-        ensures { Lawful (cast {N = List ℕ} {P = ℕ}) }
+        ensures { Lawful (cast {N = Name} {P = ℕ}) }
     {
         cast_lawful();
     }
@@ -228,7 +229,7 @@ impl<'a> Parse<'a> for BrOnCastDescEqFail<'a> {
 
 /// The law of a label and two reference types.
 fn cast_lawful()
-    ensures { Lawful (cast {N = List ℕ} {P = ℕ}) }
+    ensures { Lawful (cast {N = Name} {P = ℕ}) }
 {}
 
 /// Reads a label and two reference types.

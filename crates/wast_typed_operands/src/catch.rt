@@ -1,14 +1,16 @@
 //! The clauses of `try_table`.
-ghost use Rattle.std.specs.Prelude.{◌≡◌, ℕ, List, [], ◌∷◌, codes, refl};
+ghost use Rattle.std.specs.Prelude.{◌≡◌, ℕ, List, [], ◌∷◌, codes, option_map, refl};
+ghost use Rattle.wast_grammar.specs.Tokens.{Name};
 ghost use Rattle.wast_parser.specs.Look.{ask};
 ghost use Rattle.wast_parser.specs.Lawful.{Lawful, Leads};
 ghost use Rattle.wast_parser.specs.State.{ahead};
 ghost use Rattle.wast_parser.specs.Reading.{Asks};
 ghost use Rattle.wast_parser.specs.Cursors.{stands};
 ghost use Rattle.wast_parser.specs.Identifiers.{Reference, index_tree};
+ghost use Rattle.wast_parser.specs.declared.Index.{Index};
 ghost use Rattle.wast_typed_operands.specs.TypedTree as spec;
 ghost use Rattle.wast_typed_operands.specs.TypedSyntax.{tag_label, clause, catch_starts};
-ghost use Rattle.wast_typed_operands.specs.TypedViews.{catch_tree};
+ghost use Rattle.wast_typed_operands.specs.TypedViews.{catch_of, catch_tree, tag_of, with_tag};
 
 use crate::keyword;
 use wast_parser::{Cursor, Error, Index, Item, Meaning, Parse, Parser, Peek};
@@ -23,6 +25,29 @@ pub enum TryTableCatchKind<'a> {
     CatchAllRef,
 }
 
+impl<'a> TryTableCatchKind<'a> {
+    /// The tag of what is caught, where that is of one.
+    pub fn tag_index(&self) -> Option<&Index<'a>>
+        ensures { option_map (λ tag. index_tree tag.now) result ≡ tag_of self.now }
+    {
+        match self {
+            TryTableCatchKind::Catch(tag) | TryTableCatchKind::CatchRef(tag) => Some(tag),
+            TryTableCatchKind::CatchAll | TryTableCatchKind::CatchAllRef => None,
+        }
+    }
+
+    /// The same with another tag; what catches all has none.
+    pub fn with_tag_index(self, tag: Index<'a>) -> Self
+        ensures { (label : Index) → catch_of result label ≡ with_tag (index_tree tag.entry) (catch_of self.entry label) }
+    {
+        match self {
+            TryTableCatchKind::Catch(_) => TryTableCatchKind::Catch(tag),
+            TryTableCatchKind::CatchRef(_) => TryTableCatchKind::CatchRef(tag),
+            other => other,
+        }
+    }
+}
+
 /// A clause of `try_table`: what it catches, and the label to which it branches then.
 #[derive(Debug, Drop)]
 pub struct TryTableCatch<'a> {
@@ -31,14 +56,14 @@ pub struct TryTableCatch<'a> {
 }
 
 impl<'a> Meaning for TryTableCatch<'a> {
-    ghost Tree = { spec.Catch (List ℕ) ℕ };
+    ghost Tree = { spec.Catch Name ℕ };
 
     ghost tree = { catch_tree };
 
     ghost syntax = { clause };
 
     fn lawful()
-        ensures { Lawful (clause {N = List ℕ} {P = ℕ}) }
+        ensures { Lawful (clause {N = Name} {P = ℕ}) }
     {}
 }
 
@@ -78,7 +103,7 @@ impl<'a> Peek for TryTableCatch<'a> {
     ghost sure = { refl };
 
     fn leads()
-        ensures { Leads (clause {N = List ℕ} {P = ℕ}).spells catch_starts }
+        ensures { Leads (clause {N = Name} {P = ℕ}).spells catch_starts }
     {}
 
     fn peek(cursor: Cursor<'_, '_>) -> Result<bool, Error>
@@ -107,14 +132,14 @@ struct TagLabel<'a> {
 }
 
 impl<'a> Meaning for TagLabel<'a> {
-    ghost Tree = { Reference (List ℕ) ℕ × Reference (List ℕ) ℕ };
+    ghost Tree = { Reference Name ℕ × Reference Name ℕ };
 
     ghost tree = { λ x. (index_tree x.tag, index_tree x.label) };
 
     ghost syntax = { tag_label };
 
     fn lawful()
-        ensures { Lawful (tag_label {N = List ℕ} {P = ℕ}) }
+        ensures { Lawful (tag_label {N = Name} {P = ℕ}) }
     {}
 }
 

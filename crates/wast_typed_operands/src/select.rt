@@ -1,5 +1,6 @@
 //! The types of `select`.
 ghost use Rattle.std.specs.Prelude.{◌≡◌, ℕ, List, Option, IfOk, map};
+ghost use Rattle.wast_grammar.specs.Tokens.{Name};
 ghost use Rattle.wast_parser.specs.Lawful.{Lawful};
 ghost use Rattle.wast_value_types.specs.ValueTree as values;
 ghost use Rattle.wast_value_types.specs.ValueViews.{val_tree};
@@ -18,14 +19,14 @@ pub struct SelectTypes<'a> {
 }
 
 impl<'a> Meaning for SelectTypes<'a> {
-    ghost Tree = { Option (List (values.ValType (List ℕ) ℕ)) };
+    ghost Tree = { Option (List (values.ValType Name ℕ)) };
 
     ghost tree = { select_types_tree };
 
     ghost syntax = { select_types };
 
     fn lawful()
-        ensures { Lawful (select_types {N = List ℕ} {P = ℕ}) }
+        ensures { Lawful (select_types {N = Name} {P = ℕ}) }
     {}
 }
 

@@ -3,6 +3,7 @@ use Rattle.std.proofs.Common.{◌≡◌, ℕ, Bool, true, false, List, refl, sym
 use Rattle.std.proofs.lemmas.Bool.{eqb-true, eq-eqb}
 use Rattle.std.specs.Cmp.Lexicographic.{bytes_decides}
 use Rattle.wasm_encoder_base.specs.Types.{FuncHeap, ExternHeap, AnyHeap, EqHeap, I31Heap, StructHeap, ArrayHeap, ExnHeap, NoFuncHeap, NoExternHeap, NoneHeap, NoExnHeap}
+use Rattle.wast_grammar.specs.Tokens.{Name}
 use Rattle.wast_grammar.proofs.Looks.{both, two}
 use Rattle.wast_parser_base.specs.declared.index.Index.{Index}
 use Rattle.wast_parser_base.specs.declared.index.Index.TheVariants as indices
@@ -90,13 +91,13 @@ index_to (indices.Num m p) (indices.Id y) e = absurd cc
 index_to (indices.Id x) (indices.Num n q) e = absurd cc
 index_to (indices.Id x) (indices.Id y) e =
     let k = both _ _ e in
-    ap (λ n. ByName ((n, tt), x.generation)) ((bytes_decides x.name y.name).0 k.1) ∙ ap (λ g. ByName ((y.name, tt), g)) (eqb-true x.generation y.generation k.0)
+    ap (λ n. ByName ((n, x.generation), tt)) ((bytes_decides x.name y.name).0 k.1) ∙ ap (λ g. ByName ((y.name, g), tt)) (eqb-true x.generation y.generation k.0)
 
-number_of : {N P : Type 0} → ℕ → Reference N P → ℕ
+number_of : {P : Type 0} → ℕ → Reference Name P → ℕ
 number_of d (ByNumber n p) = n
-number_of d (ByName x) = x.1
+number_of d (ByName x) = x.0.1
 
-name_of : {N P : Type 0} → N → Reference N P → N
+name_of : {P : Type 0} → List ℕ → Reference Name P → List ℕ
 name_of d (ByNumber n p) = d
 name_of d (ByName x) = x.0.0
 
@@ -134,7 +135,7 @@ heap_from (heaps.Exact i) (heaps.Exact j) e = index_from i j (ap (index_in (unpl
 heap_from a b e = absurd cc
 
 -- REFERENCE TYPES
-as_ref : Bool → spec.HeapType (List ℕ) (Unit {0}) → spec.RefType (List ℕ) (Unit {0})
+as_ref : Bool → spec.HeapType Name (Unit {0}) → spec.RefType Name (Unit {0})
 as_ref n h = record { nullable = n; heap_type = h }
 
 same_bool : (s t : Bool) → (b : Bool) → beq s t && b ≡ true → (s ≡ t) × (b ≡ true)

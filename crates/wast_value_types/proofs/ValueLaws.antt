@@ -80,13 +80,13 @@ module _ {N P : Type 0} where
 
   -- an index, of a type that has names
   abbrev an_index : N → P → Reference N P
-  an_index n p = ByName ((n, p), 0)
+  an_index n p = ByName (n, p)
 
   abbrev named : N → P → List (SignificantToken N P)
   named n p = Id (Some n) p ∷ []
 
   index_spelled : (n : N) (p : P) → index.spells (an_index n p) (named n p)
-  index_spelled n p = inr (((n, p), 0), refl, ((n, p), refl, (Id (Some n) p, refl, refl)))
+  index_spelled n p = inr ((n, p), refl, (Id (Some n) p, refl, refl))
 
   func_spelled : (p : P) → (keyword {N = N} {P = P} heap_words).spells (Known FuncHeap) (Word (codes "func") p ∷ [])
   func_spelled p = (((codes "func", Known FuncHeap), p), refl, (Word (codes "func") p, refl, refl))

@@ -4,7 +4,7 @@ use Rattle.wast_value_types.specs.ValueTree.{HeapType, Abstract, Concrete, Exact
 
 abbrev pub unplaced_index : {N P : Type 0} → Reference N P → Reference N (Unit {0})
 unplaced_index (ByNumber n p) = ByNumber n tt
-unplaced_index (ByName x) = ByName ((x.0.0, tt), x.1)
+unplaced_index (ByName x) = ByName (x.0, tt)
 
 abbrev pub unplaced_heap : {N P : Type 0} → HeapType N P → HeapType N (Unit {0})
 unplaced_heap (Abstract shared w) = Abstract shared w

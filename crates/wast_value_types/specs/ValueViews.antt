@@ -1,5 +1,6 @@
 -- What the grammar sees of the code's types.
 use Rattle.std.specs.Prelude.{ℕ, Bool, true, false, List, codes}
+use Rattle.wast_grammar.specs.Tokens.{Name}
 use Rattle.wasm_encoder_base.specs.Types.{FuncHeap, ExternHeap, AnyHeap, EqHeap, I31Heap, StructHeap, ArrayHeap, ExnHeap, NoFuncHeap, NoExternHeap, NoneHeap, NoExnHeap}
 use Rattle.wast_parser.specs.Identifiers.{index_tree}
 use Rattle.wast_value_types.specs.ValueTree.{HeapWord, Known, Cont, NoCont, Abstract, Concrete, Exact, Number, Ref, Packed, Value}
@@ -107,15 +108,15 @@ address_text addresses.I32 = codes "i32"
 address_text addresses.I64 = codes "i64"
 
 -- the trees
-abbrev pub heap_tree : HeapType → spec.HeapType (List ℕ) ℕ
+abbrev pub heap_tree : HeapType → spec.HeapType Name ℕ
 heap_tree (heaps.Abstract shared ty) = Abstract shared (heap_word ty)
 heap_tree (heaps.Concrete index) = Concrete (index_tree index)
 heap_tree (heaps.Exact index) = Exact (index_tree index)
 
-abbrev pub ref_tree : RefType → spec.RefType (List ℕ) ℕ
+abbrev pub ref_tree : RefType → spec.RefType Name ℕ
 ref_tree r = record { nullable = r.nullable; heap_type = heap_tree r.heap }
 
-abbrev pub val_tree : ValType → spec.ValType (List ℕ) ℕ
+abbrev pub val_tree : ValType → spec.ValType Name ℕ
 val_tree vals.I32 = Number spec.I32
 val_tree vals.I64 = Number spec.I64
 val_tree vals.F32 = Number spec.F32
@@ -123,21 +124,21 @@ val_tree vals.F64 = Number spec.F64
 val_tree vals.V128 = Number spec.V128
 val_tree (vals.Ref r) = Ref (ref_tree r)
 
-abbrev pub storage_tree : StorageType → spec.StorageType (List ℕ) ℕ
+abbrev pub storage_tree : StorageType → spec.StorageType Name ℕ
 storage_tree storages.I8 = Packed spec.I8
 storage_tree storages.I16 = Packed spec.I16
 storage_tree (storages.Val t) = Value (val_tree t)
 
-abbrev pub field_tree : FieldType → spec.FieldType (List ℕ) ℕ
+abbrev pub field_tree : FieldType → spec.FieldType Name ℕ
 field_tree f = record { mutable = f.mutable; storage = storage_tree f.ty }
 
-abbrev pub global_tree : GlobalType → spec.GlobalType (List ℕ) ℕ
+abbrev pub global_tree : GlobalType → spec.GlobalType Name ℕ
 global_tree g = record { val_type = val_tree g.ty; mutable = g.mutable; shared = g.shared }
 
 abbrev pub limits_tree : Limits → spec.Limits
 limits_tree l = record { is_wide = l.is64; minimum = l.min; maximum = l.max }
 
-abbrev pub table_tree : TableType → spec.TableType (List ℕ) ℕ
+abbrev pub table_tree : TableType → spec.TableType Name ℕ
 table_tree t = record { limits = limits_tree t.limits; shared = t.shared; element = ref_tree t.elem }
 
 abbrev pub memory_tree : MemoryType → spec.MemoryType

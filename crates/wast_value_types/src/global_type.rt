@@ -1,5 +1,6 @@
 //! Global types.
 ghost use Rattle.std.specs.Prelude.{◌≡◌, ℕ, List, IfOk};
+ghost use Rattle.wast_grammar.specs.Tokens.{Name};
 ghost use Rattle.wast_parser.specs.Lawful.{Lawful};
 ghost use Rattle.wast_value_types.specs.ValueTree as spec;
 ghost use Rattle.wast_value_types.specs.ValueSyntax.{shared_global, global_type};
@@ -33,14 +34,14 @@ impl<'a> GlobalType<'a> {
 }
 
 impl<'a> Meaning for GlobalType<'a> {
-    ghost Tree = { spec.GlobalType (List ℕ) ℕ };
+    ghost Tree = { spec.GlobalType Name ℕ };
 
     ghost tree = { global_tree };
 
     ghost syntax = { global_type };
 
     fn lawful()
-        ensures { Lawful (global_type {N = List ℕ} {P = ℕ}) }
+        ensures { Lawful (global_type {N = Name} {P = ℕ}) }
     {}
 }
 
@@ -74,14 +75,14 @@ struct SharedBody<'a> {
 }
 
 impl<'a> Meaning for SharedBody<'a> {
-    ghost Tree = { spec.GlobalType (List ℕ) ℕ };
+    ghost Tree = { spec.GlobalType Name ℕ };
 
     ghost tree = { λ b. global_tree b.global_type };
 
     ghost syntax = { shared_global };
 
     fn lawful()
-        ensures { Lawful (shared_global {N = List ℕ} {P = ℕ}) }
+        ensures { Lawful (shared_global {N = Name} {P = ℕ}) }
     {}
 }
 

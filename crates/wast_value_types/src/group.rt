@@ -1,5 +1,6 @@
 //! Groups that begin with a word.
 ghost use Rattle.std.specs.Prelude.{◌≡◌, ℕ, List, [], ◌∷◌, refl, is_some};
+ghost use Rattle.wast_grammar.specs.Tokens.{Name};
 ghost use Rattle.wast_parser.specs.Look.{ask, this_group};
 ghost use Rattle.wast_parser.specs.Grammar.{word, paren, group, seen};
 ghost use Rattle.wast_parser.specs.Lawful.{Lawful, Leads};
@@ -27,7 +28,7 @@ impl<N: KeywordName> Meaning for Group<N> {
     ghost syntax = { alone N.word };
 
     fn lawful()
-        ensures { Lawful (alone {N = List ℕ} {P = ℕ} N.word) }
+        ensures { Lawful (alone {N = Name} {P = ℕ} N.word) }
     {}
 }
 
@@ -37,7 +38,7 @@ impl<N: KeywordName> Peek for Group<N> {
     ghost sure = { refl };
 
     fn leads()
-        ensures { Leads (alone {N = List ℕ} {P = ℕ} N.word).spells (this_group N.word ∷ []) }
+        ensures { Leads (alone {N = Name} {P = ℕ} N.word).spells (this_group N.word ∷ []) }
     {}
 
     fn peek(cursor: Cursor<'_, '_>) -> Result<bool, Error>

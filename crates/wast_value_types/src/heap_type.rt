@@ -1,5 +1,6 @@
 //! Heap types.
 ghost use Rattle.std.specs.Prelude.{◌≡◌, ℕ, List, IfOk, refl};
+ghost use Rattle.wast_grammar.specs.Tokens.{Name};
 ghost use Rattle.wast_parser.specs.Look.{ask};
 ghost use Rattle.wast_parser.specs.Lawful.{Lawful, Leads};
 ghost use Rattle.wast_parser.specs.State.{ahead};
@@ -69,7 +70,7 @@ impl Meaning for AbstractHeapType {
     ghost syntax = { keyword heap_words };
 
     fn lawful()
-        ensures { Lawful (keyword {N = List ℕ} {P = ℕ} heap_words) }
+        ensures { Lawful (keyword {N = Name} {P = ℕ} heap_words) }
     {}
 }
 
@@ -86,7 +87,7 @@ impl Peek for AbstractHeapType {
     ghost sure = { refl };
 
     fn leads()
-        ensures { Leads (keyword {N = List ℕ} {P = ℕ} heap_words).spells (keywords heap_words) }
+        ensures { Leads (keyword {N = Name} {P = ℕ} heap_words).spells (keywords heap_words) }
     {}
 
     fn peek(cursor: Cursor<'_, '_>) -> Result<bool, Error>
@@ -105,14 +106,14 @@ impl Item for AbstractHeapType {
 }
 
 impl<'a> Meaning for HeapType<'a> {
-    ghost Tree = { spec.HeapType (List ℕ) ℕ };
+    ghost Tree = { spec.HeapType Name ℕ };
 
     ghost tree = { heap_tree };
 
     ghost syntax = { heap_type };
 
     fn lawful()
-        ensures { Lawful (heap_type {N = List ℕ} {P = ℕ}) }
+        ensures { Lawful (heap_type {N = Name} {P = ℕ}) }
     {}
 }
 
@@ -138,7 +139,7 @@ impl<'a> Peek for HeapType<'a> {
     ghost sure = { refl };
 
     fn leads()
-        ensures { Leads (heap_type {N = List ℕ} {P = ℕ}).spells heap_starts }
+        ensures { Leads (heap_type {N = Name} {P = ℕ}).spells heap_starts }
     {}
 
     fn peek(cursor: Cursor<'_, '_>) -> Result<bool, Error>

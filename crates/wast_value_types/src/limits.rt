@@ -1,5 +1,6 @@
 //! Limits, and address types.
 ghost use Rattle.std.specs.Prelude.{◌≡◌, ℕ, Bool, List};
+ghost use Rattle.wast_grammar.specs.Tokens.{Name};
 ghost use Rattle.wast_parser.specs.Lawful.{Lawful};
 ghost use Rattle.wast_parser.specs.State.{ahead, Keeps};
 ghost use Rattle.wast_parser.specs.Reading.{Gives};
@@ -27,7 +28,7 @@ impl Meaning for Limits {
     ghost syntax = { limits };
 
     fn lawful()
-        ensures { Lawful (limits {N = List ℕ} {P = ℕ}) }
+        ensures { Lawful (limits {N = Name} {P = ℕ}) }
     {}
 }
 

@@ -1,5 +1,6 @@
 //! Reference types.
 ghost use Rattle.std.specs.Prelude.{◌≡◌, ℕ, List, Some, true, IfOk, IfSome, option_map, refl};
+ghost use Rattle.wast_grammar.specs.Tokens.{Name};
 ghost use Rattle.wasm_encoder_base.specs.Types.{FuncHeap, ExternHeap, AnyHeap, EqHeap, I31Heap, StructHeap, ArrayHeap, ExnHeap, NoFuncHeap, NoExternHeap, NoneHeap, NoExnHeap};
 ghost use Rattle.wast_parser.specs.Look.{ask};
 ghost use Rattle.wast_parser.specs.Lawful.{Lawful, Leads};
@@ -163,14 +164,14 @@ impl<'a> RefType<'a> {
 }
 
 impl<'a> Meaning for RefType<'a> {
-    ghost Tree = { spec.RefType (List ℕ) ℕ };
+    ghost Tree = { spec.RefType Name ℕ };
 
     ghost tree = { ref_tree };
 
     ghost syntax = { ref_type };
 
     fn lawful()
-        ensures { Lawful (ref_type {N = List ℕ} {P = ℕ}) }
+        ensures { Lawful (ref_type {N = Name} {P = ℕ}) }
     {}
 }
 
@@ -192,7 +193,7 @@ impl<'a> Peek for RefType<'a> {
     ghost sure = { refl };
 
     fn leads()
-        ensures { Leads (ref_type {N = List ℕ} {P = ℕ}).spells ref_starts }
+        ensures { Leads (ref_type {N = Name} {P = ℕ}).spells ref_starts }
     {}
 
     fn peek(cursor: Cursor<'_, '_>) -> Result<bool, Error>
@@ -217,14 +218,14 @@ struct RefBody<'a> {
 }
 
 impl<'a> Meaning for RefBody<'a> {
-    ghost Tree = { spec.RefType (List ℕ) ℕ };
+    ghost Tree = { spec.RefType Name ℕ };
 
     ghost tree = { λ b. ref_tree b.ref_type };
 
     ghost syntax = { ref_body };
 
     fn lawful()
-        ensures { Lawful (ref_body {N = List ℕ} {P = ℕ}) }
+        ensures { Lawful (ref_body {N = Name} {P = ℕ}) }
     {}
 }
 

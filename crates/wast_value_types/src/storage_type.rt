@@ -1,5 +1,6 @@
 //! Storage types and field types.
 ghost use Rattle.std.specs.Prelude.{◌≡◌, ℕ, List, IfOk, refl};
+ghost use Rattle.wast_grammar.specs.Tokens.{Name};
 ghost use Rattle.wast_parser.specs.Look.{ask};
 ghost use Rattle.wast_parser.specs.Lawful.{Lawful, Leads};
 ghost use Rattle.wast_parser.specs.State.{ahead};
@@ -41,14 +42,14 @@ impl<'a> StorageType<'a> {
 }
 
 impl<'a> Meaning for StorageType<'a> {
-    ghost Tree = { spec.StorageType (List ℕ) ℕ };
+    ghost Tree = { spec.StorageType Name ℕ };
 
     ghost tree = { storage_tree };
 
     ghost syntax = { storage_type };
 
     fn lawful()
-        ensures { Lawful (storage_type {N = List ℕ} {P = ℕ}) }
+        ensures { Lawful (storage_type {N = Name} {P = ℕ}) }
     {}
 }
 
@@ -71,14 +72,14 @@ pub struct FieldType<'a> {
 }
 
 impl<'a> Meaning for FieldType<'a> {
-    ghost Tree = { spec.FieldType (List ℕ) ℕ };
+    ghost Tree = { spec.FieldType Name ℕ };
 
     ghost tree = { field_tree };
 
     ghost syntax = { field_type };
 
     fn lawful()
-        ensures { Lawful (field_type {N = List ℕ} {P = ℕ}) }
+        ensures { Lawful (field_type {N = Name} {P = ℕ}) }
     {}
 }
 
@@ -100,7 +101,7 @@ impl<'a> Peek for FieldType<'a> {
     ghost sure = { refl };
 
     fn leads()
-        ensures { Leads (field_type {N = List ℕ} {P = ℕ}).spells field_starts }
+        ensures { Leads (field_type {N = Name} {P = ℕ}).spells field_starts }
     {}
 
     fn peek(cursor: Cursor<'_, '_>) -> Result<bool, Error>

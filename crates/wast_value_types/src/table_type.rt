@@ -1,5 +1,6 @@
 //! Table types and memory types.
 ghost use Rattle.std.specs.Prelude.{◌≡◌, ℕ, List, IfOk};
+ghost use Rattle.wast_grammar.specs.Tokens.{Name};
 ghost use Rattle.wast_parser.specs.Lawful.{Lawful};
 ghost use Rattle.wast_parser.specs.State.{ahead, Keeps};
 ghost use Rattle.wast_parser.specs.Reading.{Gives};
@@ -36,14 +37,14 @@ impl<'a> TableType<'a> {
 }
 
 impl<'a> Meaning for TableType<'a> {
-    ghost Tree = { spec.TableType (List ℕ) ℕ };
+    ghost Tree = { spec.TableType Name ℕ };
 
     ghost tree = { table_tree };
 
     ghost syntax = { table_type };
 
     fn lawful()
-        ensures { Lawful (table_type {N = List ℕ} {P = ℕ}) }
+        ensures { Lawful (table_type {N = Name} {P = ℕ}) }
     {}
 }
 
@@ -76,7 +77,7 @@ impl Meaning for MemoryType {
     ghost syntax = { memory_type };
 
     fn lawful()
-        ensures { Lawful (memory_type {N = List ℕ} {P = ℕ}) }
+        ensures { Lawful (memory_type {N = Name} {P = ℕ}) }
     {}
 }
 
@@ -120,7 +121,7 @@ impl Meaning for PowerOfTwo {
     ghost syntax = { power_of_two };
 
     fn lawful()
-        ensures { Lawful (power_of_two {N = List ℕ} {P = ℕ}) }
+        ensures { Lawful (power_of_two {N = Name} {P = ℕ}) }
     {}
 }
 

@@ -1,5 +1,6 @@
 //! Value types.
 ghost use Rattle.std.specs.Prelude.{◌≡◌, ℕ, List, IfOk, refl};
+ghost use Rattle.wast_grammar.specs.Tokens.{Name};
 ghost use Rattle.wast_parser.specs.Look.{ask};
 ghost use Rattle.wast_parser.specs.Lawful.{Lawful, Leads};
 ghost use Rattle.wast_parser.specs.State.{ahead};
@@ -45,14 +46,14 @@ impl<'a> ValType<'a> {
 }
 
 impl<'a> Meaning for ValType<'a> {
-    ghost Tree = { spec.ValType (List ℕ) ℕ };
+    ghost Tree = { spec.ValType Name ℕ };
 
     ghost tree = { val_tree };
 
     ghost syntax = { val_type };
 
     fn lawful()
-        ensures { Lawful (val_type {N = List ℕ} {P = ℕ}) }
+        ensures { Lawful (val_type {N = Name} {P = ℕ}) }
     {}
 }
 
@@ -73,7 +74,7 @@ impl<'a> Peek for ValType<'a> {
     ghost sure = { refl };
 
     fn leads()
-        ensures { Leads (val_type {N = List ℕ} {P = ℕ}).spells val_starts }
+        ensures { Leads (val_type {N = Name} {P = ℕ}).spells val_starts }
     {}
 
     fn peek(cursor: Cursor<'_, '_>) -> Result<bool, Error>

@@ -1,5 +1,6 @@
 //! Values that are written as one keyword.
 ghost use Rattle.std.specs.Prelude.{◌≡◌, ℕ, List, map, option_map, refl};
+ghost use Rattle.wast_grammar.specs.Tokens.{Name};
 ghost use Rattle.wast_parser.specs.Spelling.{find_by};
 ghost use Rattle.wast_parser.specs.Look.{ask};
 ghost use Rattle.wast_parser.specs.Lawful.{Lawful, Leads};
@@ -70,7 +71,7 @@ impl<T: Words> Meaning for Word<T> {
     ghost syntax = { keyword T.entries };
 
     fn lawful()
-        ensures { Lawful (keyword {N = List ℕ} {P = ℕ} T.entries) }
+        ensures { Lawful (keyword {N = Name} {P = ℕ} T.entries) }
     {}
 }
 
@@ -87,7 +88,7 @@ impl<T: Words> Peek for Word<T> {
     ghost sure = { refl };
 
     fn leads()
-        ensures { Leads (keyword {N = List ℕ} {P = ℕ} T.entries).spells (keywords T.entries) }
+        ensures { Leads (keyword {N = Name} {P = ℕ} T.entries).spells (keywords T.entries) }
     {}
 
     fn peek(cursor: Cursor<'_, '_>) -> Result<bool, Error>

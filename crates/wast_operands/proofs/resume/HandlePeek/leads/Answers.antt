@@ -1,6 +1,7 @@
 use Rattle.std.proofs.Common.{[]}
+use Rattle.wast_grammar.specs.Tokens.{as_read}
 use Rattle.wast_operands.proofs.OperandLaws.{handle_leads}
 use Rattle.wast_operands.proofs.resume.HandlePeek.leads.Goals as goal
 
 pub returns : goal.returns
-returns c = handle_leads [] 0
+returns c = handle_leads (as_read []) 0

@@ -1,9 +1,10 @@
 use Rattle.std.proofs.Common.{◌≢◌, [], subst, sym, ◌∙◌, ap, Ok, Some, inl, inr, arith}
+use Rattle.std.specs.Prelude.{option_map}
 use Rattle.std.specs.Str.{IsUtf8}
 use Rattle.std.specs.Cow.{cow_str_bytes}
 use Rattle.wast_lexer.specs.Kinds.{IsIdOf}
 use Rattle.wast_lexer.specs.TokenText.{text_of, IsIdFault}
-use Rattle.wast_grammar.specs.Tokens.{id_name}
+use Rattle.wast_grammar.specs.Tokens.{as_read, id_name}
 use Rattle.wast_grammar.proofs.TextLaws.{id_named}
 use Rattle.wast_parser_core.proofs.Texts.{is_id, nameless}
 use Rattle.wast_parser_core.specs.Kinds.{wanted}
@@ -23,8 +24,8 @@ returns-in-Ok c =
     let is = subst (λ x. IsIdOf (text_of x t) bytes × (bytes ≢ []) × IsUtf8 bytes) c.text.ensures c.in-Ok.ensures.ok in
     let low = next.0.onward in (
       next_id s t d.at next.0 next.2
-          ∙ ap (λ (z : State). Some (id_name (text_of s.source.text t), ahead (record z { at = d.at }))) (sym next.1)
-          ∙ ap (λ w. Some (w, ahead (stands d))) ((id_named (text_of s.source.text t) bytes (is_id s.source.text t next.0.own (identifier t.kind next.2))).1 is),
+          ∙ ap (λ (z : State). Some (option_map as_read (id_name (text_of s.source.text t)), ahead (record z { at = d.at }))) (sym next.1)
+          ∙ ap (λ w. Some (option_map as_read w, ahead (stands d))) ((id_named (text_of s.source.text t) bytes (is_id s.source.text t next.0.own (identifier t.kind next.2))).1 is),
       record { same = next.1; onward = omega (arith, low) },
     )
 
@@ -37,7 +38,7 @@ returns-in-Err c =
     let fault = subst (λ x. IsIdFault (text_of x t) t.offset c.in-Err.fault) c.text.ensures c.in-Err.ensures.err in
     elim (nameless s.source.text t c.in-Err.fault next.0.own (identifier t.kind next.2) fault) [
       | inl m ↦ inl (c.from_fault.ensures ∙ m)
-      | inr n ↦ inr (inr (_, next_id s t d.at next.0 next.2 ∙ ap (λ w. Some (w, ahead (record s { at = d.at }))) n))
+      | inr n ↦ inr (inr (_, next_id s t d.at next.0 next.2 ∙ ap (λ w. Some (option_map as_read w, ahead (record s { at = d.at }))) n))
     ]
 
 pub returns-in-None : goal.returns-in-None

@@ -1,4 +1,5 @@
 use Rattle.std.proofs.Common.{subst, sym, ◌∙◌, ap, Ok, inr, Some, ◌≢◌, []}
+use Rattle.wast_grammar.specs.Tokens.{as_read}
 use Rattle.std.specs.Str.{IsUtf8}
 use Rattle.std.specs.Cow.{cow_str_bytes}
 use Rattle.wast_lexer.specs.Kinds.{IsIdOf}
@@ -22,8 +23,8 @@ returns-in-Ok-clause-read c =
     let kind = sym c.is_id.ensures.same ∙ c.if-is_id.true in
     let name = (id_named (text_of s.source.text t) bytes (is_id s.source.text t next.own kind)).1 (subst (λ x. IsIdOf (text_of x t) bytes × (bytes ≢ []) × IsUtf8 bytes) c.text.ensures c.in-Ok.ensures.ok) in
     read_id s t i (Some bytes) next kind name
-    ∙ ap (λ o. Some ((bytes, o), ahead (record s { at = i }))) (sym c.from_offset.ensures)
-    ∙ ap (λ (z : State). Some ((bytes, c.from_offset.result), ahead (record z { at = i }))) (sym c.self.view_is)
+    ∙ ap (λ o. Some ((as_read bytes, o), ahead (record s { at = i }))) (sym c.from_offset.ensures)
+    ∙ ap (λ (z : State). Some ((as_read bytes, c.from_offset.result), ahead (record z { at = i }))) (sym c.self.view_is)
 
 pub returns-in-Err-clause-read : goal.returns-in-Err-clause-read
 returns-in-Err-clause-read c =
