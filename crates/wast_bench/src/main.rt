@@ -1,4 +1,5 @@
-//! Measures lexer, token table and parser on a generated text of functions, beside a plain scan of its bytes.
+//! Measures lexer, token table and parser on generated texts, beside a plain scan of their bytes: functions whose bodies are flat,
+//! the same folded, data segments, and the instructions of one body, flat and folded.
 #![tactic(auto)]
 
 ghost use Rattle.std.specs.Prelude.{◌<◌, ◌^◌, IfOk, length};
@@ -7,13 +8,30 @@ ghost use Rattle.wast_parser.specs.Cursors.{Follows};
 use std::alloc::{AllocError, Global};
 use std::time::{Duration, Instant};
 use std::{env, io};
+use wast_core::Expression;
 use wast_lexer::{Lexer, TokenTable};
 use wast_parser::{Cursor, Error, ParseBuffer, Parser};
-use wat_profile::parse_text;
+use wat::Wat;
 
-/// A function that today's grammar has.
-const FUNCTION: &[u8] =
-    b"(func (export \"a\\n\\41\") (export \"plain\") ;; c\n  i32.const 0xff_ff (; x ;) drop i32.const 0 drop nop)\n";
+/// A function with a flat body.
+const FLAT: &[u8] =
+    b"(func (export \"a\\n\\41\") (param $x i32) (result i32) ;; c\n  local.get $x i32.const 0xff_ff (; x ;) i32.add block nop end i32.const 0 i32.mul)\n";
+
+/// The same, folded.
+const FOLDED: &[u8] =
+    b"(func (export \"a\\n\\41\") (param $x i32) (result i32) ;; c\n  (i32.mul (i32.add (local.get $x) (i32.const 0xff_ff)) (; x ;) (block (nop)) (i32.const 0)))\n";
+
+/// A data segment.
+const DATA: &[u8] =
+    b"(data (i32.const 0) \"plain text of a segment, some sixty bytes of it, and more\" \"\\00\\01\\02\\03\")\n";
+
+/// Instructions of a body, flat.
+const FLAT_BODY: &[u8] =
+    b"local.get $x i32.const 0xff_ff (; x ;) i32.add block nop end i32.const 0 i32.mul drop\n";
+
+/// The same, folded.
+const FOLDED_BODY: &[u8] =
+    b"(drop (i32.mul (i32.add (local.get $x) (i32.const 0xff_ff)) (; x ;) (block (nop)) (i32.const 0)))\n";
 
 /// How often each measure is taken; the last one counts.
 const ROUNDS: u32 = 3;
@@ -28,31 +46,72 @@ fn main(rt: HostRuntime) -> io::Result<()> {
     if !measured {
         return println!(rt; "say `measure` to measure them");
     }
-    let bytes = functions(rt.alloc(), 200_000)?;
+    measure_fields(&rt, "functions, flat", FLAT)?;
+    measure_fields(&rt, "functions, folded", FOLDED)?;
+    measure_fields(&rt, "data segments", DATA)?;
+    measure_body(&rt, "an expression, flat", FLAT_BODY)?;
+    measure_body(&rt, "an expression, folded", FOLDED_BODY)
+}
+
+fn measure_fields(rt: &HostRuntime, name: &str, field: &[u8]) -> io::Result<()> {
+    println!(rt; "{name}:")?;
+    let bytes = repeated(rt.alloc(), b"(module\n", field, 75_000, b")")?;
     match std::str::from_utf8(bytes.as_slice()) {
         Ok(text) => measure(rt, text),
         Err(_) => Ok(()),
     }
 }
 
-/// A module of so many functions.
-fn functions(alloc: Global, count: u32) -> Result<Vec<u8>, AllocError> {
-    let mut bytes = Vec::new(alloc);
-    bytes.extend_from_slice(b"(module\n")?;
-    for _ in 0..count {
-        bytes.extend_from_slice(FUNCTION)?;
+fn measure_body(rt: &HostRuntime, name: &str, instructions: &[u8]) -> io::Result<()> {
+    println!(rt; "{name}:")?;
+    let bytes = repeated(rt.alloc(), b"", instructions, 120_000, b"")?;
+    match std::str::from_utf8(bytes.as_slice()) {
+        Ok(text) => measure_expression(rt, text),
+        Err(_) => Ok(()),
     }
-    bytes.push(b')')?;
+}
+
+/// A part so many times, between two others.
+fn repeated(
+    alloc: Global,
+    before: &[u8],
+    part: &[u8],
+    count: u32,
+    after: &[u8],
+) -> Result<Vec<u8>, AllocError> {
+    let mut bytes = Vec::new(alloc);
+    bytes.extend_from_slice(before)?;
+    for _ in 0..count {
+        bytes.extend_from_slice(part)?;
+    }
+    bytes.extend_from_slice(after)?;
     Ok(bytes)
 }
 
-fn measure(rt: HostRuntime, text: &str) -> io::Result<()> {
+fn measure_expression(rt: &HostRuntime, text: &str) -> io::Result<()> {
     if 4_294_967_295 < text.len() {
         return Ok(());
     }
     for _ in 0..ROUNDS {
-        measure_lexer(&rt, text)?;
-        measure_parser(&rt, text)?;
+        measure_lexer(rt, text)?;
+        let Ok(buffer) = ParseBuffer::new(rt.alloc(), text) else {
+            return println!(rt; "out of memory");
+        };
+        let start = Instant::now(rt)?;
+        let read = wast_parser::parse::<Expression>(&buffer).is_ok();
+        let bytes = speed(text.len(), start.elapsed(rt)?);
+        println!(rt; "table to expression: {bytes} MB/s, read: {read}")?;
+    }
+    Ok(())
+}
+
+fn measure(rt: &HostRuntime, text: &str) -> io::Result<()> {
+    if 4_294_967_295 < text.len() {
+        return Ok(());
+    }
+    for _ in 0..ROUNDS {
+        measure_lexer(rt, text)?;
+        measure_parser(rt, text)?;
     }
     Ok(())
 }
@@ -95,7 +154,7 @@ fn measure_parser(rt: &HostRuntime, text: &str) -> io::Result<()>
     let Ok(buffer) = ParseBuffer::new(rt.alloc(), text) else {
         return println!(rt; "out of memory");
     };
-    let read = parse_text(&buffer).is_ok();
+    let read = wast_parser::parse::<Wat>(&buffer).is_ok();
     let spent = start.elapsed(rt)?;
     let bytes = speed(text.len(), spent);
     println!(rt; "text to tree, with its table: {bytes} MB/s, read: {read}")

@@ -2,7 +2,11 @@
 #![tactic(auto)]
 
 #[cfg(test)]
+mod definitions;
+#[cfg(test)]
 mod fields;
+#[cfg(test)]
+mod modules;
 #[cfg(test)]
 mod text;
 #[cfg(test)]

@@ -1,13 +1,16 @@
 -- What the parts of `assemble` answer is what the input deserves.
-use Rattle.std.proofs.Common.{ℕ, ◌≡◌, ◌<◌, ◌^◌, true, false, inl, inr, List, length, refl, sym, ◌∙◌, ap, arith}
+use Rattle.std.proofs.Common.{ℕ, ◌≡◌, ◌<◌, ◌^◌, true, false, inl, inr, Some, None, List, Bor, length, refl, sym, ◌∙◌, ap, arith}
+use Rattle.std.specs.Prelude.{codes}
 use Rattle.std.specs.Str.{IsUtf8}
+use Rattle.wast_grammar.specs.Tokens.{Name}
 use Rattle.wat.specs.declared.fault.Fault.{Fault}
 use Rattle.wat.specs.declared.fault.Fault.TheVariants as faults
 use Rattle.wast_parser.specs.Problem.{Problem, is_memory}
-use Rattle.wat_profile.specs.Tree.{Module}
+use Rattle.wast_core.specs.FieldTree.{Module}
+use Rattle.wat_profile.specs.Profile.{Func, profile}
 use Rattle.wat_profile.specs.StandsFor.{meant}
-use Rattle.wat_profile.specs.Means.{Spells}
-use Rattle.wat_profile.specs.Unspelled.{IsUnspelled}
+use Rattle.wat.specs.Means.{Spells}
+use Rattle.wat.specs.Unspelled.{IsUnspelled}
 use Rattle.wat_profile.specs.Layout.{Lays, Fits}
 use Rattle.wat.specs.Headline.{NotUtf8, Fails, Accepts, Assembles, Deserves}
 use Rattle.wat.specs.NoText.{IsNoText}
@@ -28,7 +31,7 @@ no_text bytes faults.Memory t = tt
 no_text bytes faults.Read t = t
 no_text bytes (faults.NotWellFormed span) t = t
 no_text bytes (faults.Unmet error) t = t
-no_text bytes (faults.Uncovered span form) t = t
+no_text bytes (faults.Uncovered span form) t = absurd t
 no_text bytes faults.TooLarge t = absurd t
 no_text bytes (faults.Write written) t = t
 
@@ -47,11 +50,17 @@ told_not_utf8 bytes (faults.Uncovered span form) n t h = absurd t
 told_not_utf8 bytes faults.TooLarge n t h = absurd t
 told_not_utf8 bytes (faults.Write written) n t h = absurd t
 
-pub accepted : (bytes : List ℕ) (tree : Module (List ℕ) ℕ) → length bytes < 2 ^ 32 → IsUtf8 bytes → Spells bytes tree → Accepts bytes (meant tree)
-accepted bytes tree short utf8 s = record { short = short; utf8 = utf8; means = record { tree = tree; spelled = s; stands_for = record { is_meant = refl } } }
+module _ (bytes : List ℕ) (tree : Module Name ℕ) (short : length bytes < 2 ^ 32) (utf8 : IsUtf8 bytes) (s : Spells bytes tree) where
+  -- a tree of today's profile, with its functions
+  module _ (fs : List Func) (found : profile tree ≡ Some fs) where
+    pub accepted : Accepts bytes (meant fs)
+    accepted = record { short = short; utf8 = utf8; means = record { tree = tree; spelled = s; stands_for = record { funcs = fs; in_profile = found; is_meant = refl } } }
 
-pub assembled : (bytes binary : List ℕ) (tree : Module (List ℕ) ℕ) → length bytes < 2 ^ 32 → IsUtf8 bytes → Spells bytes tree → Lays binary (meant tree) → Assembles bytes binary
-assembled bytes binary tree short utf8 s lays = (meant tree, accepted bytes tree short utf8 s, record { lays = lays })
+    pub assembled : (binary : List ℕ) → Lays {N = List ℕ} binary (meant fs) → Assembles bytes binary
+    assembled binary lays = (meant fs, accepted, record { lays = lays })
 
-pub too_large : (bytes : List ℕ) (tree : Module (List ℕ) ℕ) → length bytes < 2 ^ 32 → IsUtf8 bytes → Spells bytes tree → ¬ (Fits (meant tree)) → Deserves bytes faults.TooLarge
-too_large bytes tree short utf8 s large = (meant tree, accepted bytes tree short utf8 s, large)
+    pub too_large : ¬ (Fits (meant {N = List ℕ} fs)) → Deserves bytes faults.TooLarge
+    too_large large = (meant fs, accepted, large)
+
+  pub not_yet : (form : Bor (List ℕ)) → form.now ≡ codes "not yet" → profile tree ≡ None → Deserves bytes (faults.Uncovered tree.place form)
+  not_yet form same none = ((short, utf8, (tree, s, none, refl)), same)

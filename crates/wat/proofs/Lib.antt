@@ -1,5 +1,9 @@
+pub mod Alone
 pub mod Deserved
 pub mod EqualBinaries
+pub mod OneSpelling
 pub mod Places
+pub mod Reading
 pub mod Runs
+pub mod Stops
 pub mod Verdict

@@ -1,16 +1,26 @@
 -- A text means one module, and an input deserves one verdict.
-use Rattle.std.proofs.Common.{ℕ, zero, suc, true, false, [], ◌∷◌, ◌≡◌, ◌<◌, ◌≤◌, ◌^◌, List, length, take, refl, sym, ap, subst, ◌∙◌, arith, take_all, inl, inr, ⊎_elim}
+use Rattle.std.proofs.Common.{ℕ, zero, suc, true, false, [], ◌∷◌, ◌≡◌, ◌<◌, ◌≤◌, ◌^◌, Option, Some, None, List, length, take, refl, sym, ap, subst, ◌∙◌, arith, take_all, inl, inr, ⊎_elim}
+use Rattle.wast_core.specs.FieldTree.{Module}
+use Rattle.wat.specs.Means.{Spells}
 use Rattle.std.proofs.lemmas.Bool.{cases_lt, cases_Bool}
 use Rattle.std.proofs.lemmas.Str.{IsUtf8-nil, IsUtf8-from_is_utf8, is_utf8-from_IsUtf8}
 use Rattle.std.specs.Str.{IsUtf8, IsValidUpTo, is_utf8}
+use Rattle.wast_grammar.specs.Tokens.{Name}
 use Rattle.wat_profile.specs.AbstractModule.{AbstractModule}
+use Rattle.wat_profile.specs.Profile.{Func, profile}
 use Rattle.wat_profile.specs.StandsFor.{meant}
-use Rattle.wat.specs.Headline.{Condition, TooLong, NotUtf8, Misspelled, Fails, Accepts, OneVerdict}
+use Rattle.wat.specs.Headline.{Condition, TooLong, NotUtf8, Misspelled, NotYet, Fails, Accepts, OneVerdict}
 use Rattle.wat.specs.Laws.{OneMeaning}
-use Rattle.wat_profile.proofs.OneSpelling.{one_spelling}
+use Rattle.wat.proofs.OneSpelling.{one_spelling}
+
+some_same : {A : Type 0} (x y : A) → Some x ≡ Some y → x ≡ y
+some_same x y e = cc
 
 pub one_meaning : OneMeaning
-one_meaning text m n x y = x.stands_for.is_meant ∙ ap meant (one_spelling text x.tree y.tree x.spelled y.spelled) ∙ sym y.stands_for.is_meant
+one_meaning text m n x y =
+    let tree = one_spelling text x.tree y.tree x.spelled y.spelled in
+    let funcs = some_same _ _ (sym x.stands_for.in_profile ∙ ap profile tree ∙ y.stands_for.in_profile) in
+    x.stands_for.is_meant ∙ ap meant funcs ∙ sym y.stands_for.is_meant
 
 one_length : (bytes : List ℕ) (m n : ℕ) → IsValidUpTo bytes m → IsValidUpTo bytes n → m ≡ n
 one_length bytes m n x y =
@@ -22,17 +32,27 @@ pub one_condition : (bytes : List ℕ) (c d : Condition) → Fails bytes c → F
 one_condition bytes TooLong TooLong x y = refl
 one_condition bytes TooLong (NotUtf8 n) x y = absurd (let short = y.0 in omega arith)
 one_condition bytes TooLong Misspelled x y = absurd (let short = y.0 in omega arith)
+one_condition bytes TooLong (NotYet n) x y = absurd (let short = y.0 in omega arith)
 one_condition bytes (NotUtf8 m) TooLong x y = absurd (let short = x.0 in omega arith)
 one_condition bytes (NotUtf8 m) (NotUtf8 n) x y = ap NotUtf8 (one_length bytes m n x.2 y.2)
 one_condition bytes (NotUtf8 m) Misspelled x y = absurd (x.1 y.1)
+one_condition bytes (NotUtf8 m) (NotYet n) x y = absurd (x.1 y.1)
 one_condition bytes Misspelled TooLong x y = absurd (let short = x.0 in omega arith)
 one_condition bytes Misspelled (NotUtf8 n) x y = absurd (y.1 x.1)
 one_condition bytes Misspelled Misspelled x y = refl
+one_condition bytes Misspelled (NotYet n) x y = absurd (x.2 y.2.0 y.2.1)
+one_condition bytes (NotYet m) TooLong x y = absurd (let short = x.0 in omega arith)
+one_condition bytes (NotYet m) (NotUtf8 n) x y = absurd (y.1 x.1)
+one_condition bytes (NotYet m) Misspelled x y = absurd (y.2 x.2.0 x.2.1)
+one_condition bytes (NotYet m) (NotYet n) x y = ap NotYet (x.2.3 ∙ ap (λ t. t.place) (one_spelling bytes x.2.0 y.2.0 x.2.1 y.2.1) ∙ sym y.2.3)
 
 none_where_accepted : (bytes : List ℕ) (c : Condition) (m : AbstractModule (List ℕ)) → Fails bytes c → Accepts bytes m → ⊥
 none_where_accepted bytes TooLong m x y = let short = y.short in omega arith
 none_where_accepted bytes (NotUtf8 n) m x y = x.1 y.utf8
 none_where_accepted bytes Misspelled m x y = x.2 y.means.tree y.means.spelled
+none_where_accepted bytes (NotYet n) m x y =
+    let e = sym x.2.2 ∙ ap profile (one_spelling bytes x.2.0 y.means.tree x.2.1 y.means.spelled) ∙ y.means.stands_for.in_profile in
+    absurd (cc)
 
 -- bytes are UTF-8 or not
 no_utf8 : (bytes : List ℕ) → is_utf8 bytes ≡ false → IsUtf8 bytes → ⊥
@@ -71,7 +91,7 @@ some_verdict bytes fails accepts = ⊎_elim
     (λ short. elim (cases_Bool (is_utf8 bytes)) [
       | inl y ↦
           let utf8 = IsUtf8-from_is_utf8 bytes y in
-          fails Misspelled (short, utf8, λ tree s. accepts (meant tree) (record { short = short; utf8 = utf8; means = record { tree = tree; spelled = s; stands_for = record { is_meant = refl } } }))
+          fails Misspelled (short, utf8, λ tree s. by_profile short utf8 tree s (profile tree) refl)
       | inr n ↦
           let none = no_utf8 bytes n in
           let front = valid_up_to bytes none in
@@ -79,6 +99,10 @@ some_verdict bytes fails accepts = ⊎_elim
     ])
     (λ long. fails TooLong (omega (arith, long)))
     (cases_lt (length bytes) (2 ^ 32))
+  where
+    by_profile : length bytes < 2 ^ 32 → IsUtf8 bytes → (tree : Module Name ℕ) → Spells bytes tree → (o : Option (List Func)) → profile tree ≡ o → ⊥
+    by_profile short utf8 tree s None e = fails (NotYet tree.place) (short, utf8, (tree, s, e, refl))
+    by_profile short utf8 tree s (Some fs) e = accepts (meant fs) (record { short = short; utf8 = utf8; means = record { tree = tree; spelled = s; stands_for = record { funcs = fs; in_profile = e; is_meant = refl } } })
 
 pub one_verdict : OneVerdict
 one_verdict = record {

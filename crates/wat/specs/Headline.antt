@@ -3,12 +3,14 @@
 -- stand for what it must, and that a form isn't written to binaries, each with its place, and their lines in `Deserves`; to
 -- `Accepts` the bytes that a `binary` module spells, by which no module is meant, and whose binary they are; and to
 -- `Assembles` the case of a custom section with a reserved name, of whose binary `Lays` alone is promised and not `Reads`.
-use Rattle.std.specs.Prelude.{ℕ, ◌≡◌, ◌<◌, ◌≤◌, ◌^◌, List, length}
+use Rattle.std.specs.Prelude.{ℕ, ◌≡◌, ◌<◌, ◌≤◌, ◌^◌, List, None, codes, length}
 use Rattle.std.specs.Str.{IsUtf8, IsValidUpTo}
-use Rattle.wat_profile.specs.Tree.{Module}
+use Rattle.wast_grammar.specs.Tokens.{Name}
+use Rattle.wast_core.specs.FieldTree.{Module}
 use Rattle.wat_profile.specs.AbstractModule.{AbstractModule}
 use Rattle.wat_profile.specs.Layout.{Fits, Reads}
-use Rattle.wat_profile.specs.Means.{Spells, Means}
+use Rattle.wat_profile.specs.Profile.{profile}
+use Rattle.wat.specs.Means.{Spells, Means}
 use Rattle.wat.specs.declared.fault.Fault.{Fault}
 use Rattle.wat.specs.declared.fault.Fault.TheVariants as faults
 
@@ -20,12 +22,16 @@ pub data Condition : Type 0 where
   NotUtf8 : ℕ → Condition
   -- spells a tree
   Misspelled : Condition
+  -- spells a tree of today's profile; with the place of the module: its word `module`, or else the keyword of its first field
+  NotYet : ℕ → Condition
 
 -- Of all conditions this is the first that the bytes fail.
 abbrev pub Fails : List ℕ → Condition → Type 0
 Fails bytes TooLong = 2 ^ 32 ≤ length bytes
 Fails bytes (NotUtf8 n) = (length bytes < 2 ^ 32) × ¬ (IsUtf8 bytes) × IsValidUpTo bytes n
-Fails bytes Misspelled = (length bytes < 2 ^ 32) × IsUtf8 bytes × ((tree : Module (List ℕ) ℕ) → ¬ (Spells bytes tree))
+Fails bytes Misspelled = (length bytes < 2 ^ 32) × IsUtf8 bytes × ((tree : Module Name ℕ) → ¬ (Spells bytes tree))
+Fails bytes (NotYet place) =
+    (length bytes < 2 ^ 32) × IsUtf8 bytes × ((tree : Module Name ℕ) × Spells bytes tree × (profile tree ≡ None) × (place ≡ tree.place))
 
 -- The bytes meet every condition, and mean the module.
 pub record Accepts (bytes : List ℕ) (m : AbstractModule (List ℕ)) : Type 0 where
@@ -46,13 +52,13 @@ abbrev pub Deserves : List ℕ → Fault → Type 0
 Deserves bytes faults.TooLong = Fails bytes TooLong
 Deserves bytes (faults.NotUtf8 offset) = Fails bytes (NotUtf8 offset)
 Deserves bytes (faults.Spelling error) = Fails bytes Misspelled
+Deserves bytes (faults.Uncovered span form) = Fails bytes (NotYet span) × (form.now ≡ codes "not yet")
 Deserves bytes faults.TooLarge = (m : AbstractModule (List ℕ)) × Accepts bytes m × IsTooLarge m
 Deserves bytes faults.Memory = Unit {0}
 -- never answered for any bytes
 Deserves bytes faults.Read = ⊥
 Deserves bytes (faults.NotWellFormed span) = ⊥
 Deserves bytes (faults.Unmet error) = ⊥
-Deserves bytes (faults.Uncovered span form) = ⊥
 Deserves bytes (faults.Write written) = ⊥
 
 -- Of the conditions at most one is the first that fails; none is where the bytes mean a module; they mean one at most; and it

@@ -1,17 +1,17 @@
 -- The laws that the crate's law functions prove, over the definitions that the contract of `assemble` cites.
 use Rattle.std.specs.Prelude.{ℕ, ◌≡◌, ◌↔◌, List}
 use Rattle.wasm_encoder_base.specs.Unique.{Unique, Any}
-use Rattle.wast_grammar.specs.Tokens.{SignificantToken}
-use Rattle.wat_profile.specs.Tree.{Module}
-use Rattle.wat_profile.specs.Syntax.{module_syntax}
+use Rattle.wast_grammar.specs.Tokens.{Name, SignificantToken}
+use Rattle.wast_core.specs.FieldTree.{Module}
+use Rattle.wast_core.specs.ModuleSyntax.{wat}
 use Rattle.wat_profile.specs.AbstractModule.{AbstractModule}
 use Rattle.wat_profile.specs.Layout.{section, Lays, Reads}
-use Rattle.wat_profile.specs.Means.{Means}
+use Rattle.wat.specs.Means.{Means}
 use Rattle.wat.specs.Headline.{Accepts, Assembles}
 
 -- No tokens spell two modules, places included.
 abbrev pub OneTree : Type 0
-OneTree = (ts : List (SignificantToken (List ℕ) ℕ)) (a b : Module (List ℕ) ℕ) → module_syntax.spells a ts → module_syntax.spells b ts → a ≡ b
+OneTree = (ts : List (SignificantToken Name ℕ)) (a b : Module Name ℕ) → wat.spells a ts → wat.spells b ts → a ≡ b
 
 -- No text means two modules.
 abbrev pub OneMeaning : Type 0

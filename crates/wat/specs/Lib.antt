@@ -1,9 +1,13 @@
 pub mod Headline
 pub mod Laws
+pub mod Means
 pub mod NoText
 pub mod Program
+pub mod Registered
 pub mod Render
 pub mod Run
+pub mod TextViews
+pub mod Unspelled
 pub use Rattle.wast_grammar.specs.Grammar
 pub use Rattle.wast_grammar.specs.Significant
 pub use Rattle.wast_grammar.specs.Spelling
@@ -15,11 +19,7 @@ pub use Rattle.wast_parser_base.specs.Problem
 pub use Rattle.wast_parser_base.specs.Snippet
 pub use Rattle.wat_io.specs.Counted
 pub use Rattle.wat_profile.specs.AbstractModule
-pub use Rattle.wat_profile.specs.KnownMnemonics
 pub use Rattle.wat_profile.specs.Layout
-pub use Rattle.wat_profile.specs.Means
 pub use Rattle.wat_profile.specs.Parts
-pub use Rattle.wat_profile.specs.Registered
+pub use Rattle.wat_profile.specs.Profile
 pub use Rattle.wat_profile.specs.StandsFor
-pub use Rattle.wat_profile.specs.Syntax
-pub use Rattle.wat_profile.specs.Tree

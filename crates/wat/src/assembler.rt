@@ -6,17 +6,20 @@ ghost use Rattle.wat.specs.Headline.{Assembles, Deserves, Fails, TooLong, NotUtf
 ghost use Rattle.wat.specs.NoText.{IsNoText};
 
 use crate::fault::Fault;
+use crate::text::{Wat, parse_text};
 use std::alloc::Global;
 use wasm_encoder_base::EncodeError;
 use wast_parser::ParseBuffer;
-use wat_profile::{encode, parse_text};
+use wat_profile::{encode, profiled};
 
 /// The binary of the module that a text spells.
 ///
 /// Answers a binary exactly where, memory found and no count or length of the binary past 4294967295, `input` is
-/// a UTF-8 text of at most 4294967295 bytes that spells a module; else the fault of the first condition that
-/// fails. `TooLarge` comes exactly where, memory found, a count or length of the binary meant is past
-/// 4294967295, and `Memory` where a growth found no memory. The length and UTF-8 are tested without memory.
+/// a UTF-8 text of at most 4294967295 bytes that spells a module of today's profile: functions with inline exports, whose
+/// bodies are `nop`, `drop` and `i32.const`; else the fault of the first condition that fails. Any other module that is spelled is
+/// `Uncovered`, with the form `not yet` and the place of its word `module`, or else of its first field's keyword. `TooLarge` comes
+/// exactly where, memory found, a count or length of the binary meant is past 4294967295, and `Memory` where a growth found no memory.
+/// The length and UTF-8 are tested without memory.
 pub fn assemble(alloc: Global, input: &[u8]) -> Result<Vec<u8>, Fault>
     ensures answers { MatchResult result (λ binary. Assembles input.now binary.items) (λ fault. Deserves input.now fault) }
     ensures too_long { Fails input.now TooLong → result ≡ Err Fault.TooLong }
@@ -30,12 +33,22 @@ pub fn assemble(alloc: Global, input: &[u8]) -> Result<Vec<u8>, Fault>
         Ok(buffer) => buffer,
         Err(_) => return Err(Fault::Memory),
     };
-    let module = match parse_text(&buffer) {
-        Ok(module) => module,
+    let Wat::Module(module) = match parse_text(&buffer) {
+        Ok(text) => text,
         Err(error) if error.is_memory() => return Err(Fault::Memory),
         Err(error) => return Err(Fault::Spelling(error)),
     };
-    match encode(alloc, &module) {
+    let funcs = match profiled(alloc, &module) {
+        Ok(Some(funcs)) => funcs,
+        Ok(None) => {
+            return Err(Fault::Uncovered {
+                span: module.span,
+                form: "not yet",
+            });
+        }
+        Err(_) => return Err(Fault::Memory),
+    };
+    match encode(alloc, &funcs) {
         Ok(binary) => Ok(binary),
         Err(EncodeError::TooLarge) => Err(Fault::TooLarge),
         Err(EncodeError::Memory) => Err(Fault::Memory),

@@ -2,24 +2,23 @@
 use Rattle.std.proofs.Common.{ℕ, suc, ◌≡◌, ◌+◌, ◌<◌, List, [], ◌∷◌, ◌++◌, length, map, take, get_or, sym, ap, ◌∙◌, arith, append_assoc}
 use Rattle.std.proofs.lemmas.List.{take_more, append-nil, map-append, length-map, length-take-le}
 use Rattle.std.proofs.lemmas.Simd.{map-map}
-use Rattle.wat_profile.specs.Tree.{Func}
-use Rattle.wat_profile.specs.declared.tree.Func.{Func as CodeFunc}
-use Rattle.wat_profile.specs.declared.tree.Export.{Export as CodeExport}
+use Rattle.wat_profile.specs.Profile.{Func}
+use Rattle.wat_profile.specs.declared.profile.ProfileFunc.{ProfileFunc}
 use Rattle.wat_profile.specs.AbstractModule.{Export}
 use Rattle.wat_profile.specs.StandsFor.{export_of, exports_from}
-use Rattle.wat_profile.specs.TreeViews.{export_tree, func_tree}
+use Rattle.wat_profile.specs.Encoding.{func_tree}
 
-exports-append : {N P : Type 0} (n : ℕ) (xs ys : List (Func N P)) → exports_from n (xs ++ ys) ≡ exports_from n xs ++ exports_from (n + length xs) ys
+exports-append : (n : ℕ) (xs ys : List Func) → exports_from n (xs ++ ys) ≡ exports_from n xs ++ exports_from (n + length xs) ys
 exports-append n [] ys = let z : n ≡ n + 0 = omega arith in ap (λ k. exports_from k ys) z
 exports-append n (x ∷ xs) ys =
     let z : n + 1 + length xs ≡ n + suc (length xs) = omega arith in
     ap (λ v. map (export_of n) x.exports ++ v) (exports-append (n + 1) xs ys ∙ ap (λ k. exports_from (n + 1) xs ++ exports_from k ys) z)
     ∙ sym (append_assoc (map (export_of n) x.exports) (exports_from (n + 1) xs) (exports_from (n + suc (length xs)) ys))
 
-exports-one : (n : ℕ) (f : CodeFunc) → exports_from n (func_tree f ∷ []) ≡ map (λ e. export_of n (export_tree e)) f.exports.items
-exports-one n f = append-nil (map (export_of n) (map export_tree f.exports.items)) ∙ map-map (export_of n) export_tree f.exports.items
+exports-one : (n : ℕ) (f : ProfileFunc) → exports_from n (func_tree f ∷ []) ≡ map (λ e. export_of n e.now) f.exports.items
+exports-one n f = append-nil (map (export_of n) (map (λ e. e.now) f.exports.items)) ∙ map-map (export_of n) (λ e. e.now) f.exports.items
 
-exports_more : (fs : List CodeFunc) (i : ℕ) (x : CodeFunc) → i < length fs → x ≡ get_or fs i x → exports_from 0 (map func_tree (take (i + 1) fs)) ≡ exports_from 0 (map func_tree (take i fs)) ++ map (λ e. export_of i (export_tree e)) x.exports.items
+exports_more : (fs : List ProfileFunc) (i : ℕ) (x : ProfileFunc) → i < length fs → x ≡ get_or fs i x → exports_from 0 (map func_tree (take (i + 1) fs)) ≡ exports_from 0 (map func_tree (take i fs)) ++ map (λ e. export_of i e.now) x.exports.items
 exports_more fs i x l is =
     let count : 0 + length (map func_tree (take i fs)) ≡ i = omega (arith, length-map (take i fs) func_tree, length-take-le i fs) in
     ap (λ v. exports_from 0 (map func_tree v)) (take_more fs i x l)
@@ -29,9 +28,9 @@ exports_more fs i x l is =
     ∙ ap (λ v. exports_from 0 (map func_tree (take i fs)) ++ v) (ap (λ f. exports_from i (func_tree f ∷ [])) (sym is) ∙ exports-one i x)
 
 -- one more function
-pub exports_step : (fs : List CodeFunc) (i : ℕ) (x : CodeFunc) (names : List CodeExport) (old more : List Export) → i < length fs → x ≡ get_or fs i x → names ≡ x.exports.items → old ≡ exports_from 0 (map func_tree (take i fs)) → more ≡ old ++ map (λ e. export_of i (export_tree e)) names → more ≡ exports_from 0 (map func_tree (take (i + 1) fs))
+pub exports_step : (fs : List ProfileFunc) (i : ℕ) (x : ProfileFunc) (names : List _) (old more : List Export) → i < length fs → x ≡ get_or fs i x → names ≡ x.exports.items → old ≡ exports_from 0 (map func_tree (take i fs)) → more ≡ old ++ map (λ e. export_of i e.now) names → more ≡ exports_from 0 (map func_tree (take (i + 1) fs))
 exports_step fs i x names old more l is named e h =
     h
-    ∙ ap (λ v. v ++ map (λ e. export_of i (export_tree e)) names) e
-    ∙ ap (λ v. exports_from 0 (map func_tree (take i fs)) ++ map (λ e. export_of i (export_tree e)) v) named
+    ∙ ap (λ v. v ++ map (λ e. export_of i e.now) names) e
+    ∙ ap (λ v. exports_from 0 (map func_tree (take i fs)) ++ map (λ e. export_of i e.now) v) named
     ∙ sym (exports_more fs i x l is)

@@ -4,10 +4,7 @@ pub mod CountedLists
 pub mod Exports
 pub mod Functions
 pub mod Loops
-pub mod Mnemonics
-pub mod OneSpelling
+pub mod Profiles
 pub mod Sound
-pub mod Stops
-pub mod SyntaxLaws
 pub mod UniqueModule
 pub mod UniqueSections

@@ -3,30 +3,29 @@ use Rattle.std.proofs.Common.{◌≡◌, [], ◌∷◌, refl, pos, negsuc}
 use Rattle.std.specs.Prelude.{◌≤ℤ◌, ℤ}
 use Rattle.wasm_encoder_base.specs.Table.{table, entry_at}
 use Rattle.wasm_encoder_base.specs.Instr.{NoOperands, I32 as number, IsInstr}
-use Rattle.wat_profile.specs.declared.tree.Instruction.{Instruction}
-use Rattle.wat_profile.specs.declared.tree.Instruction.TheVariants.{Nop, Drop, I32Const}
+use Rattle.wat_profile.specs.declared.profile.KnownInstruction.{KnownInstruction}
+use Rattle.wat_profile.specs.declared.profile.KnownInstruction.TheVariants.{Nop, Drop, I32Const}
 use Rattle.wat_profile.specs.Encoding.{instr_view}
-use Rattle.wat_profile.proofs.Mnemonics.{nop_is, drop_is, i32_const_is}
 
 pub nop_view : instr_view Nop ≡ record { opcode = 0x01 ∷ []; operands = NoOperands }
 unfolding instr_view
-nop_view = rw nop_is refl
+nop_view = refl
 
 pub drop_view : instr_view Drop ≡ record { opcode = 0x1A ∷ []; operands = NoOperands }
 unfolding instr_view
-drop_view = rw drop_is refl
+drop_view = refl
 
 pub const_view : (z : ℤ) → instr_view (I32Const z) ≡ record { opcode = 0x41 ∷ []; operands = number z }
 unfolding instr_view
-const_view z = rw i32_const_is refl
+const_view z = refl
 
 -- the number in range
-abbrev pub IsInRange : Instruction → Type 0
+abbrev pub IsInRange : KnownInstruction → Type 0
 IsInRange Nop = Unit {0}
 IsInRange Drop = Unit {0}
 IsInRange (I32Const z) = (negsuc 2147483647 ≤ℤ z) × (z ≤ℤ pos 2147483647)
 
-pub kind_sound : (k : Instruction) → IsInRange k → IsInstr (instr_view k)
+pub kind_sound : (k : KnownInstruction) → IsInRange k → IsInstr (instr_view k)
 unfolding entry_at table
 kind_sound Nop r = rw nop_view (record { listed = refl; ranges = tt })
 kind_sound Drop r = rw drop_view (record { listed = refl; ranges = tt })

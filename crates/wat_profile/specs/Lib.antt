@@ -1,12 +1,6 @@
 pub mod AbstractModule
 pub mod Encoding
-pub mod KnownMnemonics
 pub mod Layout
-pub mod Means
 pub mod Parts
-pub mod Registered
+pub mod Profile
 pub mod StandsFor
-pub mod Syntax
-pub mod Tree
-pub mod TreeViews
-pub mod Unspelled

@@ -1,4 +1,4 @@
-//! The encoder: the binary of a tree.
+//! The encoder: the binary of the functions of today's profile.
 
 ghost use Rattle.std.specs.Prelude.{◌≡◌, ℕ, ◌<◌, ◌^◌, ◌++◌, ◌∷◌, List, length, map, IfOk, OnOk, All, IsErrOf};
 ghost use Rattle.wasm_encoder_base.specs.Bytes.{counted, sized};
@@ -11,11 +11,10 @@ ghost use Rattle.wasm_encoder_code.specs.Instruction.{can_encode_instr, fits_ins
 ghost use Rattle.wasm_encoder_code.specs.Instruction as code;
 ghost use Rattle.wat_profile.specs.Parts.{if_any};
 ghost use Rattle.wat_profile.specs.Layout.{FuncTypeFits, type_index, export_item, ExportFits, code_of, code_item, FunctionFits, Fits, Lays};
-ghost use Rattle.wat_profile.specs.StandsFor.{implied_by, export_of, exports_from, meant};
-ghost use Rattle.wat_profile.specs.TreeViews.{export_tree, func_tree, module_tree};
-ghost use Rattle.wat_profile.specs.Encoding.{instr_view, body_view, export_view, module_meant, slot, SectionFits};
+ghost use Rattle.wat_profile.specs.StandsFor.{implied_by, export_of, exports_from};
+ghost use Rattle.wat_profile.specs.Encoding.{instr_view, func_tree, body_view, export_view, module_meant, slot, SectionFits};
 
-use crate::tree::{self, Func, Instruction, Module};
+use crate::profile::{KnownInstruction, ProfileFunc};
 use std::alloc::{AllocError, Global};
 use wasm_encoder_base::{Encode, EncodeError, FuncType};
 use wasm_encoder_code::{Function, Instruction as CodeInstruction};
@@ -35,18 +34,18 @@ const EXPORTS: u8 = 7;
 /// The id of the section of the functions' code.
 const CODES: u8 = 10;
 
-/// The binary of a tree, whole. Answers [`EncodeError::TooLarge`] exactly where, memory found, a count, a length or an
+/// The binary of the module that these functions are, whole. Answers [`EncodeError::TooLarge`] exactly where, memory found, a count, a length or an
 /// index of it is past 4294967295, and [`EncodeError::Memory`] where a growth found no memory.
-pub fn encode(alloc: Global, tree: &Module) -> Result<Vec<u8>, EncodeError>
-    ensures laid { IfOk result (λ v. Lays v.items (meant (module_tree tree.now))) }
-    ensures too_large { IsErrOf result EncodeError.TooLarge → ¬ Fits (meant (module_tree tree.now)) }
+pub fn encode(alloc: Global, funcs: &[ProfileFunc<'_>]) -> Result<Vec<u8>, EncodeError>
+    ensures laid { IfOk result (λ v. Lays v.items (module_meant funcs.now)) }
+    ensures too_large { IsErrOf result EncodeError.TooLarge → ¬ Fits (module_meant funcs.now) }
 {
     let mut sink = Vec::new(alloc);
     sink.extend_from_slice(&HEADER)?;
-    put_type_section(alloc, &mut sink, tree)?;
-    put_function_section(alloc, &mut sink, tree)?;
-    put_export_section(alloc, &mut sink, tree)?;
-    put_code_section(alloc, &mut sink, tree)?;
+    put_type_section(alloc, &mut sink, funcs)?;
+    put_function_section(alloc, &mut sink, funcs)?;
+    put_export_section(alloc, &mut sink, funcs)?;
+    put_code_section(alloc, &mut sink, funcs)?;
     Ok(sink)
 }
 
@@ -92,17 +91,21 @@ fn put_sized(sink: &mut Vec<u8>, bytes: &[u8]) -> Result<(), EncodeError>
 }
 
 /// Appends the section of the types that the functions imply.
-fn put_type_section(alloc: Global, sink: &mut Vec<u8>, tree: &Module) -> Result<(), EncodeError>
-    ensures spelled { OnOk result (sink.new.items ≡ sink.old.items ++ slot 1 (if_any (counted func_bytes) (module_meant tree.now).types)) }
-    ensures fits { OnOk result (SectionFits FuncTypeFits func_bytes (module_meant tree.now).types) }
-    ensures too_large { IsErrOf result EncodeError.TooLarge → ¬ Fits (module_meant tree.now) }
+fn put_type_section(
+    alloc: Global,
+    sink: &mut Vec<u8>,
+    funcs: &[ProfileFunc<'_>],
+) -> Result<(), EncodeError>
+    ensures spelled { OnOk result (sink.new.items ≡ sink.old.items ++ slot 1 (if_any (counted func_bytes) (module_meant funcs.now).types)) }
+    ensures fits { OnOk result (SectionFits FuncTypeFits func_bytes (module_meant funcs.now).types) }
+    ensures too_large { IsErrOf result EncodeError.TooLarge → ¬ Fits (module_meant funcs.now) }
 {
-    let types = implied_types(alloc, &tree.funcs)?;
+    let types = implied_types(alloc, funcs)?;
     put_list(alloc, sink, TYPES, &types)
 }
 
 /// The types that the functions imply.
-fn implied_types(alloc: Global, funcs: &[Func]) -> Result<Vec<FuncType>, AllocError>
+fn implied_types(alloc: Global, funcs: &[ProfileFunc<'_>]) -> Result<Vec<FuncType>, AllocError>
     ensures { IfOk result (λ v. map func_view v.items ≡ implied_by (map func_tree funcs.now)) }
 {
     let mut types = Vec::new(alloc);
@@ -113,29 +116,37 @@ fn implied_types(alloc: Global, funcs: &[Func]) -> Result<Vec<FuncType>, AllocEr
 }
 
 /// Appends the section of the functions' type indices.
-fn put_function_section(alloc: Global, sink: &mut Vec<u8>, tree: &Module) -> Result<(), EncodeError>
-    ensures spelled { OnOk result (sink.new.items ≡ sink.old.items ++ slot 3 (if_any (counted type_index) (module_meant tree.now).functions)) }
-    ensures fits { OnOk result (SectionFits Any type_index (module_meant tree.now).functions) }
-    ensures too_large { IsErrOf result EncodeError.TooLarge → ¬ Fits (module_meant tree.now) }
+fn put_function_section(
+    alloc: Global,
+    sink: &mut Vec<u8>,
+    funcs: &[ProfileFunc<'_>],
+) -> Result<(), EncodeError>
+    ensures spelled { OnOk result (sink.new.items ≡ sink.old.items ++ slot 3 (if_any (counted type_index) (module_meant funcs.now).functions)) }
+    ensures fits { OnOk result (SectionFits Any type_index (module_meant funcs.now).functions) }
+    ensures too_large { IsErrOf result EncodeError.TooLarge → ¬ Fits (module_meant funcs.now) }
 {
-    let indices = type_indices(alloc, &tree.funcs)?;
+    let indices = type_indices(alloc, funcs)?;
     put_list(alloc, sink, FUNCTIONS, &indices)
 }
 
 /// The index of each function's type.
-fn type_indices(alloc: Global, funcs: &[Func]) -> Result<Vec<u32>, AllocError>
+fn type_indices(alloc: Global, funcs: &[ProfileFunc<'_>]) -> Result<Vec<u32>, AllocError>
     ensures { IfOk result (λ v. v.items ≡ map (λ _. 0) funcs.now) }
 {
     funcs.iter().map(|_| 0).collect(alloc)
 }
 
 /// Appends the section of the exports.
-fn put_export_section(alloc: Global, sink: &mut Vec<u8>, tree: &Module) -> Result<(), EncodeError>
-    ensures spelled { OnOk result (sink.new.items ≡ sink.old.items ++ slot 7 (if_any (counted export_item) (module_meant tree.now).exports)) }
-    ensures fits { OnOk result (SectionFits ExportFits export_item (module_meant tree.now).exports) }
-    ensures too_large { IsErrOf result EncodeError.TooLarge → ¬ Fits (module_meant tree.now) }
+fn put_export_section(
+    alloc: Global,
+    sink: &mut Vec<u8>,
+    funcs: &[ProfileFunc<'_>],
+) -> Result<(), EncodeError>
+    ensures spelled { OnOk result (sink.new.items ≡ sink.old.items ++ slot 7 (if_any (counted export_item) (module_meant funcs.now).exports)) }
+    ensures fits { OnOk result (SectionFits ExportFits export_item (module_meant funcs.now).exports) }
+    ensures too_large { IsErrOf result EncodeError.TooLarge → ¬ Fits (module_meant funcs.now) }
 {
-    let exports = exports_of(alloc, &tree.funcs)?;
+    let exports = exports_of(alloc, funcs)?;
     put_list(alloc, sink, EXPORTS, &exports)
 }
 
@@ -177,7 +188,10 @@ fn put_export(sink: &mut Vec<u8>, export: &Export) -> Result<(), EncodeError>
 }
 
 /// The exports that stand in the functions.
-fn exports_of<'t>(alloc: Global, funcs: &'t [Func<'_>]) -> Result<Vec<Export<'t>>, AllocError>
+fn exports_of<'t>(
+    alloc: Global,
+    funcs: &'t [ProfileFunc<'_>],
+) -> Result<Vec<Export<'t>>, AllocError>
     ensures { IfOk result (λ v. map export_view v.items ≡ exports_from 0 (map func_tree funcs.now)) }
 {
     let mut exports = Vec::new(alloc);
@@ -191,33 +205,34 @@ fn exports_of<'t>(alloc: Global, funcs: &'t [Func<'_>]) -> Result<Vec<Export<'t>
 #[tactic(auto, unfolding(crate::specs::Encoding::export_view))]
 fn push_exports<'t>(
     exports: &mut Vec<Export<'t>>,
-    names: &'t [tree::Export<'_>],
+    names: &[&'t str],
     index: usize,
 ) -> Result<(), AllocError>
-    ensures { OnOk result (map export_view exports.new.items ≡ map export_view exports.old.items ++ map (λ e. export_of index (export_tree e)) names.now) }
+    ensures { OnOk result (map export_view exports.new.items ≡ map export_view exports.old.items ++ map (λ e. export_of index e.now) names.now) }
 {
     for name in names {
-        exports.push(Export {
-            name: name.name.as_str(),
-            index,
-        })?;
+        exports.push(Export { name: *name, index })?;
     }
     Ok(())
 }
 
 /// Appends the section of the functions' code.
-fn put_code_section(alloc: Global, sink: &mut Vec<u8>, tree: &Module) -> Result<(), EncodeError>
-    ensures spelled { OnOk result (sink.new.items ≡ sink.old.items ++ slot 10 (if_any (counted code_item) (module_meant tree.now).functions)) }
-    ensures sound { OnOk result (All (λ f. IsBody (code_of f)) (module_meant tree.now).functions) }
-    ensures fits { OnOk result (SectionFits FunctionFits code_item (module_meant tree.now).functions) }
-    ensures too_large { IsErrOf result EncodeError.TooLarge → ¬ Fits (module_meant tree.now) }
+fn put_code_section(
+    alloc: Global,
+    sink: &mut Vec<u8>,
+    funcs: &[ProfileFunc<'_>],
+) -> Result<(), EncodeError>
+    ensures spelled { OnOk result (sink.new.items ≡ sink.old.items ++ slot 10 (if_any (counted code_item) (module_meant funcs.now).functions)) }
+    ensures sound { OnOk result (All (λ f. IsBody (code_of f)) (module_meant funcs.now).functions) }
+    ensures fits { OnOk result (SectionFits FunctionFits code_item (module_meant funcs.now).functions) }
+    ensures too_large { IsErrOf result EncodeError.TooLarge → ¬ Fits (module_meant funcs.now) }
 {
-    let bodies = bodies_of(alloc, &tree.funcs)?;
+    let bodies = bodies_of(alloc, funcs)?;
     put_list(alloc, sink, CODES, &bodies)
 }
 
 /// The bodies of the functions.
-fn bodies_of(alloc: Global, funcs: &[Func]) -> Result<Vec<Function>, EncodeError>
+fn bodies_of(alloc: Global, funcs: &[ProfileFunc<'_>]) -> Result<Vec<Function>, EncodeError>
     ensures spelled { IfOk result (λ v. v.items ≡ map (λ f. body_bytes (body_view f)) funcs.now) }
     ensures sound { OnOk result (All (λ f. IsBody (body_view f)) funcs.now) }
     ensures memory { ¬ IsErrOf result EncodeError.TooLarge }
@@ -230,14 +245,14 @@ fn bodies_of(alloc: Global, funcs: &[Func]) -> Result<Vec<Function>, EncodeError
 }
 
 /// The body of a function, without locals.
-fn body_of(alloc: Global, func: &Func) -> Result<Function, EncodeError>
+fn body_of(alloc: Global, func: &ProfileFunc<'_>) -> Result<Function, EncodeError>
     ensures spelled { IfOk result (λ body. body ≡ body_bytes (body_view func.now)) }
     ensures sound { OnOk result (IsBody (body_view func.now)) }
     ensures memory { ¬ IsErrOf result EncodeError.TooLarge }
 {
     let mut body = Function::new(alloc, &[])?;
     for instr in &func.body {
-        push(&mut body, &code_instruction(instr.kind))?;
+        push(&mut body, &code_instruction(*instr))?;
     }
     push(&mut body, &CodeInstruction::End)?;
     Ok(body)
@@ -256,15 +271,15 @@ fn push(body: &mut Function, instruction: &CodeInstruction) -> Result<(), Encode
 
 /// The instruction of the encoder.
 #[tactic(auto, using(crate::proofs::Sound::kind_sound, crate::proofs::Sound::nop_view, crate::proofs::Sound::drop_view, crate::proofs::Sound::const_view))]
-fn code_instruction(instruction: Instruction) -> CodeInstruction<'static>
+fn code_instruction(instruction: KnownInstruction) -> CodeInstruction<'static>
     ensures same { code.instr_view result ≡ instr_view instruction }
     ensures sound { IsInstr (instr_view instruction) }
     ensures can_encode { can_encode_instr result }
     ensures fits { fits_instr result }
 {
     match instruction {
-        Instruction::Nop => CodeInstruction::Nop,
-        Instruction::Drop => CodeInstruction::Drop,
-        Instruction::I32Const(value) => CodeInstruction::I32Const(value),
+        KnownInstruction::Nop => CodeInstruction::Nop,
+        KnownInstruction::Drop => CodeInstruction::Drop,
+        KnownInstruction::I32Const(value) => CodeInstruction::I32Const(value),
     }
 }

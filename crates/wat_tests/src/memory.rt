@@ -4,7 +4,8 @@
 use std::alloc::Global;
 use std::process::Abort;
 use std::test::Fail;
-use wat::{Error, Fault, Span, assemble, render};
+use wast_parser::{Parse, ParseBuffer, Parser};
+use wat::{Error, Fault, Span, Wat, assemble, render};
 
 #[test]
 fn ample_assemble(rt: HostRuntime) -> Result<(), Fail> {
@@ -21,6 +22,32 @@ fn ample_message(rt: HostRuntime) -> Result<(), Fail> {
 fn ample_render(rt: HostRuntime) -> Result<(), Fail> {
     let text = render(rt.alloc(), &Fault::Memory, b"")?;
     assert_eq!(rt; text.as_str(), "out of memory");
+    Ok(())
+}
+
+fn buffer(alloc: Global, text: &'static str) -> Result<ParseBuffer<'static>, Fail> {
+    if text.len() < 1_000 {
+        if let Ok(buffer) = ParseBuffer::new(alloc, text) {
+            return Ok(buffer);
+        }
+    }
+    Err("out of memory".into())
+}
+
+#[test]
+fn ample_wat(rt: HostRuntime) -> Result<(), Fail> {
+    let buffer = buffer(rt.alloc(), "(func) (@custom \"x\")")?;
+    assert!(rt; Wat::parse(&mut Parser::new(&buffer)).is_ok());
+    Ok(())
+}
+
+/// Refused at what stands behind its module, a text leaves no annotation registered: that one is passed then.
+#[test]
+fn annotations_are_taken_back(rt: HostRuntime) -> Result<(), Fail> {
+    let buffer = buffer(rt.alloc(), "(module) (@custom \"x\")")?;
+    let mut parser = Parser::new(&buffer);
+    assert!(rt; Wat::parse(&mut parser).is_err());
+    assert!(rt; parser.is_empty());
     Ok(())
 }
 

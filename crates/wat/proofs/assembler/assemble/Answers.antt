@@ -1,9 +1,8 @@
-use Rattle.std.proofs.Common.{sym, ◌∙◌, ap, subst, Err}
+use Rattle.std.proofs.Common.{sym, ◌∙◌, ap, subst, Err, rules}
 use Rattle.wast_parser.specs.Problem.{is_memory}
-use Rattle.wat_profile.specs.Unspelled.{IsUnspelled}
-use Rattle.wat_profile.specs.Means.{Spells}
-use Rattle.wat_profile.specs.TreeViews.{module_tree}
-use Rattle.wat.proofs.Deserved.{told_not_utf8, misspelled, too_large}
+use Rattle.wat.specs.Unspelled.{IsUnspelled}
+use Rattle.wat_profile.specs.Encoding.{module_meant}
+use Rattle.wat.proofs.Deserved.{told_not_utf8, misspelled}
 use Rattle.wat.proofs.assembler.assemble.Goals as goal
 
 pub returns-in-Err-clause-not_utf8 : goal.returns-in-Err-clause-not_utf8
@@ -16,7 +15,4 @@ returns-in-Err-2-clause-answers c =
     misspelled c.args.input.now c.in-Err-2.error c.in-Ok.ensures.1 c.in-Ok.ensures.2 known (subst (λ t. IsUnspelled t c.in-Err-2.error) text c.in-Err-2.ensures)
 
 pub returns-in-Err-TooLarge-clause-answers : goal.returns-in-Err-TooLarge-clause-answers
-returns-in-Err-TooLarge-clause-answers c =
-    too_large c.args.input.now (module_tree c.in-Ok-parse_text.«module») c.in-Ok.ensures.1 c.in-Ok.ensures.2
-    (subst (λ text. Spells text (module_tree c.in-Ok-parse_text.«module»)) (c.in-Ok-new.ensures.text.0 ∙ c.in-Ok.ensures.0) c.in-Ok-parse_text.ensures)
-    (c.in-Err-TooLarge.ensures.too_large (ap Err c.in-Err-TooLarge.field-0-is))
+returns-in-Err-TooLarge-clause-answers c = (module_meant c.deref.result.now, search rules, c.in-Err-TooLarge.ensures.too_large (ap Err c.in-Err-TooLarge.field-0-is))

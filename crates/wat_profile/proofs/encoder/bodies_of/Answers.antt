@@ -1,14 +1,14 @@
 use Rattle.std.proofs.Common.{arith, ap, sym, ◌∙◌, ◌++◌, ◌∷◌, [], map, take}
 use Rattle.std.proofs.lemmas.List.{map_more}
 use Rattle.wasm_encoder_code.specs.Body.{IsBody, body_bytes}
-use Rattle.wat_profile.specs.declared.tree.Func.{Func}
+use Rattle.wat_profile.specs.declared.profile.ProfileFunc.{ProfileFunc}
 use Rattle.wat_profile.specs.Encoding.{body_view}
 use Rattle.wat_profile.proofs.Loops.{all_item, all_end}
 use Rattle.wat_profile.proofs.encoder.bodies_of.Goals as goal
 
 pub loop-func-preserved : goal.loop-func-preserved
 loop-func-preserved c =
-    let bytes = λ (f : Func). body_bytes (body_view f) in
+    let bytes = λ (f : ProfileFunc). body_bytes (body_view f) in
     let funcs = c.args.funcs.now in
     let i = c.loop-func.func-index in
     record {

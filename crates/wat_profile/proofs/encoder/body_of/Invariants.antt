@@ -8,6 +8,6 @@ use Rattle.wat_profile.proofs.encoder.body_of.Given as goal
 
 abbrev pub invariant-loop-instr : goal.invariant-loop-instr
 invariant-loop-instr l = record {
-  spelled : l.body ≡ counted pair_bytes [] ++ flat_map (λ i. instr_bytes (instr_view i.kind)) (take l.instr-index l.instr-items);
-  sound : All (λ i. IsInstr (instr_view i.kind)) (take l.instr-index l.instr-items);
+  spelled : l.body ≡ counted pair_bytes [] ++ flat_map (λ i. instr_bytes (instr_view i)) (take l.instr-index l.instr-items);
+  sound : All (λ i. IsInstr (instr_view i)) (take l.instr-index l.instr-items);
 }

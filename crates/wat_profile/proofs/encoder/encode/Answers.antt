@@ -7,8 +7,8 @@ use Rattle.wat_profile.proofs.encoder.encode.Goals as goal
 pub returns-clause-laid : goal.returns-clause-laid
 returns-clause-laid c = record {
   is_module = record { functions = c.in_ok-put_code_section.ensures.sound };
-  fits = fits_of (module_meant c.args.tree.now) c.in_ok-put_type_section.ensures.fits c.in_ok-put_function_section.ensures.fits c.in_ok-put_export_section.ensures.fits c.in_ok-put_code_section.ensures.fits;
-  bytes = bytes_of (module_meant c.args.tree.now) _ _ _ _ _
+  fits = fits_of (module_meant c.args.funcs.now) c.in_ok-put_type_section.ensures.fits c.in_ok-put_function_section.ensures.fits c.in_ok-put_export_section.ensures.fits c.in_ok-put_code_section.ensures.fits;
+  bytes = bytes_of (module_meant c.args.funcs.now) _ _ _ _ _
       (c.in_ok-extend_from_slice.ensures.items ∙ ap (λ v. v ++ header) c.new-sink.ensures.items)
       c.in_ok-put_type_section.ensures.spelled
       c.in_ok-put_function_section.ensures.spelled

@@ -1,6 +1,6 @@
 use Rattle.std.proofs.Common.{◌≡◌, map, take}
 use Rattle.wat_profile.specs.StandsFor.{exports_from}
-use Rattle.wat_profile.specs.TreeViews.{func_tree}
+use Rattle.wat_profile.specs.Encoding.{func_tree}
 use Rattle.wat_profile.specs.Encoding.{export_view}
 use Rattle.wat_profile.proofs.encoder.exports_of.Given as goal
 

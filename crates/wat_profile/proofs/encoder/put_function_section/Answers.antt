@@ -1,4 +1,4 @@
-use Rattle.std.proofs.Common.{map, ap, ◌∙◌, sym}
+use Rattle.std.proofs.Common.{◌∙◌, sym}
 use Rattle.wasm_encoder_base.specs.Leb.{uleb}
 use Rattle.wasm_encoder_base.specs.Unique.{Any}
 use Rattle.wat_profile.specs.Encoding.{module_meant}
@@ -8,6 +8,6 @@ use Rattle.wat_profile.proofs.encoder.put_function_section.Goals as goal
 
 pub returns : goal.returns
 returns c =
-    let same = indices_are c.args.tree.now.funcs.items ∙ ap (map (λ _. 0)) (sym c.deref.ensures.value) ∙ sym c.in_ok-indices.ensures ∙ sym c.deref-2.ensures.value in
-    let a = of_items Any Any uleb (λ f. f.type_index) (module_meant c.args.tree.now).functions same (λ f h. h) (λ f h. h) (record { spelled = c.put_list.ensures.spelled; fits = c.put_list.ensures.fits; too_large = c.put_list.ensures.too_large }) in
-    record { spelled = a.spelled; fits = a.fits; too_large = λ e f. a.too_large e (function_section (module_meant c.args.tree.now) f) }
+    let same = indices_are c.args.funcs.now ∙ sym c.in_ok-indices.ensures ∙ sym c.deref.ensures.value in
+    let a = of_items Any Any uleb (λ f. f.type_index) (module_meant c.args.funcs.now).functions same (λ f h. h) (λ f h. h) (record { spelled = c.put_list.ensures.spelled; fits = c.put_list.ensures.fits; too_large = c.put_list.ensures.too_large }) in
+    record { spelled = a.spelled; fits = a.fits; too_large = λ e f. a.too_large e (function_section (module_meant c.args.funcs.now) f) }

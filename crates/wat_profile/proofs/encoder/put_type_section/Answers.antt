@@ -4,8 +4,6 @@ use Rattle.wasm_encoder_base.specs.Types.{func_bytes}
 use Rattle.wasm_encoder_base.specs.Views.{val_view, func_view, func_fits}
 use Rattle.wasm_encoder_base.specs.declared.types.FuncType.{FuncType}
 use Rattle.wat_profile.specs.Layout.{FuncTypeFits}
-use Rattle.wat_profile.specs.StandsFor.{implied_by}
-use Rattle.wat_profile.specs.TreeViews.{func_tree}
 use Rattle.wat_profile.specs.Encoding.{module_meant}
 use Rattle.wat_profile.proofs.Assembly.{of_views, type_section}
 use Rattle.wat_profile.proofs.encoder.put_type_section.Goals as goal
@@ -21,6 +19,6 @@ fits_from t h = (omega (arith, h.params, length-map t.params val_view), omega (a
 
 pub returns : goal.returns
 returns c =
-    let same = ap (map func_view) c.deref-2.ensures.value ∙ c.in_ok-types.ensures ∙ ap (λ v. implied_by (map func_tree v)) c.deref.ensures.value in
-    let a = of_views FuncTypeFits func_bytes func_view (module_meant c.args.tree.now).types same fits_to fits_from (record { spelled = c.put_list.ensures.spelled; fits = c.put_list.ensures.fits; too_large = c.put_list.ensures.too_large }) in
-    record { spelled = a.spelled; fits = a.fits; too_large = λ e f. a.too_large e (type_section (module_meant c.args.tree.now) f) }
+    let same = ap (map func_view) c.deref.ensures.value ∙ c.in_ok-types.ensures in
+    let a = of_views FuncTypeFits func_bytes func_view (module_meant c.args.funcs.now).types same fits_to fits_from (record { spelled = c.put_list.ensures.spelled; fits = c.put_list.ensures.fits; too_large = c.put_list.ensures.too_large }) in
+    record { spelled = a.spelled; fits = a.fits; too_large = λ e f. a.too_large e (type_section (module_meant c.args.funcs.now) f) }

@@ -1,0 +1,5 @@
+use Rattle.wat.proofs.OneSpelling.{text_laws}
+use Rattle.wat.proofs.text.WholeMeaning.lawful.Goals as goal
+
+pub returns : goal.returns
+returns c = text_laws
