@@ -1,0 +1,13 @@
+pub mod Again
+pub mod Counter
+mod Examples
+pub mod Labels
+mod Operands
+pub mod Resolved
+pub mod Settled
+pub mod SettledFields
+pub mod Settles
+pub mod SettlesFields
+pub mod Taken
+pub mod Walked
+mod Words

@@ -1,0 +1,12 @@
+pub mod Changed
+pub mod Demands
+pub mod Fresh
+pub mod Implied
+pub mod Mentions
+pub mod Numbered
+pub mod Scope
+pub mod Settled
+pub mod Spaces
+pub mod Views
+pub mod WellFormed
+pub mod Written

@@ -1,0 +1,16 @@
+use Rattle.std.proofs.lemmas.Result.{err_from_is_err_and}
+use Rattle.wast_mentions.proofs.Judging.{judged_then, judged_stops}
+use Rattle.wast_mentions.proofs.operands.tell_init.Goals as goal
+
+pub returns-in_err-tell_index_if : goal.returns-in_err-tell_index_if
+returns-in_err-tell_index_if g c =
+    let j = g.J.Judgement in
+    let asks = j.asks c.args.judge.now in
+    let p = err_from_is_err_and c.from_residual.result c.from_residual.ensures.1 in
+    rw (p.1, p.2) (judged_stops asks j.holds j.tells j.anywhere _ _ _ c.in_err-tell_index_if.ensures)
+
+pub returns : goal.returns
+returns g c =
+    let j = g.J.Judgement in
+    let asks = j.asks c.args.judge.now in
+    judged_then asks j.holds j.tells c.tell_index.result _ _ c.in_ok-tell_index_if.ensures c.tell_index.ensures

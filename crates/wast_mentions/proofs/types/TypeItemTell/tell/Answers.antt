@@ -1,0 +1,30 @@
+use Rattle.std.proofs.lemmas.Result.{err_from_is_err_and}
+use Rattle.wast_mentions.proofs.Judging.{met_then, told_then, judged_then, judged_stops}
+use Rattle.wast_mentions.proofs.types.TypeItemTell.tell.Goals as goal
+
+pub returns-in_err-tell_index_if : goal.returns-in_err-tell_index_if
+returns-in_err-tell_index_if g c =
+    let j = g.J.Judgement in
+    let asks = j.asks c.args.judge.now in
+    let p = err_from_is_err_and c.from_residual.result c.from_residual.ensures.1 in
+    rw (p.1, p.2) (judged_stops asks j.holds j.tells j.anywhere _ _ _ (judged_stops asks j.holds j.tells j.anywhere _ _ _ (judged_stops asks j.holds j.tells j.anywhere _ _ _ c.in_err-tell_index_if.ensures)))
+
+pub returns-in_err-tell_index_if-2 : goal.returns-in_err-tell_index_if-2
+returns-in_err-tell_index_if-2 g c =
+    let j = g.J.Judgement in
+    let asks = j.asks c.args.judge.now in
+    let p = err_from_is_err_and c.from_residual-in_err-tell_index_if-2.result c.from_residual-in_err-tell_index_if-2.ensures.1 in
+    rw (p.1, p.2) (judged_stops asks j.holds j.tells j.anywhere _ _ _ (judged_stops asks j.holds j.tells j.anywhere _ _ _ (told_then asks j.holds j.tells _ _ _ c.in_ok-tell_index_if.ensures c.in_err-tell_index_if-2.ensures)))
+
+pub returns-in_err-tell_index_if-3 : goal.returns-in_err-tell_index_if-3
+returns-in_err-tell_index_if-3 g c =
+    let j = g.J.Judgement in
+    let asks = j.asks c.args.judge.now in
+    let p = err_from_is_err_and c.from_residual-in_err-tell_index_if-3.result c.from_residual-in_err-tell_index_if-3.ensures.1 in
+    rw (p.1, p.2) (judged_stops asks j.holds j.tells j.anywhere _ _ _ (told_then asks j.holds j.tells _ _ _ (met_then asks j.holds j.tells _ _ c.in_ok-tell_index_if.ensures c.in_ok-tell_index_if-2.ensures) c.in_err-tell_index_if-3.ensures))
+
+pub returns : goal.returns
+returns g c =
+    let j = g.J.Judgement in
+    let asks = j.asks c.args.judge.now in
+    judged_then asks j.holds j.tells c.tell.result _ _ (met_then asks j.holds j.tells _ _ (met_then asks j.holds j.tells _ _ c.in_ok-tell_index_if.ensures c.in_ok-tell_index_if-2.ensures) c.in_ok-tell_index_if-3.ensures) c.tell.ensures
