@@ -1,0 +1,16 @@
+-- The fields that don't keep to what needs no name looked up.
+use Rattle.std.specs.Prelude.{Bool, false, ◌&&◌, ◌||◌, not, if◌then◌else◌, List, [], ◌∷◌}
+use Rattle.std.specs.List.{list_all}
+use Rattle.wast_names.specs.Walk.{walked}
+use Rattle.wast_core.specs.FieldTree.{Field, is_start, field_place}
+use Rattle.wast_meaning.specs.Mentions.{parts}
+use Rattle.wast_meaning.specs.WellFormed.{part_formed, pages_formed}
+
+module _ {N P : Type 0} where
+  -- the place of a field that breaches it, where it stands behind a start or not
+  abbrev pub breach : Bool → Field N P → List P
+  breach started f = if list_all part_formed (parts f) && pages_formed f && not (started && is_start f) then [] else field_place f ∷ []
+
+  -- the places of all, in order
+  abbrev pub breaches : List (Field N P) → List P
+  breaches fs = walked breach (λ started f. started || is_start f) false fs

@@ -1,0 +1,75 @@
+//! Fields.
+ghost use Rattle.std.specs.Prelude.{◌≡◌, map, not, slice_get, ◌&&◌};
+ghost use Rattle.std.specs.List.{list_all};
+ghost use Rattle.wast_core.specs.FieldTree.{field_place, is_start};
+ghost use Rattle.wast_core.specs.ModuleViews.{field_tree};
+ghost use Rattle.wast_meaning.specs.Mentions.{parts};
+ghost use Rattle.wast_meaning.specs.WellFormed as spec;
+ghost use Rattle.wast_meaning.specs.WellFormed.{part_formed};
+ghost use Rattle.wast_well_formed.specs.Breaches.{breaches};
+
+use crate::parts::parts_formed;
+use wast_core::{MemoryKind, ModuleField};
+use wast_parser::Span;
+
+/// Whether the expressions in a field are formed, a memory with its segment inline has pages whose size fits, and the field isn't a
+/// start function behind another.
+pub fn field_formed(field: &ModuleField<'_>, started: bool) -> bool
+    ensures { result ≡ (list_all part_formed (parts (field_tree field.now)) && spec.pages_formed (field_tree field.now) && not (started && is_start (field_tree field.now))) }
+{
+    parts_formed(field) && pages_formed(field) && !(started && is_start(field))
+}
+
+/// Where the keyword of the first field stands that isn't so, if there is one.
+pub fn first_breach(fields: &[ModuleField<'_>]) -> Option<Span>
+    ensures { result ≡ slice_get (breaches (map field_tree fields.now)) 0 }
+{
+    let mut started = false;
+    for field in fields {
+        if !field_formed(field, started) {
+            return Some(span_of(field));
+        }
+        started = started || is_start(field);
+    }
+    None
+}
+
+/// Whether the size of the pages of a memory whose segment stands inline is 2 to a power below 64, in bytes.
+fn pages_formed(field: &ModuleField<'_>) -> bool
+    ensures { result ≡ spec.pages_formed (field_tree field.now) }
+{
+    match field {
+        ModuleField::Memory(memory) => match &memory.kind {
+            MemoryKind::Inline { page_size_log2, .. } => page_size_log2.unwrap_or(16) < 64,
+            MemoryKind::Import { .. } | MemoryKind::Normal(_) => true,
+        },
+        _ => true,
+    }
+}
+
+fn is_start(field: &ModuleField<'_>) -> bool
+    ensures { result ≡ is_start (field_tree field.now) }
+{
+    matches!(field, ModuleField::Start(_))
+}
+
+/// Where the keyword of a field stands.
+fn span_of(field: &ModuleField<'_>) -> Span
+    ensures { result ≡ field_place (field_tree field.now) }
+{
+    match field {
+        ModuleField::TypeItem(item) => item.span,
+        ModuleField::Rec(group) => group.span,
+        ModuleField::Import(imports) => imports.span,
+        ModuleField::Func(func) => func.span,
+        ModuleField::Table(table) => table.span,
+        ModuleField::Memory(memory) => memory.span,
+        ModuleField::Global(global) => global.span,
+        ModuleField::Export(export) => export.span,
+        ModuleField::Start(start) => start.span,
+        ModuleField::Elem(elem) => elem.span,
+        ModuleField::Data(data) => data.span,
+        ModuleField::Tag(tag) => tag.span,
+        ModuleField::Custom(custom) => custom.span(),
+    }
+}
