@@ -53,6 +53,7 @@ impl<'a> Expression<'a> {
     ) -> Result<Self, Error>
         ensures read { Gives expression_tree result parser.new ((expression instruction instruction_heads instruction_made).reads (ahead parser.old)) }
         ensures keeps { Keeps parser.old parser.new }
+        ensures counted { (n : ℕ) × (steps.new ≡ steps.old + n) × Counts instruction instruction_heads instruction_made (ahead parser.old) result n }
         ensures taken { steps.new + parser.old.at ≤ steps.old + parser.new.at + 1 }
         ensures turns { steps.new ≤ steps.old + length (ahead parser.old) + 1 }
     {

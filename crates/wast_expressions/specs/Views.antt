@@ -90,6 +90,11 @@ abbrev pub refused_turns : {A : Type 0} → Result A Problem → ℕ
 refused_turns (Ok x) = 0
 refused_turns (Err p) = 1
 
--- So many turns were taken from these tokens on.
+-- A loop that answers has ended here; one that is refused has not, and no further turn can be taken, or there was no memory.
+abbrev pub EndsAt : {T A : Type 0} → Syntax Name ℕ T → spec.Heads T → Made ℕ T → Result A Problem → machine.State Name ℕ T → Type 0
+EndsAt ins heads m (Ok x) t = machine.is_done ins heads m t ≡ true
+EndsAt ins heads m (Err p) t = (machine.is_done ins heads m t ≡ false) × Refuses p (machine.step ins heads m t)
+
+-- So many turns were taken from these tokens on, up to where the loop ended or was refused.
 abbrev pub Counts : {T A : Type 0} → Syntax Name ℕ T → spec.Heads T → Made ℕ T → List TextToken → Result A Problem → ℕ → Type 0
-Counts {T} ins heads m ts result n = (t : machine.State Name ℕ T) × (r : machine.Reach ins heads m (machine.is_done ins heads m) (machine.start ins heads m ts) t) × (n ≡ machine.turns ins heads m r + refused_turns result)
+Counts {T} ins heads m ts result n = (t : machine.State Name ℕ T) × (r : machine.Reach ins heads m (machine.is_done ins heads m) (machine.start ins heads m ts) t) × EndsAt ins heads m result t × (n ≡ machine.turns ins heads m r + refused_turns result)

@@ -50,10 +50,10 @@ returns-in-Err-clause-counted g c =
     let r = c.turns.invariant.reach in
     let k = c.tick.ensures in
     let ic = r.1 in
-    (turns T.syntax T.heads T.made r.0 + 1, omega (arith, k, ic), (here T.tree c.turns.work (ahead c.turns.parser), r.0, refl))
+    (turns T.syntax T.heads T.made r.0 + 1, omega (arith, k, ic), (here T.tree c.turns.work (ahead c.turns.parser), r.0, (done_tree T.tree c.turns.work (ahead c.turns.parser) false (sym c.is_done.ensures ∙ c.turns-test.true), c.in-Err.ensures.gives), refl))
 
 pub returns-clause-counted : goal.returns-clause-counted
 returns-clause-counted g c =
     let T = g.I.Operation in
     let r = c.turns.invariant.reach in
-    (turns T.syntax T.heads T.made r.0, r.1, (here T.tree c.turns.work (ahead c.turns.parser), r.0, omega arith))
+    (turns T.syntax T.heads T.made r.0, r.1, (here T.tree c.turns.work (ahead c.turns.parser), r.0, done_tree T.tree c.turns.work (ahead c.turns.parser) true (sym c.is_done.ensures ∙ c.turns-test.false), omega arith))
