@@ -1,6 +1,6 @@
 //! Name spaces.
 
-ghost use Rattle.std.specs.Prelude.{◌≡◌, ◌⊎◌, ℕ, ◌+◌, ◌-◌, ◌^◌, ◌<◌, Bool, true, false, List, [], ◌∷◌, IfErr, IfOk, OnErr, OnOk, None, Some, option_map, length, map};
+ghost use Rattle.std.specs.Prelude.{◌≡◌, ◌⊎◌, ℕ, ◌+◌, ◌-◌, ◌^◌, ◌<◌, Bool, true, false, List, [], ◌∷◌, IfErr, IfOk, OnErr, OnOk, None, Some, is_some, option_map, length, map};
 ghost use Rattle.wast_parser.specs.Tokens.{Name};
 ghost use Rattle.wast_parser.specs.Spelling.{same_name};
 ghost use Rattle.wast_parser.specs.Identifiers.{identifier_tree, index_tree};
@@ -90,12 +90,13 @@ impl<'a> Namespace<'a> {
     /// One more item of a kind, with its identifier or none; answers its number. There are fewer than `u32::MAX` before.
     ///
     /// Where the last doesn't count, refuses a name that means a number, by `duplicate func identifier` at the identifier; else only
-    /// where no memory is found. Nothing is changed then.
+    /// where no memory is found for a name. Nothing is changed then.
     pub fn register(&mut self, name: Option<Id<'a>>, desc: &str) -> Result<u32, Error>
         requires { (space self.old).count < 2 ^ 32 - 1 }
         ensures number { IfOk result (λ number. number ≡ (space self.old).count) }
         ensures grows { OnOk result (space self.new ≡ registered same_name desc.now (space self.old) (name_in (option_map identifier_tree name.entry))) }
         ensures answers { Answers result (fresh desc.now (space self.old) (option_map identifier_tree name.entry)) }
+        ensures named { OnErr result (is_some name.entry ≡ true) }
         ensures refused { OnErr result (space self.new ≡ space self.old) }
     {
         match name {
@@ -127,6 +128,7 @@ impl<'a> Namespace<'a> {
         ensures number { IfOk result (λ number. number_of (space self.now) (index_tree index.old) ≡ Some number) }
         ensures resolved { OnOk result (index_tree index.new ≡ resolved (space self.now) (index_tree index.old)) }
         ensures answers { Answers result (known desc.now (space self.now) (index_tree index.old)) }
+        ensures unknown { OnErr result (number_of (space self.now) (index_tree index.old) ≡ None) }
         ensures refused { OnErr result (index.new ≡ index.old) }
     {
         let number = match index {
