@@ -32,12 +32,13 @@ deserved_writer input count fault deserved = refl
 
 -- a run that ends with the fault that its input deserves, before anything is written
 pub deserved_run : (bound : ℕ) (left left_after held : Option (List ℕ)) (input given : List ℕ) (fault : Fault)
-    → Consumes left left_after given → length given ≤ bound → IfSome left (λ bytes. input ≡ take bound bytes) → Deserves input fault
+    → Consumes left left_after given → length given ≤ bound → input ≡ given → IfSome left (λ bytes. input ≡ take bound bytes) → Deserves input fault
     → Runs bound left left_after held held input (Err fault)
-deserved_run bound left left_after held input given fault consumed bounded whole deserved = record {
+deserved_run bound left left_after held input given fault consumed bounded read whole deserved = record {
   given = given;
   consumed = consumed;
   bounded = bounded;
+  read = λ _. read;
   whole = λ _. whole;
   output = [];
   appended = Appends-nil held;

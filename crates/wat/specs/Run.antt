@@ -29,7 +29,9 @@ pub record Runs (bound : ℕ) (left left_after held held_after : Option (List �
   pub given : List ℕ
   pub consumed : Consumes left left_after given
   pub bounded : length given ≤ bound
-  -- unless it was cut short the input is all that was left, or as much of its front as the bound lets in
+  -- unless it was cut short they are the input
+  pub read : ¬ IsCutShort answer → input ≡ given
+  -- and that is all that was left, or as much of its front as the bound lets in
   pub whole : ¬ IsCutShort answer → IfSome left (λ bytes. input ≡ take bound bytes)
   -- these bytes went out
   pub output : List ℕ

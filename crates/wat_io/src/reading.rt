@@ -29,7 +29,7 @@ pub fn read_within<R: Read>(
 ) -> Result<(), ReadFault>
     requires { input.old.items ≡ [] }
     ensures given { (given : List ℕ) × Consumes (R.remaining reader.old.inner) (R.remaining reader.new.inner) given
-        × (length given ≤ bound) }
+        × (length given ≤ bound) × OnOk result (input.new.items ≡ given) }
     ensures whole { OnOk result (IfSome (R.remaining reader.old.inner) (λ bytes. input.new.items ≡ take bound bytes)) }
     ensures failures { reader.new.failures ≡ after_reading reader.old.failures result }
 {

@@ -9,7 +9,7 @@ returns-in_err-binary-clause-runs g c =
     let back = err_from_is_err_and c.from_residual.result c.from_residual.ensures.1 in
     let given = c.in-Ok.ensures.given in
     rw (back.1, back.2)
-    (deserved_run 4294967296 _ _ _ c.read_within.new.input.items given.0 c.in_err-binary.field-0.0 given.1 given.2
+    (deserved_run 4294967296 _ _ _ c.read_within.new.input.items given.0 c.in_err-binary.field-0.0 given.1 given.2 given.3
     c.in-Ok.ensures.whole
     (subst (λ l. Deserves l c.in_err-binary.field-0.0) c.as_slice.ensures.value c.in_err-binary.ensures.answers))
 

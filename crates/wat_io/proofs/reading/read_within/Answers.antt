@@ -42,7 +42,7 @@ returns-in-Ok-false-clause-given g c =
     let fits : length (c.loop-input.input.items ++ given.0) ≤ c.args.bound =
     within_more c.loop-input.input.items given.0 c.as_mut_slice.result.now c.min-room.result c.args.bound (omega (arith, c.loop-input.input.ok.0))
     (omega (arith, c.loop-input.input.ok.0)) given.2 in
-    (_, Consumes-trans _ _ _ _ _ before.consumed given.1, fits)
+    (_, Consumes-trans _ _ _ _ _ before.consumed given.1, fits, given.3)
 
 pub returns-in-Ok-false-clause-whole : goal.returns-in-Ok-false-clause-whole
 returns-in-Ok-false-clause-whole g c =
@@ -60,7 +60,7 @@ returns-in-Err-clause-given g c =
     let fits : length (c.loop-input.input.items ++ given.0) ≤ c.args.bound =
     within_more c.loop-input.input.items given.0 c.as_mut_slice.result.now c.min-room.result c.args.bound (omega (arith, c.loop-input.input.ok.0))
     (omega (arith, c.loop-input.input.ok.0)) given.2 in
-    (_, Consumes-trans _ _ _ _ _ before.consumed given.1, fits)
+    (_, Consumes-trans _ _ _ _ _ before.consumed given.1, fits, tt)
 
 pub returns-in-Err-clause-failures : goal.returns-in-Err-clause-failures
 returns-in-Err-clause-failures g c =
