@@ -1,9 +1,4 @@
 pub mod Begins
-pub mod Elements
 pub mod Examples
-pub mod ExpressionLaws
-pub mod FieldLaws
-pub mod FieldLeads
-pub mod FieldSamples
 pub mod ModuleLaws
 pub mod ModuleLeads

@@ -12,7 +12,7 @@ use Rattle.wast_exports.proofs.ExportLaws.{export_laws}
 use Rattle.wast_customs.proofs.CustomLaws.{custom_laws}
 use Rattle.wast_imports.proofs.ImportLaws.{head_laws, imports_laws}
 use Rattle.wast_core.specs.ModuleSyntax.{field_starts, start_body, start, defining, describing, defining_starts, field, fields, content, module_body, module_form, bare_module, wat}
-use Rattle.wast_core.proofs.FieldLaws.{tag_laws, global_laws, func_laws, elem_laws, data_laws, memory_laws, table_laws}
+use Rattle.wast_fields.proofs.FieldLaws.{tag_laws, global_laws, func_laws, elem_laws, data_laws, memory_laws, table_laws}
 
 module _ {N P : Type 0} where
   pub start_body_laws : Lawful (start_body {N = N} {P = P})

@@ -4,6 +4,7 @@ use Rattle.wast_parser.specs.Tokens.{Open, Close, Word}
 use Rattle.wast_parser.specs.Look.{this_group}
 use Rattle.wast_parser.specs.Lawful.{Lawful, Leads}
 use Rattle.wast_parser.specs.Grammar.{Syntax, paren}
+use Rattle.wast_parser.specs.Identifiers.{ByNumber}
 use Rattle.wast_parser.proofs.LeadLaws.{seen_leads, either_leads}
 use Rattle.wast_core_types.specs.TypeSyntax.{type_starts, rec_body}
 use Rattle.wast_core_types.proofs.TypeLaws.{rec_group_laws}
@@ -14,18 +15,22 @@ use Rattle.wast_customs.specs.CustomSyntax.{custom_starts}
 use Rattle.wast_customs.proofs.CustomLaws.{custom_leads}
 use Rattle.wast_imports.specs.ImportSyntax.{imports_body}
 use Rattle.wast_imports.proofs.ImportLaws.{imports_laws}
-use Rattle.wast_core.specs.DefinitionSyntax.{definition_body}
-use Rattle.wast_core.specs.FuncSyntax.{func_defined, global_defined, tag_defined}
-use Rattle.wast_core.specs.ElemSyntax.{elem_body}
-use Rattle.wast_core.specs.DataSyntax.{data_body}
-use Rattle.wast_core.specs.TableSyntax.{memory_defined, table_defined}
-use Rattle.wast_core.specs.ModuleSyntax.{start_body, defining_starts, describing_starts, field_starts, defining, describing, field}
-use Rattle.wast_core.proofs.FieldLaws.{tag_laws, global_laws, func_laws, elem_laws, data_laws, memory_laws, table_laws}
+use Rattle.wast_fields.specs.DefinitionSyntax.{definition_body}
+use Rattle.wast_fields.specs.FuncSyntax.{func_defined, global_defined, tag_defined}
+use Rattle.wast_fields.specs.ElemSyntax.{elem_body}
+use Rattle.wast_fields.specs.DataSyntax.{data_body}
+use Rattle.wast_fields.specs.TableSyntax.{memory_defined, table_defined}
+use Rattle.wast_core.specs.ModuleSyntax.{as_start, start_body, defining_starts, describing_starts, field_starts, defining, describing, field}
+use Rattle.wast_fields.proofs.FieldLaws.{tag_laws, global_laws, func_laws, elem_laws, data_laws, memory_laws, table_laws}
 use Rattle.wast_core.proofs.ModuleLaws.{start_laws}
 use Rattle.wast_core.proofs.Begins.{group_begins}
-use Rattle.wast_core.proofs.FieldSamples.{SpelledBehind, func_spelled, table_spelled, memory_spelled, global_spelled, tag_spelled, rec_spelled, import_spelled, export_spelled, start_spelled, elem_spelled, data_spelled}
+use Rattle.wast_fields.proofs.FieldSamples.{SpelledBehind, zero_token, index_spelled, func_spelled, table_spelled, memory_spelled, global_spelled, tag_spelled, rec_spelled, import_spelled, export_spelled, elem_spelled, data_spelled}
 
 module _ {N P : Type 0} where
+  -- tokens that spell the start function
+  start_spelled : P → SpelledBehind {N = N} {P = P} (codes "start") start_body
+  start_spelled p = (p, as_start (p, ByNumber 0 p), zero_token p ∷ [], ((p, ByNumber 0 p), refl, (Word (codes "start") p ∷ [], zero_token p ∷ [], refl, (Word (codes "start") p, refl, refl), index_spelled p)))
+
   -- a group of which what stands in the parentheses is spelled
   paren_begins : {A : Type 0} (w : List ℕ) (g : Syntax N P A) → Lawful (paren g) → (paren g).starts ≡ this_group w ∷ [] → SpelledBehind w g → Leads (paren g).spells (this_group w ∷ [])
   paren_begins w g lg e s = group_begins (paren g) lg w e s.1 s.0 s.0 (s.2 ++ Close s.0 ∷ []) (Word w s.0 ∷ s.2, s.0, s.0, refl, s.3)

@@ -1,11 +1,3 @@
-pub mod FieldTree
-pub mod DefinitionSyntax
-pub mod FuncSyntax
-pub mod ElemSyntax
-pub mod DataSyntax
-pub mod TableSyntax
 pub mod ModuleSyntax
-pub mod FieldViews
-pub mod ElemViews
 pub mod ModuleViews
 pub mod Laws

@@ -7,11 +7,11 @@ use Rattle.wast_core_types.specs.TypeSyntax.{type_starts, type_item, rec_group}
 use Rattle.wast_exports.specs.Exports.{export_starts, import_starts, export}
 use Rattle.wast_customs.specs.CustomSyntax.{custom_starts, custom}
 use Rattle.wast_imports.specs.ImportSyntax.{Head, head, imports}
-use Rattle.wast_core.specs.FieldTree.{Start, Field, TypeField, RecField, ImportField, Define, ExportField, StartField, ElemField, DataField, CustomField, field_place, one_start, Content, Fields, Pieces, Module}
-use Rattle.wast_core.specs.FuncSyntax.{func, global, tag}
-use Rattle.wast_core.specs.TableSyntax.{table, memory}
-use Rattle.wast_core.specs.ElemSyntax.{elem}
-use Rattle.wast_core.specs.DataSyntax.{data_segment}
+use Rattle.wast_fields.specs.FieldTree.{Start, Field, TypeField, RecField, ImportField, Define, ExportField, StartField, ElemField, DataField, CustomField, field_place, one_start, Content, Fields, Pieces, Module}
+use Rattle.wast_fields.specs.FuncSyntax.{func, global, tag}
+use Rattle.wast_fields.specs.TableSyntax.{table, memory}
+use Rattle.wast_fields.specs.ElemSyntax.{elem}
+use Rattle.wast_fields.specs.DataSyntax.{data_segment}
 
 -- what fields begin with, and among them those that define something
 abbrev pub defining_starts : List Test

@@ -1,19 +1,23 @@
 -- What the grammar sees of the code's fields as such, and of its modules.
 use Rattle.std.specs.Prelude.{ℕ, List, map, option_map}
 use Rattle.wast_grammar.specs.Tokens.{Name}
-use Rattle.wast_parser.specs.Identifiers.{identifier_tree}
+use Rattle.wast_parser.specs.Identifiers.{identifier_tree, index_tree}
 use Rattle.wast_core_types.specs.TypeViews.{name_tree, item_tree, rec_tree}
 use Rattle.wast_exports.specs.ExportViews.{export_tree}
 use Rattle.wast_customs.specs.CustomViews.{custom_tree}
 use Rattle.wast_imports.specs.ImportViews.{imports_tree}
-use Rattle.wast_core.specs.FieldTree as spec
-use Rattle.wast_core.specs.FieldViews.{start_tree, tag_definition, global_definition, func_definition, memory_definition, data_tree}
-use Rattle.wast_core.specs.ElemViews.{elem_tree, table_definition}
+use Rattle.wast_fields.specs.FieldTree as spec
+use Rattle.wast_fields.specs.FieldViews.{tag_definition, global_definition, func_definition, memory_definition, data_tree}
+use Rattle.wast_fields.specs.ElemViews.{elem_tree, table_definition}
+use Rattle.wast_core.specs.declared.start.Start.{Start}
 use Rattle.wast_core.specs.declared.field.ModuleField.{ModuleField}
 use Rattle.wast_core.specs.declared.field.ModuleField.TheVariants as fields
 use Rattle.wast_core.specs.declared.module.ModuleKind.{ModuleKind}
 use Rattle.wast_core.specs.declared.module.ModuleKind.TheVariants as contents
 use Rattle.wast_core.specs.declared.module.Module.{Module}
+
+abbrev pub start_tree : Start → spec.Start Name ℕ
+start_tree s = record { place = s.span; func = index_tree s.func }
 
 abbrev pub field_tree : ModuleField → spec.Field Name ℕ
 field_tree (fields.TypeItem t) = spec.TypeField (item_tree t)

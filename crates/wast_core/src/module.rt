@@ -4,8 +4,8 @@ ghost use Rattle.wast_grammar.specs.Tokens.{Name};
 ghost use Rattle.wast_parser.specs.Lawful.{Lawful};
 ghost use Rattle.wast_parser.specs.State.{ahead, Keeps};
 ghost use Rattle.wast_parser.specs.Reading.{Gives};
-ghost use Rattle.wast_core.specs.FieldTree as spec;
-ghost use Rattle.wast_core.specs.FieldTree.{one_start};
+ghost use Rattle.wast_fields.specs.FieldTree as spec;
+ghost use Rattle.wast_fields.specs.FieldTree.{one_start};
 ghost use Rattle.wast_core.specs.ModuleSyntax.{fields, content, module_form};
 ghost use Rattle.wast_core.specs.ModuleViews.{field_tree, content_tree, module_tree};
 

@@ -2,9 +2,9 @@
 ghost use Rattle.std.specs.Prelude.{◌≡◌, ℕ, List};
 ghost use Rattle.wast_grammar.specs.Tokens.{Name};
 ghost use Rattle.wast_parser.specs.Lawful.{Lawful};
-ghost use Rattle.wast_core.specs.FieldTree as spec;
+ghost use Rattle.wast_fields.specs.FieldTree as spec;
 ghost use Rattle.wast_core.specs.ModuleSyntax.{start};
-ghost use Rattle.wast_core.specs.FieldViews.{start_tree};
+ghost use Rattle.wast_core.specs.ModuleViews.{start_tree};
 
 use wast_lexer::Span;
 use wast_parser::{Error, Index, LParen, Meaning, Parse, Parser, RParen};

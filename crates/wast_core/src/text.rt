@@ -4,8 +4,8 @@ ghost use Rattle.wast_grammar.specs.Tokens.{Name};
 ghost use Rattle.wast_parser.specs.Lawful.{Lawful};
 ghost use Rattle.wast_parser.specs.State.{ahead, Keeps};
 ghost use Rattle.wast_parser.specs.Reading.{Gives};
-ghost use Rattle.wast_core.specs.FieldTree as spec;
-ghost use Rattle.wast_core.specs.FieldTree.{field_place};
+ghost use Rattle.wast_fields.specs.FieldTree as spec;
+ghost use Rattle.wast_fields.specs.FieldTree.{field_place};
 ghost use Rattle.wast_core.specs.ModuleSyntax.{bare_module, wat};
 ghost use Rattle.wast_core.specs.ModuleViews.{field_tree, module_tree};
 

@@ -13,7 +13,7 @@ use Rattle.wast_core_instr.specs.InstructionTree.{One, Two, Ordered, Resume}
 use Rattle.wast_exports.specs.Exports as exports
 use Rattle.wast_imports.specs.ImportTree.{OfFunc, Single, Group1, Group2}
 use Rattle.wast_data.specs.DataTree.{Text}
-use Rattle.wast_core.specs.FieldTree.{Global, Field, Indices, Expressions, Imported, Func, Table, TableOf, Memory, MemoryOf, Tag, TypeField, ImportField}
+use Rattle.wast_fields.specs.FieldTree.{Global, Field, Indices, Expressions, Imported, Func, Table, TableOf, Memory, MemoryOf, Tag, TypeField, ImportField}
 use Rattle.wast_meaning.specs.Written.{pages, exactly, zero_offset, written_out, by_counter}
 use Rattle.wast_meaning.specs.Spaces.{space_word, denotes, denotes_field}
 use Rattle.wast_meaning.specs.Scope.{label}

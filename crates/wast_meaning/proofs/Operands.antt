@@ -15,7 +15,7 @@ use Rattle.wast_operands.specs.OperandTree as operand
 use Rattle.wast_typed_operands.specs.TypedTree.{CatchTag, CatchTagRef, CatchAll, CatchAllRef}
 use Rattle.wast_core_instr.specs.InstructionTree as instr
 use Rattle.wast_core_instr.specs.InstructionTree.{Operands, Instruction}
-use Rattle.wast_core.specs.FieldTree.{Func, Table, Memory, Global, Tag, Field, ElemField, PassiveElem, Indices}
+use Rattle.wast_fields.specs.FieldTree.{Func, Table, Memory, Global, Tag, Field, ElemField, PassiveElem, Indices}
 use Rattle.wast_meaning.specs.Spaces.{space_word}
 use Rattle.wast_meaning.specs.Demands.{all_demands}
 use Rattle.wast_meaning.specs.Numbered.{resolved}

@@ -15,7 +15,7 @@ use Rattle.wast_value_types.specs.ValueTree.{RefType, ValType}
 use Rattle.wast_core_types.specs.TypeTree.{TypeUse}
 use Rattle.wast_core_instr.specs.InstructionTree.{Instruction}
 use Rattle.wast_imports.specs.ImportTree.{ExternType, OfFunc, OfExactFunc, OfTable, OfMemory, OfGlobal, OfTag, Item, ImportItems, Single, Group1, Group2}
-use Rattle.wast_core.specs.FieldTree.{Expr, Function, Elements, Indices, Expressions, Defined, Imported, Func, Table, TableOf, Memory, MemoryOf, Global, Tag, ElemMode, PassiveElem, DeclaredElem, ActiveElem, DataMode, PassiveData, ActiveData, Field, TypeField, RecField, ImportField, Define, ExportField, StartField, ElemField, DataField, CustomField}
+use Rattle.wast_fields.specs.FieldTree.{Expr, Function, Elements, Indices, Expressions, Defined, Imported, Func, Table, TableOf, Memory, MemoryOf, Global, Tag, ElemMode, PassiveElem, DeclaredElem, ActiveElem, DataMode, PassiveData, ActiveData, Field, TypeField, RecField, ImportField, Define, ExportField, StartField, ElemField, DataField, CustomField}
 use Rattle.wast_meaning.specs.Written.{space_of_kind}
 use Rattle.wast_meaning.specs.Mentions.{Mention, Refers, Uses, Part, Says, Constant, Body, ref_mentions, val_mentions, local_mentions, type_mentions, refers_if, instr_mentions, expr_mentions, extern_mentions, import_mentions, says, elements_parts, defined_parts, elem_mode_parts, data_mode_parts, part_mentions, field_mentions}
 use Rattle.wast_meaning.specs.Scope.{Scope, scope_of, scope_at, with_locals, locals_of}

@@ -17,7 +17,7 @@ use Rattle.wast_core_instr.specs.InstructionTree.{Operands, NoOperands, Label, B
 use Rattle.wast_exports.specs.Exports.{ExportKind}
 use Rattle.wast_imports.specs.ImportTree.{ExternType, OfFunc, Item, ImportItems, Single}
 use Rattle.wast_data.specs.DataTree.{DataVal}
-use Rattle.wast_core.specs.FieldTree.{Expr, Elements, Defined, Func, PassiveData, ActiveData, ActiveElem, Field, TypeField, RecField, ImportField, Define, ExportField, StartField, ElemField, DataField}
+use Rattle.wast_fields.specs.FieldTree.{Expr, Elements, Defined, Func, PassiveData, ActiveData, ActiveElem, Field, TypeField, RecField, ImportField, Define, ExportField, StartField, ElemField, DataField}
 use Rattle.wast_meaning.specs.Written.{written_out}
 use Rattle.wast_meaning.specs.Implied.{implied}
 use Rattle.wast_meaning.specs.Demands.{all_demands}

@@ -9,7 +9,7 @@ use Rattle.wast_names.specs.Space.{name_in}
 use Rattle.wast_core_types.specs.TypeTree.{Sig, TypeUse}
 use Rattle.wast_mnemonics.specs.Heads.{Head, Listed, Unlisted}
 use Rattle.wast_core_instr.specs.InstructionTree.{Operands, Instruction, Block, TryTable}
-use Rattle.wast_core.specs.FieldTree.{Function, Field}
+use Rattle.wast_fields.specs.FieldTree.{Function, Field}
 use Rattle.wast_meaning.specs.Spaces.{items_in, denotes, denotes_field}
 use Rattle.wast_meaning.specs.Implied.{no_sig, sig_at, type_count}
 

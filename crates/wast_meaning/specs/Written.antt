@@ -9,7 +9,7 @@ use Rattle.wast_core_instr.specs.InstructionTree.{Integer}
 use Rattle.wast_exports.specs.Exports as exports
 use Rattle.wast_imports.specs.ImportTree.{ExternType, OfFunc, OfExactFunc, OfTable, OfMemory, OfGlobal, OfTag, Single}
 use Rattle.wast_data.specs.DataTree.{byte_count}
-use Rattle.wast_core.specs.FieldTree.{Expr, Elements, Indices, Expressions, Defined, Imported, Func, Table, TableOf, Memory, MemoryOf, Global, Tag, Definition, ActiveElem, ActiveData, Field, ImportField, Define, ExportField, ElemField, DataField}
+use Rattle.wast_fields.specs.FieldTree.{Expr, Elements, Indices, Expressions, Defined, Imported, Func, Table, TableOf, Memory, MemoryOf, Global, Tag, Definition, ActiveElem, ActiveData, Field, ImportField, Define, ExportField, ElemField, DataField}
 
 abbrev pub space_of_kind : exports.ExportKind → Space
 space_of_kind exports.Func = Functions

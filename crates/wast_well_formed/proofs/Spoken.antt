@@ -5,14 +5,14 @@ use Rattle.std.proofs.lemmas.List.Folds.{list_all-append}
 use Rattle.wast_core_types.specs.TypeViews.{item_tree, rec_tree}
 use Rattle.wast_imports.specs.ImportViews.{imports_tree}
 use Rattle.wast_imports.specs.declared.item.TagType.{TagType}
-use Rattle.wast_core.specs.FieldViews.{defined_memory, defined_tag}
+use Rattle.wast_fields.specs.FieldViews.{defined_memory, defined_tag}
 use Rattle.wast_core.specs.ModuleViews.{field_tree}
 use Rattle.wast_core.specs.declared.field.ModuleField.{ModuleField}
 use Rattle.wast_core.specs.declared.field.ModuleField.TheVariants as fields
-use Rattle.wast_core.specs.declared.memory.MemoryKind.{MemoryKind}
-use Rattle.wast_core.specs.declared.memory.MemoryKind.TheVariants as memories
-use Rattle.wast_core.specs.declared.tag.TagKind.{TagKind}
-use Rattle.wast_core.specs.declared.tag.TagKind.TheVariants as tags
+use Rattle.wast_fields.specs.declared.memory.MemoryKind.{MemoryKind}
+use Rattle.wast_fields.specs.declared.memory.MemoryKind.TheVariants as memories
+use Rattle.wast_fields.specs.declared.tag.TagKind.{TagKind}
+use Rattle.wast_fields.specs.declared.tag.TagKind.TheVariants as tags
 use Rattle.wast_meaning.specs.Mentions.{Mention, Part, says, type_mentions, import_mentions, defined_parts, parts}
 use Rattle.wast_meaning.specs.WellFormed.{part_formed}
 

@@ -2,7 +2,7 @@
 use Rattle.std.specs.Prelude.{Bool, false, ◌&&◌, ◌||◌, not, if◌then◌else◌, List, [], ◌∷◌}
 use Rattle.std.specs.List.{list_all}
 use Rattle.wast_names.specs.Walk.{walked}
-use Rattle.wast_core.specs.FieldTree.{Field, is_start, field_place}
+use Rattle.wast_fields.specs.FieldTree.{Field, is_start, field_place}
 use Rattle.wast_meaning.specs.Mentions.{parts}
 use Rattle.wast_meaning.specs.WellFormed.{part_formed, pages_formed}
 

@@ -1,7 +1,7 @@
 //! Fields.
 ghost use Rattle.std.specs.Prelude.{◌≡◌, map, not, slice_get, ◌&&◌};
 ghost use Rattle.std.specs.List.{list_all};
-ghost use Rattle.wast_core.specs.FieldTree.{field_place, is_start};
+ghost use Rattle.wast_fields.specs.FieldTree.{field_place, is_start};
 ghost use Rattle.wast_core.specs.ModuleViews.{field_tree};
 ghost use Rattle.wast_meaning.specs.Mentions.{parts};
 ghost use Rattle.wast_meaning.specs.WellFormed as spec;

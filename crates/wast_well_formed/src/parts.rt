@@ -2,8 +2,8 @@
 ghost use Rattle.std.specs.Prelude.{◌≡◌, ◌++◌, map, option_map, option_to_list};
 ghost use Rattle.std.specs.List.{list_all};
 ghost use Rattle.wast_core_instr.specs.ExpressionViews.{expression_tree};
-ghost use Rattle.wast_core.specs.FieldViews.{data_tree, func_definition, global_definition};
-ghost use Rattle.wast_core.specs.ElemViews.{elem_tree, elements_tree, mode_tree, table_definition};
+ghost use Rattle.wast_fields.specs.FieldViews.{data_tree, func_definition, global_definition};
+ghost use Rattle.wast_fields.specs.ElemViews.{elem_tree, elements_tree, mode_tree, table_definition};
 ghost use Rattle.wast_core.specs.ModuleViews.{field_tree};
 ghost use Rattle.wast_meaning.specs.Mentions.{Constant, data_mode_parts, defined_parts, elem_mode_parts, elements_parts, parts};
 ghost use Rattle.wast_meaning.specs.WellFormed.{part_formed};

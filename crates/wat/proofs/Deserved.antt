@@ -6,7 +6,7 @@ use Rattle.wast_grammar.specs.Tokens.{Name}
 use Rattle.wat.specs.declared.fault.Fault.{Fault}
 use Rattle.wat.specs.declared.fault.Fault.TheVariants as faults
 use Rattle.wast_parser.specs.Problem.{Problem, is_memory}
-use Rattle.wast_core.specs.FieldTree.{Module}
+use Rattle.wast_fields.specs.FieldTree.{Module}
 use Rattle.wat_profile.specs.Profile.{Func, profile}
 use Rattle.wat_profile.specs.StandsFor.{meant}
 use Rattle.wat.specs.Means.{Spells}
@@ -20,7 +20,7 @@ use Rattle.wat.proofs.Verdict.{one_condition}
 pub misspelled : (bytes : List ℕ) (error : Problem) → length bytes < 2 ^ 32 → IsUtf8 bytes → is_memory error.cause ≡ false → IsUnspelled bytes error → Deserves bytes (faults.Spelling error)
 misspelled bytes error short utf8 m u = elim u [
   | inl t ↦ (let e : true ≡ false = sym t ∙ m in absurd (cc))
-  | inr none ↦ (short, utf8, none)
+  | inr none ↦ ((short, utf8, none), m)
 ]
 
 pub no_text : (bytes : List ℕ) (f : Fault) → IsNoText bytes f → Deserves bytes f

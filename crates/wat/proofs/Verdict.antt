@@ -1,6 +1,6 @@
 -- A text means one module, and an input deserves one verdict.
 use Rattle.std.proofs.Common.{ℕ, zero, suc, true, false, [], ◌∷◌, ◌≡◌, ◌<◌, ◌≤◌, ◌^◌, Option, Some, None, List, length, take, refl, sym, ap, subst, ◌∙◌, arith, take_all, inl, inr, ⊎_elim}
-use Rattle.wast_core.specs.FieldTree.{Module}
+use Rattle.wast_fields.specs.FieldTree.{Module}
 use Rattle.wat.specs.Means.{Spells}
 use Rattle.std.proofs.lemmas.Bool.{cases_lt, cases_Bool}
 use Rattle.std.proofs.lemmas.Str.{IsUtf8-nil, IsUtf8-from_is_utf8, is_utf8-from_IsUtf8}

@@ -3,10 +3,11 @@
 -- stand for what it must, and that a form isn't written to binaries, each with its place, and their lines in `Deserves`; to
 -- `Accepts` the bytes that a `binary` module spells, by which no module is meant, and whose binary they are; and to
 -- `Assembles` the case of a custom section with a reserved name, of whose binary `Lays` alone is promised and not `Reads`.
-use Rattle.std.specs.Prelude.{ℕ, ◌≡◌, ◌<◌, ◌≤◌, ◌^◌, List, None, codes, length}
+use Rattle.std.specs.Prelude.{ℕ, ◌≡◌, ◌<◌, ◌≤◌, ◌^◌, false, List, None, codes, length}
 use Rattle.std.specs.Str.{IsUtf8, IsValidUpTo}
 use Rattle.wast_grammar.specs.Tokens.{Name}
-use Rattle.wast_core.specs.FieldTree.{Module}
+use Rattle.wast_parser.specs.Problem.{is_memory}
+use Rattle.wast_fields.specs.FieldTree.{Module}
 use Rattle.wat_profile.specs.AbstractModule.{AbstractModule}
 use Rattle.wat_profile.specs.Layout.{Fits, Reads}
 use Rattle.wat_profile.specs.Profile.{profile}
@@ -51,7 +52,7 @@ Assembles bytes binary = (m : AbstractModule (List ℕ)) × Accepts bytes m × R
 abbrev pub Deserves : List ℕ → Fault → Type 0
 Deserves bytes faults.TooLong = Fails bytes TooLong
 Deserves bytes (faults.NotUtf8 offset) = Fails bytes (NotUtf8 offset)
-Deserves bytes (faults.Spelling error) = Fails bytes Misspelled
+Deserves bytes (faults.Spelling error) = Fails bytes Misspelled × (is_memory error.cause ≡ false)
 Deserves bytes (faults.Uncovered span form) = Fails bytes (NotYet span) × (form.now ≡ codes "not yet")
 Deserves bytes faults.TooLarge = (m : AbstractModule (List ℕ)) × Accepts bytes m × IsTooLarge m
 Deserves bytes faults.Memory = Unit {0}

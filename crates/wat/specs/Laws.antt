@@ -2,7 +2,7 @@
 use Rattle.std.specs.Prelude.{ℕ, ◌≡◌, ◌↔◌, List}
 use Rattle.wasm_encoder_base.specs.Unique.{Unique, Any}
 use Rattle.wast_grammar.specs.Tokens.{Name, SignificantToken}
-use Rattle.wast_core.specs.FieldTree.{Module}
+use Rattle.wast_fields.specs.FieldTree.{Module}
 use Rattle.wast_core.specs.ModuleSyntax.{wat}
 use Rattle.wat_profile.specs.AbstractModule.{AbstractModule}
 use Rattle.wat_profile.specs.Layout.{section, Lays, Reads}

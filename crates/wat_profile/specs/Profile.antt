@@ -8,7 +8,7 @@ use Rattle.wast_parser.specs.Spelling.{◌>>=◌}
 use Rattle.wast_parser.specs.Identifiers.{Named}
 use Rattle.wast_mnemonics.specs.Heads.{Head, Listed}
 use Rattle.wast_core_instr.specs.InstructionTree as tree
-use Rattle.wast_core.specs.FieldTree as tree_fields
+use Rattle.wast_fields.specs.FieldTree as tree_fields
 
 -- a function: the names under which it is exported, and its body
 pub record Func : Type 0 where

@@ -2,7 +2,7 @@
 -- become indices.
 use Rattle.std.specs.Prelude.{ℕ, ◌≡◌, ◌+◌, List, [], ◌∷◌, ◌++◌, map, Some}
 use Rattle.wasm_encoder_base.specs.Types.{FuncType}
-use Rattle.wast_core.specs.FieldTree.{Module}
+use Rattle.wast_fields.specs.FieldTree.{Module}
 use Rattle.wat_profile.specs.Profile.{Func as ProfileFunc, profile}
 use Rattle.wat_profile.specs.AbstractModule.{AbstractModule, Function, Func, Export}
 

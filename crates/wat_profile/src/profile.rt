@@ -2,7 +2,7 @@
 ghost use Rattle.std.specs.Prelude.{◌≡◌, ◌&&◌, IfOk, is_some, map, not, option_map};
 ghost use Rattle.wast_core_instr.specs.InstructionViews.{instruction_tree};
 ghost use Rattle.wast_exports.specs.ExportViews.{export_name_tree};
-ghost use Rattle.wast_core.specs.FieldViews.{func_definition};
+ghost use Rattle.wast_fields.specs.FieldViews.{func_definition};
 ghost use Rattle.wast_core.specs.ModuleViews.{field_tree, module_tree};
 ghost use Rattle.wat_profile.specs.Profile.{all_of, is_none_of, instr_of, func_of, field_of, profile};
 ghost use Rattle.wat_profile.specs.Encoding.{instr_view, func_tree};

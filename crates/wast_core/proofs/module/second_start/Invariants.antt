@@ -1,5 +1,5 @@
 use Rattle.std.proofs.Common.{◌≡◌, map, drop, cond}
-use Rattle.wast_core.specs.FieldTree.{one_start, no_start}
+use Rattle.wast_fields.specs.FieldTree.{one_start, no_start}
 use Rattle.wast_core.specs.ModuleViews.{field_tree}
 use Rattle.wast_core.proofs.module.second_start.Given as goal
 

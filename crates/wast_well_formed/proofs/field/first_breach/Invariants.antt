@@ -1,6 +1,6 @@
 use Rattle.std.proofs.Common.{◌≡◌, ◌||◌, map, drop, slice_get}
 use Rattle.wast_names.specs.Walk.{walked}
-use Rattle.wast_core.specs.FieldTree.{is_start}
+use Rattle.wast_fields.specs.FieldTree.{is_start}
 use Rattle.wast_core.specs.ModuleViews.{field_tree}
 use Rattle.wast_well_formed.specs.Breaches.{breach, breaches}
 use Rattle.wast_well_formed.proofs.field.first_breach.Given as goal
