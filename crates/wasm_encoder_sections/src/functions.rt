@@ -87,23 +87,3 @@ impl Section for FunctionSection {
         SectionId::Function.into()
     }
 }
-
-#[cfg(test)]
-mod tests {
-    use crate::FunctionSection;
-    use std::test::Fail;
-    use wasm_encoder_base::{EncodeError, EncodedList};
-
-    /// As many functions as a section can have.
-    #[test]
-    fn one_too_many(rt: HostRuntime) -> Result<(), Fail> {
-        let mut section = FunctionSection {
-            types: EncodedList::from_parts(u32::MAX, Vec::new(rt.alloc())),
-        };
-        let is_refused = matches!(section.function(0), Err(EncodeError::TooLarge));
-        assert!(rt; is_refused);
-        assert_eq!(rt; section.len(), u32::MAX);
-        assert_eq!(rt; section.types.as_bytes().len(), 0);
-        Ok(())
-    }
-}

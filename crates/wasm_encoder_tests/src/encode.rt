@@ -2,7 +2,7 @@
 
 use std::alloc::Global;
 use std::test::Fail;
-use wasm_encoder_base::{Encode, EncodeError, Items};
+use wasm_encoder_base::{Encode, EncodeError, EncodedList, Items};
 use wasm_encoder_code::{ConstExpr, Function, Instruction, VectorFloatOp};
 
 /// Whether the value is encoded.
@@ -80,4 +80,14 @@ fn refused_growths_of_instructions(rt: HostRuntime) -> Result<(), Fail> {
     }
     assert_eq!(rt; sink.len(), 103);
     Ok(())
+}
+
+/// As many items as a list can have.
+#[test]
+fn one_item_too_many(rt: HostRuntime) {
+    let mut list = EncodedList::from_parts(u32::MAX, Vec::new(rt.alloc()));
+    let is_refused = matches!(list.append(&0u32), Err(EncodeError::TooLarge));
+    assert!(rt; is_refused);
+    assert_eq!(rt; list.len(), u32::MAX);
+    assert_eq!(rt; list.as_bytes().len(), 0);
 }

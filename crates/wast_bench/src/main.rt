@@ -1,5 +1,5 @@
-//! Measures lexer, token table and parser on generated texts, beside a plain scan of their bytes: functions whose bodies are flat,
-//! the same folded, data segments, and the instructions of one body, flat and folded.
+//! Measures lexer, token table and the whole assembler on generated texts, beside a plain scan of their bytes: functions whose
+//! bodies are flat, the same folded, data segments, and one function of many instructions, flat and folded.
 #![tactic(auto)]
 
 ghost use Rattle.std.specs.Prelude.{◌<◌, ◌^◌, IfOk, length};
@@ -8,10 +8,9 @@ ghost use Rattle.wast_parser.specs.Cursors.{Follows};
 use std::alloc::{AllocError, Global};
 use std::time::{Duration, Instant};
 use std::{env, io};
-use wast_core::Expression;
 use wast_lexer::{Lexer, TokenTable};
 use wast_parser::{Cursor, Error, ParseBuffer, Parser};
-use wat::Wat;
+use wat::{Fault, assemble};
 
 /// A function with a flat body.
 const FLAT: &[u8] =
@@ -33,6 +32,9 @@ const FLAT_BODY: &[u8] =
 const FOLDED_BODY: &[u8] =
     b"(drop (i32.mul (i32.add (local.get $x) (i32.const 0xff_ff)) (; x ;) (block (nop)) (i32.const 0)))\n";
 
+/// How many times the part of a text stands in it.
+const COUNT: u32 = 75_000;
+
 /// How often each measure is taken; the last one counts.
 const ROUNDS: u32 = 3;
 
@@ -46,27 +48,37 @@ fn main(rt: HostRuntime) -> io::Result<()> {
     if !measured {
         return println!(rt; "say `measure` to measure them");
     }
-    measure_fields(&rt, "functions, flat", FLAT)?;
-    measure_fields(&rt, "functions, folded", FOLDED)?;
-    measure_fields(&rt, "data segments", DATA)?;
-    measure_body(&rt, "an expression, flat", FLAT_BODY)?;
-    measure_body(&rt, "an expression, folded", FOLDED_BODY)
+    measure_text(&rt, "functions, flat", b"(module\n", FLAT, b")")?;
+    measure_text(&rt, "functions, folded", b"(module\n", FOLDED, b")")?;
+    measure_text(&rt, "data segments", b"(module\n", DATA, b")")?;
+    measure_text(
+        &rt,
+        "a body, flat",
+        b"(func (param $x i32)\n",
+        FLAT_BODY,
+        b")",
+    )?;
+    measure_text(
+        &rt,
+        "a body, folded",
+        b"(func (param $x i32)\n",
+        FOLDED_BODY,
+        b")",
+    )
 }
 
-fn measure_fields(rt: &HostRuntime, name: &str, field: &[u8]) -> io::Result<()> {
+/// Measures a text of many times a part.
+fn measure_text(
+    rt: &HostRuntime,
+    name: &str,
+    before: &[u8],
+    part: &[u8],
+    after: &[u8],
+) -> io::Result<()> {
     println!(rt; "{name}:")?;
-    let bytes = repeated(rt.alloc(), b"(module\n", field, 75_000, b")")?;
+    let bytes = repeated(rt.alloc(), before, part, COUNT, after)?;
     match std::str::from_utf8(bytes.as_slice()) {
         Ok(text) => measure(rt, text),
-        Err(_) => Ok(()),
-    }
-}
-
-fn measure_body(rt: &HostRuntime, name: &str, instructions: &[u8]) -> io::Result<()> {
-    println!(rt; "{name}:")?;
-    let bytes = repeated(rt.alloc(), b"", instructions, 120_000, b"")?;
-    match std::str::from_utf8(bytes.as_slice()) {
-        Ok(text) => measure_expression(rt, text),
         Err(_) => Ok(()),
     }
 }
@@ -86,23 +98,6 @@ fn repeated(
     }
     bytes.extend_from_slice(after)?;
     Ok(bytes)
-}
-
-fn measure_expression(rt: &HostRuntime, text: &str) -> io::Result<()> {
-    if 4_294_967_295 < text.len() {
-        return Ok(());
-    }
-    for _ in 0..ROUNDS {
-        measure_lexer(rt, text)?;
-        let Ok(buffer) = ParseBuffer::new(rt.alloc(), text) else {
-            return println!(rt; "out of memory");
-        };
-        let start = Instant::now(rt)?;
-        let read = wast_parser::parse::<Expression>(&buffer).is_ok();
-        let bytes = speed(text.len(), start.elapsed(rt)?);
-        println!(rt; "table to expression: {bytes} MB/s, read: {read}")?;
-    }
-    Ok(())
 }
 
 fn measure(rt: &HostRuntime, text: &str) -> io::Result<()> {
@@ -151,13 +146,13 @@ fn measure_parser(rt: &HostRuntime, text: &str) -> io::Result<()>
     print_speed(rt, "tokens taken by step", text, count, start.elapsed(rt)?)?;
 
     let start = Instant::now(rt)?;
-    let Ok(buffer) = ParseBuffer::new(rt.alloc(), text) else {
-        return println!(rt; "out of memory");
+    let answer = match assemble(rt.alloc(), text.as_bytes()) {
+        Ok(_) => "a binary",
+        Err(Fault::Uncovered { .. }) => "a form that is not encoded yet",
+        Err(_) => "a fault",
     };
-    let read = wast_parser::parse::<Wat>(&buffer).is_ok();
-    let spent = start.elapsed(rt)?;
-    let bytes = speed(text.len(), spent);
-    println!(rt; "text to tree, with its table: {bytes} MB/s, read: {read}")
+    let bytes = speed(text.len(), start.elapsed(rt)?);
+    println!(rt; "text to binary: {bytes} MB/s, answers {answer}")
 }
 
 /// How many tokens are taken, one at a time, up to this number.

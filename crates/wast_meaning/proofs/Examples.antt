@@ -1,28 +1,31 @@
 -- Worked examples, computed: what is written out, what names mean, what is implied, demands in their order, breaches, numbers.
-use Rattle.std.specs.Prelude.{ℕ, List, pos, true, false, ◌≡◌, [], ◌∷◌, map, Some, None, codes}
+use Rattle.std.specs.Prelude.{ℕ, List, pos, true, false, ◌≡◌, [], ◌∷◌, map, Option, Some, None, codes}
 use Rattle.std.proofs.Common.{refl}
 use Rattle.wasm_encoder_base.specs.Uncovered as uncovered
 use Rattle.wasm_encoder_base.specs.Table.{Functions, Datas}
 use Rattle.wast_parser.specs.Identifiers.{Reference, ByNumber, ByName}
-use Rattle.wast_names.specs.Demand.{ImportAfter, Duplicate, Unknown, TypeMismatch, LabelMismatch, words}
+use Rattle.wast_parser.specs.Problem.{Problem}
+use Rattle.wast_names.specs.Demand.{ImportAfter, Duplicate, Unknown, TypeMismatch, LabelMismatch, words, told}
 use Rattle.wast_value_types.specs.ValueTree.{Concrete, Packed, I8, Value}
 use Rattle.wast_core_types.specs.TypeTree.{FuncType, StructType}
 use Rattle.wast_operands.specs.OperandTree.{SeqCst, OnLabel}
 use Rattle.wast_typed_operands.specs.TypedTree.{CatchTag, CatchAll}
 use Rattle.wast_core_instr.specs.InstructionTree.{One, Two, Ordered, Resume}
 use Rattle.wast_exports.specs.Exports as exports
-use Rattle.wast_imports.specs.ImportTree.{OfFunc, Single, Group1, Group2}
+use Rattle.wast_imports.specs.ImportTree.{OfFunc, OfTag, Single, Group1, Group2}
 use Rattle.wast_data.specs.DataTree.{Text}
-use Rattle.wast_fields.specs.FieldTree.{Global, Field, Indices, Expressions, Imported, Func, Table, TableOf, Memory, MemoryOf, Tag, TypeField, ImportField}
+use Rattle.wast_fields.specs.FieldTree.{Global, Field, Indices, Expressions, Imported, Func, Table, TableOf, Memory, MemoryOf, Tag, TypeField, ImportField, Content, Fields, Pieces, Module}
 use Rattle.wast_meaning.specs.Written.{pages, exactly, zero_offset, written_out, by_counter}
-use Rattle.wast_meaning.specs.Spaces.{space_word, denotes, denotes_field}
-use Rattle.wast_meaning.specs.Scope.{label}
+use Rattle.wast_meaning.specs.Spaces.{space_word, fields_at, denotes, listed}
+use Rattle.wast_meaning.specs.Scope.{label_space}
 use Rattle.wast_meaning.specs.Demands.{definition_word}
 use Rattle.wast_meaning.specs.WellFormed.{first_breach}
 use Rattle.wast_meaning.specs.Numbered.{numbered, resolved}
 use Rattle.wast_meaning.specs.Fresh.{is_fresh}
+use Rattle.wast_meaning.specs.Room.{has_room, have_room}
+use Rattle.wast_meaning.specs.Modules.{module_breaches, module_refusal}
 use Rattle.wast_grammar.specs.Spelling.{same_name}
-use Rattle.wast_meaning.proofs.Words.{W, param, sub, group, imports, a_func, data_of, elem_of, is_made, made, name, id, says, num, i32, i64, ref, funcref, local, sig, no_use, written, typed, item, type, func_type, struct_field, table_1, memory_1, nop, drop, const, call, br, local_get, data_drop, struct_get, call_indirect, block_of, block, try, delegate, try_table, else_of, end_of, end, load, unlisted, expr, hinted, at, define, function, func, body, of_type, import_func, export, start, segment, data_at, elem_at, IsUnmet, IsMet, Breaks, Implies}
+use Rattle.wast_meaning.proofs.Words.{W, param, sub, group, imports, a_func, data_of, elem_of, is_made, made, name, id, says, num, i32, i64, ref, funcref, local, sig, no_use, written, typed, item, shared_type, type, func_type, struct_field, table_1, memory_1, global_1, nop, drop, const, call, br, local_get, elem_drop, data_drop, struct_get, call_indirect, block_of, block, try, delegate, try_table, else_of, end_of, end, load, unlisted, expr, hinted, at, define, function, func, body, of_type, import_func, export, start, segment, elems, data_at, elem_at, IsUnmet, IsMet, BothUnmet, SameNumbers, Breaks, Implies}
 
 -- WRITTEN OUT
 -- (memory (data "ab")): one page, and the segment at 0 of the memory, which is called something
@@ -107,24 +110,24 @@ last_of_two : denotes same_name (segment (id 0 "d") ∷ segment (id 0 "d") ∷ s
 last_of_two = refl
 
 -- (rec (type $s (struct)) (type $t (struct (field $a i32) (field $b i32))))
-field_of_type : denotes_field same_name
-    (group (item (id 0 "s") (StructType []) ∷ item (id 0 "t") (StructType (struct_field 0 "a" ∷ struct_field 0 "b" ∷ [])) ∷ []) ∷ []) 1 (name "b")
+field_of_type : (listed same_name (fields_at
+    (group (item (id 0 "s") (StructType []) ∷ item (id 0 "t") (StructType (struct_field 0 "a" ∷ struct_field 0 "b" ∷ [])) ∷ []) ∷ []) 1)).look (name "b")
     ≡ Some 1
 field_of_type = refl
 
 -- block $a block $b, then br: the instructions before it, the nearest first
-label_outside : label same_name (block (id 0 "b") ∷ block (id 0 "a") ∷ []) (br (num 0)) (name "a") ≡ Some 1
+label_outside : (label_space same_name (block (id 0 "b") ∷ block (id 0 "a") ∷ []) (br (num 0))).look (name "a") ≡ Some 1
 label_outside = refl
 
 -- block $a block end, block $a block $a end
-label_around : label same_name (end ∷ block None ∷ block (id 0 "a") ∷ []) (br (num 0)) (name "a") ≡ Some 0
+label_around : (label_space same_name (end ∷ block None ∷ block (id 0 "a") ∷ []) (br (num 0))).look (name "a") ≡ Some 0
 label_around = refl
 
-label_shadowed : label same_name (block (id 0 "a") ∷ block None ∷ block (id 0 "a") ∷ []) (br (num 0)) (name "a") ≡ Some 0
+label_shadowed : (label_space same_name (block (id 0 "a") ∷ block None ∷ block (id 0 "a") ∷ []) (br (num 0))).look (name "a") ≡ Some 0
 label_shadowed = refl
 
 -- block $l try, then delegate: counted from outside the try
-label_of_delegate : label same_name (try None ∷ block (id 0 "l") ∷ []) (delegate (num 0)) (name "l") ≡ Some 0
+label_of_delegate : (label_space same_name (try None ∷ block (id 0 "l") ∷ []) (delegate (num 0))).look (name "l") ≡ Some 0
 label_of_delegate = refl
 
 -- IMPLIED TYPES
@@ -165,6 +168,10 @@ not_final = refl
 with_supertype : Implies (TypeField (sub true (Some (num 0)) None (func_type [] [])) ∷ body [] ∷ []) (sig [] [] ∷ [])
 with_supertype = refl
 
+-- (type (shared (func (param i32)))) (func (param i32)): plain too
+shared_plain : Implies (shared_type (func_type (i32 ∷ []) []) ∷ of_type (written (i32 ∷ []) []) ∷ []) []
+shared_plain = refl
+
 -- (table funcref (elem (item call_indirect))) (tag (param i32)) (import "" "" (func (param i64)))
 in_elements : Implies (
     define None (TableOf false funcref (Expressions funcref (expr (call_indirect None no_use ∷ []) ∷ [])))
@@ -186,6 +193,16 @@ import_after_memory = refl
 inline_import_after : IsUnmet (body [] ∷ at 16 None [] (Imported [] [] (OfFunc no_use)) ∷ []) 16 (ImportAfter (codes "function"))
 inline_import_after = refl
 
+-- (table 1 funcref) (import "" "" (func)), (global i32) (import "" "" (func)), (tag) (import "" "" (func))
+import_after_table : IsUnmet (define None (Table table_1 None) ∷ import_func 20 ∷ []) 20 (ImportAfter (codes "table"))
+import_after_table = refl
+
+import_after_global : IsUnmet (define None global_1 ∷ import_func 14 ∷ []) 14 (ImportAfter (codes "global"))
+import_after_global = refl
+
+import_after_tag : IsUnmet (define None (Tag no_use) ∷ import_func 7 ∷ []) 7 (ImportAfter (codes "tag"))
+import_after_tag = refl
+
 imports_after_imports : IsMet (
     at 1 None [] (Imported [] [] (OfFunc no_use))
     ∷ type None (func_type [] [])
@@ -205,6 +222,19 @@ import_before_duplicate = refl
 -- (func $a) (func $a)
 func_twice : IsUnmet (func (id 14 "a") [] ∷ func (id 24 "a") [] ∷ []) 24 (Duplicate (codes "func"))
 func_twice = refl
+
+-- tables, memories, globals and tags alike, whether a segment stands inline or one is imported
+table_twice : IsUnmet (define (id 7 "a") (Table table_1 None) ∷ define (id 27 "a") (Table table_1 None) ∷ []) 27 (Duplicate (codes "table"))
+table_twice = refl
+
+memory_twice : IsUnmet (define (id 8 "a") (Memory memory_1) ∷ define (id 21 "a") (MemoryOf false None []) ∷ []) 21 (Duplicate (codes "memory"))
+memory_twice = refl
+
+global_twice : IsUnmet (define (id 8 "a") global_1 ∷ define (id 24 "a") global_1 ∷ []) 24 (Duplicate (codes "global"))
+global_twice = refl
+
+tag_twice : IsUnmet (define (id 5 "a") (Imported [] [] (OfTag no_use)) ∷ define (id 30 "a") (Tag no_use) ∷ []) 30 (Duplicate (codes "tag"))
+tag_twice = refl
 
 -- (start $x) (func $a) (func $a): before uses
 duplicate_before_use : IsUnmet (start 9 (says 15 "x") ∷ func (id 25 "a") [] ∷ func (id 35 "a") [] ∷ []) 35 (Duplicate (codes "func"))
@@ -345,6 +375,10 @@ no_function_type = refl
 differ_from_implied : IsUnmet (of_type (written (i32 ∷ []) []) ∷ of_type (typed (ByNumber 0 38) (Some (sig (i64 ∷ []) []))) ∷ []) 38 TypeMismatch
 differ_from_implied = refl
 
+-- (type (shared (func (param i32)))) (func (type 0) (param i64))
+differ_from_shared : IsUnmet (shared_type (func_type (i32 ∷ []) []) ∷ of_type (typed (ByNumber 0 47) (Some (sig (i64 ∷ []) []))) ∷ []) 47 TypeMismatch
+differ_from_shared = refl
+
 -- (type (func)) (func block (type 0) (result i32) end)
 differ_in_block : IsUnmet (type None (func_type [] []) ∷ body (block_of (typed (ByNumber 0 36) (Some (sig [] (i32 ∷ [])))) ∷ end ∷ []) ∷ []) 36 TypeMismatch
 differ_in_block = refl
@@ -395,6 +429,50 @@ said_import = refl
 
 said_twice : words (Duplicate (space_word Functions)) ≡ codes "duplicate func identifier"
 said_twice = refl
+
+-- INLINE PARTS: fields as they are keep to what they keep to written out, and have the same numbers
+-- (func) (func (import "" "")): an import behind a definition
+inline_import_unmet : BothUnmet (body [] ∷ at 16 None [] (Imported [] [] (OfFunc no_use)) ∷ [])
+    (Some (record { place = 16; complaint = ImportAfter (codes "function"); holds = false }))
+inline_import_unmet = refl
+
+-- (func $f (export "e") (import "" "")) (table funcref (elem $f $x))
+inline_elements_unmet : BothUnmet (
+    at 1 (id 6 "f") (codes "e" ∷ []) (Imported [] [] (OfFunc no_use))
+    ∷ at 38 None [] (TableOf false funcref (Indices (says 59 "f" ∷ says 62 "x" ∷ [])))
+    ∷ [])
+    (Some (record { place = 62; complaint = Unknown (codes "func") (name "x"); holds = false }))
+inline_elements_unmet = refl
+
+-- (func $f (export "e") (import "" "")) (func (import "" "")) (memory (data "ab")) (table funcref (elem $f))
+inline_met : BothUnmet (
+    at 1 (id 6 "f") (codes "e" ∷ []) (Imported [] [] (OfFunc no_use))
+    ∷ at 38 None [] (Imported [] [] (OfFunc no_use))
+    ∷ at 60 None [] (MemoryOf false None (Text (codes "ab") ∷ []))
+    ∷ at 82 None [] (TableOf false funcref (Indices (says 103 "f" ∷ [])))
+    ∷ [])
+    None
+inline_met = refl
+
+-- (memory (export "e") (data "ab")) (data $d "") (func data.drop $d)
+inline_data : List (Field W ℕ)
+inline_data = at 1 None (codes "e" ∷ []) (MemoryOf false None (Text (codes "ab") ∷ [])) ∷ segment (id 0 "d") ∷ body (data_drop (says 67 "d") ∷ []) ∷ []
+
+after_inline_data : denotes same_name inline_data Datas (name "d") ≡ Some 1
+unfolding inline_data
+after_inline_data = refl
+
+data_numbers : SameNumbers inline_data
+unfolding inline_data
+data_numbers = refl
+
+-- (table $t funcref (elem $f)) (elem $e func) (func $f elem.drop $e)
+elem_numbers : SameNumbers (
+    at 1 (id 7 "t") [] (TableOf false funcref (Indices (says 24 "f" ∷ [])))
+    ∷ elems (id 34 "e")
+    ∷ func (id 49 "f") (elem_drop (says 62 "e") ∷ [])
+    ∷ [])
+elem_numbers = refl
 
 -- BREACHES
 -- i32.load align=65536, align=32768, align=3
@@ -550,3 +628,35 @@ segment_fields t f g h =
 resolved_segments : numbered same_name (segment_fields (says 0 "t") (says 0 "f") (says 0 "g") (says 0 "h")) ≡ segment_fields (num 0) (num 0) (num 0) (num 0)
 unfolding segment_fields
 resolved_segments = refl
+
+-- ROOM
+room_counts : map has_room (0 ∷ 4294967294 ∷ 4294967295 ∷ []) ≡ true ∷ true ∷ false ∷ []
+room_counts = refl
+
+-- (type $t (struct (field $a i32))) (func (param $x i32) (local i32) block end) (data "") (global i32)
+small : have_room same_name (
+    type (id 0 "t") (StructType (struct_field 0 "a" ∷ []))
+    ∷ function (param 0 "x") (local None i32 ∷ []) (block None ∷ end ∷ [])
+    ∷ data_at 0 (expr (const (pos 0) ∷ []))
+    ∷ define None global_1
+    ∷ []) ≡ true
+small = refl
+
+-- WHOLE MODULES
+abbrev module_of : Content W ℕ → Option Problem → Module W ℕ
+module_of content refusal = record { place = 1; id = None; given = None; content = content; refusal = refusal }
+
+-- (module (start $x)), a module that is refused already, a binary
+module_unmet : module_refusal made (module_of (Fields (start 9 (says 15 "x") ∷ [])) None)
+    ≡ Some (told (record { place = 15; complaint = Unknown (codes "func") (name "x"); holds = false }))
+module_unmet = refl
+
+module_refused : (p : Problem) → module_refusal made (module_of (Fields (start 9 (says 15 "x") ∷ [])) (Some p)) ≡ Some p
+module_refused p = refl
+
+module_binary : module_refusal made (module_of (Pieces (codes "asm" ∷ [])) None) ≡ None
+module_binary = refl
+
+-- (module (start 0) (start 0)): the second
+module_breach : module_breaches same_name is_made (module_of (Fields (start 9 (num 0) ∷ start 19 (num 0) ∷ [])) None) ≡ 19 ∷ []
+module_breach = refl

@@ -15,11 +15,11 @@ use Rattle.wast_operands.specs.OperandTree as operand
 use Rattle.wast_typed_operands.specs.TypedTree.{CatchTag, CatchTagRef, CatchAll, CatchAllRef}
 use Rattle.wast_core_instr.specs.InstructionTree as instr
 use Rattle.wast_core_instr.specs.InstructionTree.{Operands, Instruction}
-use Rattle.wast_fields.specs.FieldTree.{Func, Table, Memory, Global, Tag, Field, ElemField, PassiveElem, Indices}
+use Rattle.wast_fields.specs.FieldTree.{Func, Table, Memory, Tag, Field}
 use Rattle.wast_meaning.specs.Spaces.{space_word}
 use Rattle.wast_meaning.specs.Demands.{all_demands}
 use Rattle.wast_meaning.specs.Numbered.{resolved}
-use Rattle.wast_meaning.proofs.Words.{W, made, name, id, says, num, i32, ref, local, no_use, typed, type, struct_field, func_type, table_1, memory_1, ins, unlisted, block, end, try_table, call_indirect, define, of_type, body, segment, expr}
+use Rattle.wast_meaning.proofs.Words.{W, made, name, id, says, num, i32, ref, local, no_use, typed, type, struct_field, func_type, table_1, memory_1, global_1, ins, unlisted, block, end, try_table, call_indirect, define, of_type, body, segment, elems, expr}
 
 -- the opcode makes no difference to operands
 abbrev row : OperandSyntax → Operands W ℕ → Instruction W ℕ
@@ -80,10 +80,10 @@ fields u is =
     ∷ type None (func_type [] [])
     ∷ define (id 0 "n") (Table table_1 None)
     ∷ define (id 0 "n") (Memory memory_1)
-    ∷ define (id 0 "n") (Global (record { val_type = i32; mutable = false; shared = false }) (expr []))
+    ∷ define (id 0 "n") global_1
     ∷ define (id 0 "n") (Tag u)
     ∷ segment (id 0 "n")
-    ∷ ElemField (record { place = 0; id = id 0 "n"; given = None; mode = PassiveElem; elements = Indices [] })
+    ∷ elems (id 0 "n")
     ∷ of_type u
     ∷ define (id 0 "n") (Func (record { type_use = u; locals = local None i32 ∷ local (id 0 "n") i32 ∷ []; body = expr (block (id 0 "n") ∷ block None ∷ is ++ end ∷ end ∷ []) }))
     ∷ []

@@ -1,4 +1,4 @@
--- Settled fields take no types and imply none: they are resolved to themselves.
+-- Settled fields take no types and imply none: without inline parts they are resolved to themselves.
 use Rattle.std.proofs.Common.{◌≡◌, ℕ, Bool, true, false, List, [], ◌∷◌, ◌++◌, map, Option, Some, None, refl, ◌∙◌, ap}
 use Rattle.std.specs.Prelude.{◌&&◌, ◌||◌, not, is_some, unwrap_or, filter, filter_map, option_map, if◌then◌else◌}
 use Rattle.std.specs.List.{flat_map, list_all}

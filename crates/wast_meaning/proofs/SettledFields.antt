@@ -1,4 +1,4 @@
--- Settled fields stay as they are: resolving them changes nothing.
+-- Settled fields stay as they are: numbering them changes nothing.
 use Rattle.std.proofs.Common.{◌≡◌, ℕ, Bool, true, List, [], ◌∷◌, ◌++◌, map, Option, Some, None, refl, sym, ◌∙◌, ap}
 use Rattle.std.specs.Prelude.{◌&&◌, ◌||◌, not, is_some, unwrap_or, option_map, option_to_list}
 use Rattle.std.specs.List.{flat_map, list_all}
@@ -6,6 +6,7 @@ use Rattle.std.proofs.lemmas.Bool.{false≢true}
 use Rattle.std.proofs.lemmas.Grind.{flat_map-append}
 use Rattle.wasm_encoder_base.specs.Table.{Space, Functions, Types, Tables, Memories}
 use Rattle.wast_parser.specs.Identifiers.{Reference, ByNumber, ByName}
+use Rattle.wast_names.specs.Space as names
 use Rattle.wast_value_types.specs.ValueTree.{RefType, TableType, GlobalType}
 use Rattle.wast_core_instr.specs.InstructionTree.{Instruction}
 use Rattle.wast_imports.specs.ImportTree.{ExternType, OfFunc, OfExactFunc, OfTable, OfMemory, OfGlobal, OfTag, Item, ImportItems, Single, Group1, Group2}
@@ -13,9 +14,9 @@ use Rattle.wast_fields.specs.FieldTree.{Expr, Function, Elements, Indices, Expre
 use Rattle.wast_meaning.specs.Written.{space_of_kind}
 use Rattle.wast_meaning.specs.Mentions.{Mention, Refers, Uses, Part, Constant, Body, ref_mentions, val_mentions, local_mentions, type_mentions, refers_if, instr_mentions, expr_mentions, extern_mentions, import_mentions, says, elements_parts, defined_parts, elem_mode_parts, data_mode_parts, part_mentions, field_mentions}
 use Rattle.wast_meaning.specs.Implied.{no_sig, is_short}
-use Rattle.wast_meaning.specs.Scope.{Scope, scope_of, scope_at, with_locals, locals_of, number}
+use Rattle.wast_meaning.specs.Scope.{Scope, scope_of, scope_at, with_locals, locals_of}
 use Rattle.wast_meaning.specs.Changed.{Change, Changes, table_type_changed, global_type_changed, local_changed, type_changed, ref_changed, extern_changed, item_changed, imports_changed, instrs_changed, constant_changed, func_changed, elements_changed, defined_changed, elem_mode_changed, data_mode_changed, field_changed}
-use Rattle.wast_meaning.specs.Numbered.{as_number, numbering, numberings, numbered}
+use Rattle.wast_meaning.specs.Numbered.{numbering, numberings, numbered}
 use Rattle.wast_meaning.specs.Settled.{has_number, is_settled, are_settled}
 use Rattle.wast_meaning.proofs.Settled.{left, right, front, back, each, Keeps, val_stays, locals_stay, type_stays, use_stays, one_use, first_stays, rest_of, stays_if, ref_here, two, instr_stays}
 
@@ -161,12 +162,12 @@ module _ {N P : Type 0} (cs : Changes N P) (k : KeepsAll cs) where
 
 -- NUMBERS
 module _ {N P : Type 0} where
-  index_kept : (s : Scope N P) (i : Option (Reference N P)) → has_number i ≡ true → option_map (λ j. as_number (number s Types j) j) i ≡ i
+  index_kept : (s : Scope N P) (i : Option (Reference N P)) → has_number i ≡ true → option_map (names.resolved (s.spaces Types)) i ≡ i
   index_kept s None h = elim (false≢true h) [ ]
   index_kept s (Some (ByNumber n p)) h = refl
   index_kept s (Some (ByName id)) h = elim (false≢true h) [ ]
 
-  block_kept : (s : Scope N P) (i : Option (Reference N P)) (short : Bool) → (has_number i || (not (is_some i) && short)) ≡ true → option_map (λ j. as_number (number s Types j) j) i ≡ i
+  block_kept : (s : Scope N P) (i : Option (Reference N P)) (short : Bool) → (has_number i || (not (is_some i) && short)) ≡ true → option_map (names.resolved (s.spaces Types)) i ≡ i
   block_kept s None short h = refl
   block_kept s (Some (ByNumber n p)) short h = refl
   block_kept s (Some (ByName id)) short h = elim (false≢true h) [ ]

@@ -10,6 +10,7 @@ use Rattle.std.proofs.lemmas.List.Folds.{list_all-append}
 use Rattle.wasm_encoder_base.specs.Table.{OperandSyntax, Space, Labels, Functions, Types, Tables, Memories, Tags, Fields, Locals, Globals, Datas, Elems}
 use Rattle.wast_parser.specs.Identifiers.{Reference, ByNumber, ByName}
 use Rattle.wast_names.specs.Demand.{Demand, is_met}
+use Rattle.wast_names.specs.Space as names
 use Rattle.wast_value_types.specs.ValueTree.{HeapType, Abstract, Concrete, Exact, ValType, Number, Ref, StorageType, Packed, Value}
 use Rattle.wast_core_types.specs.TypeTree.{Local, Sig, InnerType, FuncType, StructType, ArrayType, ContType, TypeItem, TypeUse}
 use Rattle.wast_operands.specs.OperandTree.{MemArgTarget, MemArg, Handle, OnLabel, OnSwitch}
@@ -19,11 +20,12 @@ use Rattle.wast_typed_operands.specs.TypedTree.{Catch, CatchTag, CatchTagRef, Ca
 use Rattle.wast_core_instr.specs.InstructionTree.{Operands, Instruction}
 use Rattle.wast_core_instr.specs.InstructionTree as instr
 use Rattle.wast_meaning.specs.Mentions.{Mention, Refers, Uses, UsesInBlock, first_space, second_space, syntax_of, second_mention, catch_mentions, handle_mentions, target_mention, operand_mentions, instr_mentions, heap_mentions, ref_mentions, val_mentions, storage_mentions, local_mentions, sig_mentions, inner_mentions, type_mentions, refers_if, use_mentions}
+use Rattle.wast_meaning.specs.Spaces.{space_word}
 use Rattle.wast_meaning.specs.Implied.{no_sig, is_short}
-use Rattle.wast_meaning.specs.Scope.{Scope, number, member}
-use Rattle.wast_meaning.specs.Demands.{known, says_demands, use_demands, agreements, mention_demands}
+use Rattle.wast_meaning.specs.Scope.{Scope, members}
+use Rattle.wast_meaning.specs.Demands.{says_demands, use_demands, agreements, mention_demands}
 use Rattle.wast_meaning.specs.Changed.{Change, heap_changed, ref_changed, val_changed, storage_changed, field_type_changed, local_changed, sig_changed, inner_changed, type_changed, use_changed, block_changed, catch_changed, handle_changed, target_changed, second_changed, operands_changed, instr_changed}
-use Rattle.wast_meaning.specs.Numbered.{as_number, numbering}
+use Rattle.wast_meaning.specs.Numbered.{numbering}
 use Rattle.wast_meaning.specs.Settled.{is_number, has_number, says_number, is_settled}
 use Rattle.wast_meaning.proofs.Settled.{left, right}
 
@@ -62,21 +64,22 @@ module _ {N P : Type 0} (f : Mention N P → List (Demand N P)) where
     some_so g h so None e = refl
     some_so g h so (Some x) e = each_so g h so (x ∷ []) e
 
-module _ {N P : Type 0} (s : Scope N P) (f : Mention N P → List (Demand N P)) (tells : (space : Space) (i : Reference N P) → f (Refers space i) ≡ known space i (number s space i)) where
-  abbrev c : Change N P
-  c = numbering s
-
-  found_number : (o : Option ℕ) (id : N × P) → is_some o ≡ true → is_number (as_number o (ByName id)) ≡ true
+-- an index whose name means something
+module _ {N P : Type 0} where
+  found_number : (o : Option ℕ) (id : N × P) → is_some o ≡ true → is_number (names.number_or o id.1 (ByName id)) ≡ true
   found_number None id e = elim (false≢true e) [ ]
   found_number (Some n) id e = refl
 
-  pub known_number : (space : Space) (i : Reference N P) (o : Option ℕ) → list_all is_met (known space i o ++ []) ≡ true → is_number (as_number o i) ≡ true
-  known_number space (ByNumber n p) None e = refl
-  known_number space (ByNumber n p) (Some k) e = refl
-  known_number space (ByName id) o e = found_number o id (left (is_some o) true e)
+  known_number : (kind : List ℕ) (space : names.Space N) (i : Reference N P) → list_all is_met (names.known kind space i ++ []) ≡ true → is_number (names.resolved space i) ≡ true
+  known_number kind space (ByNumber n p) e = refl
+  known_number kind space (ByName id) e = found_number (space.look id.0) id (left (is_some (space.look id.0)) true e)
+
+module _ {N P : Type 0} (s : Scope N P) (f : Mention N P → List (Demand N P)) (tells : (space : Space) (i : Reference N P) → f (Refers space i) ≡ names.known (space_word space) (s.spaces space) i) where
+  abbrev c : Change N P
+  c = numbering s
 
   pub index_so : (space : Space) (i : Reference N P) → Met f (Refers space i ∷ []) → is_number (c.index space i) ≡ true
-  index_so space i e = known_number space i (number s space i) (ap (λ v. list_all is_met (v ++ [])) (sym (tells space i)) ∙ e)
+  index_so space i e = known_number (space_word space) (s.spaces space) i (ap (λ v. list_all is_met (v ++ [])) (sym (tells space i)) ∙ e)
 
   module _ (q : Mention N P → Bool) (numbers : (space : Space) (i : Reference N P) → q (Refers space i) ≡ is_number i) where
     pub said_so : (space : Space) (i : Reference N P) → Met f (Refers space i ∷ []) → list_all q (Refers space (c.index space i) ∷ []) ≡ true
@@ -154,17 +157,17 @@ module _ {N P : Type 0} (eq : N → N → Bool) (s : Scope N P) where
       let all = left (list_all is_met (use_demands eq s u)) true (sym (list_all-append is_met (use_demands eq s u) []) ∙ e) in
       left (list_all is_met (flat_map says (use_mentions u))) (list_all is_met (agreements s u)) (sym (list_all-append is_met (flat_map says (use_mentions u)) (agreements s u)) ∙ all)
 
-  has_so : (i : Option (Reference N P)) → Met says (refers_if Types i) → is_some i ≡ true → has_number (option_map (λ j. as_number (number s Types j) j) i) ≡ true
+  has_so : (i : Option (Reference N P)) → Met says (refers_if Types i) → is_some i ≡ true → has_number (option_map (names.resolved (s.spaces Types)) i) ≡ true
   has_so None e t = elim (false≢true t) [ ]
   has_so (Some i) e t = index_so s says (λ space j. refl) Types i e
 
   block_so : (i : Option (Reference N P)) (short : Bool) → Met says (refers_if Types i) → (is_some i || short) ≡ true →
-      (has_number (option_map (λ j. as_number (number s Types j) j) i) || (not (is_some (option_map (λ j. as_number (number s Types j) j) i)) && short)) ≡ true
+      (has_number (option_map (names.resolved (s.spaces Types)) i) || (not (is_some (option_map (names.resolved (s.spaces Types)) i)) && short)) ≡ true
   block_so None short e t = t
   block_so (Some i) short e t = ap (λ b. b || false) (index_so s says (λ space j. refl) Types i e)
 
   abbrev new_index : TypeUse N P → Option (Reference N P)
-  new_index u = option_map (λ j. as_number (number s Types j) j) u.index
+  new_index u = option_map (names.resolved (s.spaces Types)) u.index
 
   numbers_so : (u : TypeUse N P) → Met says (use_mentions u) → list_all says_number (use_mentions (record { index = new_index u; inline = option_map (sig_changed here) u.inline })) ≡ true
   numbers_so u e =
@@ -220,11 +223,8 @@ module _ {N P : Type 0} (eq : N → N → Bool) (s : Scope N P) where
   labels_so [] e = refl
   labels_so (i ∷ is) e = cons_so Labels i (map (Refers Labels) is) (map (Refers Labels) (map (here.index Labels) is)) e (labels_so is)
 
-  member_number : (t i : Reference N P) (o : Option ℕ) → list_all is_met (known Fields i o ++ []) ≡ true → is_number (as_number o i) ≡ true
-  member_number t i o e = known_number s tells (λ sp j. refl) Fields i o e
-
   second_so : (space : Space) (i i2 j : Reference N P) → Fine (second_mention space i j ∷ []) → list_all is_settled (second_mention space i2 (second_changed here space i j) ∷ []) ≡ true
-  second_so Fields i i2 j e = both_true (member_number i j (member s i j) e) refl
+  second_so Fields i i2 j e = both_true (known_number (space_word Fields) (members s i) j e) refl
   second_so Labels i i2 j e = last_so Labels j e
   second_so Locals i i2 j e = last_so Locals j e
   second_so Functions i i2 j e = last_so Functions j e

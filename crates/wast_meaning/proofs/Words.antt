@@ -8,7 +8,7 @@ use Rattle.wast_grammar.specs.Tokens.{Name}
 use Rattle.wast_grammar.specs.Spelling.{same_name}
 use Rattle.wast_parser.specs.Identifiers.{Named, Reference, ByNumber, ByName}
 use Rattle.wast_names.specs.Walk.{first_unmet}
-use Rattle.wast_names.specs.Demand.{Complaint, is_met}
+use Rattle.wast_names.specs.Demand.{Complaint, Demand, is_met}
 use Rattle.wast_value_types.specs.ValueTree.{I32, I64, ValType, Number, Ref, RefType, Abstract, Known, Concrete, Value, Limits, TableType, MemoryType}
 use Rattle.wast_core_types.specs.TypeTree.{Local, Sig, StructField, InnerType, FuncType, TypeItem, TypeUse}
 use Rattle.wast_typed_operands.specs.TypedTree.{Catch}
@@ -17,11 +17,12 @@ use Rattle.wast_core_instr.specs.InstructionTree.{Operands, NoOperands, Label, B
 use Rattle.wast_exports.specs.Exports.{ExportKind}
 use Rattle.wast_imports.specs.ImportTree.{ExternType, OfFunc, Item, ImportItems, Single}
 use Rattle.wast_data.specs.DataTree.{DataVal}
-use Rattle.wast_fields.specs.FieldTree.{Expr, Elements, Defined, Func, PassiveData, ActiveData, ActiveElem, Field, TypeField, RecField, ImportField, Define, ExportField, StartField, ElemField, DataField}
+use Rattle.wast_fields.specs.FieldTree.{Expr, Elements, Indices, Defined, Func, Global, PassiveData, ActiveData, PassiveElem, ActiveElem, Field, TypeField, RecField, ImportField, Define, ExportField, StartField, ElemField, DataField}
 use Rattle.wast_meaning.specs.Written.{written_out}
 use Rattle.wast_meaning.specs.Implied.{implied}
-use Rattle.wast_meaning.specs.Demands.{all_demands}
+use Rattle.wast_meaning.specs.Demands.{demands, all_demands}
 use Rattle.wast_meaning.specs.WellFormed.{breaches}
+use Rattle.wast_meaning.specs.Numbered.{numbered}
 
 -- NAMES
 abbrev pub W : Type 0
@@ -89,6 +90,14 @@ sub final super i t = record {
 abbrev pub item : Option (Named W ℕ) → InnerType W ℕ → TypeItem W ℕ
 item i t = sub true None i t
 
+abbrev pub shared_type : InnerType W ℕ → Field W ℕ
+shared_type t = TypeField (record {
+  place = 0;
+  id = None;
+  given = None;
+  definition = record { is_final = true; supertype = None; describes = None; descriptor = None; comp = record { shared = true; inner = t } };
+})
+
 abbrev pub type : Option (Named W ℕ) → InnerType W ℕ → Field W ℕ
 type i t = TypeField (item i t)
 
@@ -109,6 +118,9 @@ table_1 = record { limits = from_1; shared = false; element = funcref }
 
 abbrev pub memory_1 : MemoryType
 memory_1 = record { limits = from_1; shared = false; page = None }
+
+abbrev pub global_1 : Defined W ℕ
+global_1 = Global (record { val_type = i32; mutable = false; shared = false }) (record { instrs = []; hints = [] })
 
 -- INSTRUCTIONS
 abbrev pub ins : OperandSyntax → List ℕ → String → Operands W ℕ → Instruction W ℕ
@@ -131,6 +143,9 @@ br i = ins (table.Index table.Labels) (0x0C ∷ []) "br" (One i)
 
 abbrev pub local_get : Reference W ℕ → Instruction W ℕ
 local_get i = ins (table.Index table.Locals) (0x20 ∷ []) "local.get" (One i)
+
+abbrev pub elem_drop : Reference W ℕ → Instruction W ℕ
+elem_drop i = ins (table.Index table.Elems) (0xFC ∷ 0x0D ∷ []) "elem.drop" (One i)
 
 abbrev pub data_drop : Reference W ℕ → Instruction W ℕ
 data_drop i = ins (table.Index table.Datas) (0xFC ∷ 0x09 ∷ []) "data.drop" (One i)
@@ -217,6 +232,9 @@ start p i = StartField (record { place = p; func = i })
 abbrev pub segment : Option (Named W ℕ) → Field W ℕ
 segment i = DataField (record { place = 0; id = i; given = None; mode = PassiveData; values = [] })
 
+abbrev pub elems : Option (Named W ℕ) → Field W ℕ
+elems i = ElemField (record { place = 0; id = i; given = None; mode = PassiveElem; elements = Indices [] })
+
 -- at the place, active in the memory or table
 abbrev pub data_of : ℕ → Reference W ℕ → Expr W ℕ → List DataVal → Field W ℕ
 data_of p m offset vs = DataField (record { place = p; id = None; given = None; mode = ActiveData (Some m) offset; values = vs })
@@ -236,6 +254,14 @@ IsUnmet fs place complaint = first_unmet is_met (all_demands same_name made fs) 
 
 abbrev pub IsMet : List (Field W ℕ) → Type 0
 IsMet fs = first_unmet is_met (all_demands same_name made fs) ≡ None
+
+-- the first demand that isn't met, of fields as they are and of what they are written out as
+abbrev pub BothUnmet : List (Field W ℕ) → Option (Demand W ℕ) → Type 0
+BothUnmet fs d = map (first_unmet is_met) (demands same_name fs ∷ all_demands same_name made fs ∷ []) ≡ d ∷ d ∷ []
+
+-- fields that are numbered and then written out have the numbers of what they are written out as
+abbrev pub SameNumbers : List (Field W ℕ) → Type 0
+SameNumbers fs = numbered same_name (written_out made (numbered same_name fs)) ≡ numbered same_name (written_out made fs)
 
 abbrev pub Breaks : List (Field W ℕ) → List ℕ → Type 0
 Breaks fs places = breaches same_name is_made fs ≡ places

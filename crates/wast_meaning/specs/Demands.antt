@@ -1,14 +1,14 @@
 -- What names of a module must keep to, each demand at its place, in the order in which they are tested (WebAssembly 3.0, 6.1.3,
 -- 6.5.2, 6.6.3 and 6.6.14). The first that is not met is the complaint.
-use Rattle.std.specs.Prelude.{ℕ, nat_eq, Bool, true, false, is_some, if◌then◌else◌, List, [], ◌∷◌, ◌++◌, map, Option, Some, None, option_and_then, option_to_list, codes}
+use Rattle.std.specs.Prelude.{ℕ, nat_eq, Bool, true, false, if◌then◌else◌, List, [], ◌∷◌, ◌++◌, map, Option, Some, None, option_and_then, option_map, option_to_list, codes}
 use Rattle.std.specs.List.{flat_map}
 use Rattle.wasm_encoder_base.specs.Table.{Space, Locals, Functions, Types, Fields}
 use Rattle.wast_parser.specs.Identifiers.{Named, Reference, ByNumber, ByName}
 use Rattle.wast_names.specs.Position.{bears}
 use Rattle.wast_names.specs.Walk.{walked}
-use Rattle.wast_names.specs.Demand.{Demand, Unknown, ImportAfter, TypeMismatch, LabelMismatch}
+use Rattle.wast_names.specs.Demand.{Demand, ImportAfter, TypeMismatch, LabelMismatch}
 use Rattle.wast_names.specs.Space as names
-use Rattle.wast_names.specs.Space.{name_in}
+use Rattle.wast_names.specs.Space.{name_in, number_of, known}
 use Rattle.wast_core_types.specs.TypeTree.{Sig, TypeUse}
 use Rattle.wast_core_instr.specs.InstructionTree.{Instruction}
 use Rattle.wast_fields.specs.FieldTree.{Function, Defined, Imported, Field, ImportField, Define}
@@ -16,7 +16,7 @@ use Rattle.wast_meaning.specs.Written.{space_of_kind, kind_of, written_out}
 use Rattle.wast_meaning.specs.Mentions.{Mention, Refers, Member, Uses, UsesInBlock, Repeats, Part, Says, Constant, Body, use_mentions, local_mentions, instr_mentions, parts}
 use Rattle.wast_meaning.specs.Spaces.{Bound, same_space, space_word, items}
 use Rattle.wast_meaning.specs.Implied.{same_option, same_sig}
-use Rattle.wast_meaning.specs.Scope.{Scope, scope_of, with_locals, scope_at, number, member, locals_of}
+use Rattle.wast_meaning.specs.Scope.{Scope, scope_of, with_locals, scope_at, members, locals_of}
 
 -- what a definition is called in complaints
 abbrev pub definition_word : Space → List ℕ
@@ -24,7 +24,7 @@ definition_word Functions = codes "function"
 definition_word s = space_word s
 
 module _ {N P : Type 0} where
-  -- FIRST: imports stand before definitions, of which the nearest is told (6.6.14)
+  -- FIRST: imports, inline ones too, stand before definitions, of which the nearest is told (6.6.14)
   abbrev pub space_defined : Defined N P → Option Space
   space_defined (Imported from name t) = None
   space_defined d = Some (space_of_kind (kind_of d))
@@ -33,9 +33,17 @@ module _ {N P : Type 0} where
   nearest before (Define d) = elim (space_defined d.defined) [ Some s ↦ Some s | None ↦ before ]
   nearest before f = before
 
+  -- where an import stands
+  abbrev pub import_place : Field N P → Option P
+  import_place (ImportField i) = Some i.place
+  import_place (Define d) = elim (space_defined d.defined) [ Some s ↦ None | None ↦ Some d.place ]
+  import_place f = None
+
+  abbrev pub import_after : P → Space → Demand N P
+  import_after p s = record { place = p; complaint = ImportAfter (definition_word s); holds = false }
+
   abbrev pub order_demand : Option Space → Field N P → List (Demand N P)
-  order_demand before (ImportField i) = map (λ s. record { place = i.place; complaint = ImportAfter (definition_word s); holds = false }) (option_to_list before)
-  order_demand before f = []
+  order_demand before f = option_to_list (option_and_then (λ p. option_map (import_after p) before) (import_place f))
 
   abbrev pub order_demands : List (Field N P) → List (Demand N P)
   order_demands fs = walked order_demand nearest None fs
@@ -54,24 +62,20 @@ module _ {N P : Type 0} (eq : N → N → Bool) where
 
 module _ {N P : Type 0} where
   -- THIRD: what is mentioned. An index that is a number may be any; a name means something.
-  abbrev pub known : Space → Reference N P → Option ℕ → List (Demand N P)
-  known s (ByNumber n p) found = []
-  known s (ByName id) found = record { place = id.1; complaint = Unknown (space_word s) id.0; holds = is_some found } ∷ []
-
   abbrev pub place_of : Reference N P → P
   place_of (ByNumber n p) = p
   place_of (ByName id) = id.1
 
   -- a signature is that of the type, as numbered, where that is a function type of the module (6.6.3)
   abbrev pub same_numbered : Scope N P → Reference N P → Reference N P → Bool
-  same_numbered s i j = same_option nat_eq (number s Types i) (number s Types j)
+  same_numbered s i j = same_option nat_eq (number_of (s.spaces Types) i) (number_of (s.spaces Types) j)
 
   abbrev pub agrees : Scope N P → Sig N P → Option (Sig N P) → Bool
   agrees s sig None = true
   agrees s sig (Some other) = same_sig (same_numbered s) sig other
 
   abbrev pub agreement : Scope N P → Reference N P → Sig N P → Demand N P
-  agreement s i sig = record { place = place_of i; complaint = TypeMismatch; holds = agrees s sig (option_and_then s.sig_of (number s Types i)) }
+  agreement s i sig = record { place = place_of i; complaint = TypeMismatch; holds = agrees s sig (option_and_then s.sig_of (number_of (s.spaces Types) i)) }
 
   abbrev pub agreements : Scope N P → TypeUse N P → List (Demand N P)
   agreements s u = flat_map (λ i. map (agreement s i) (option_to_list u.inline)) (option_to_list u.index)
@@ -84,8 +88,8 @@ module _ {N P : Type 0} (eq : N → N → Bool) where
 
   -- what a type use says itself is told below
   abbrev pub says_demands : Scope N P → Mention N P → List (Demand N P)
-  says_demands s (Refers space i) = known space i (number s space i)
-  says_demands s (Member t i) = known Fields i (member s t i)
+  says_demands s (Refers space i) = known (space_word space) (s.spaces space) i
+  says_demands s (Member t i) = known (space_word Fields) (members s t) i
   says_demands s (Repeats id) = record { place = id.1; complaint = LabelMismatch; holds = is_own id.0 s.blocks } ∷ []
   says_demands s _ = []
 
@@ -118,7 +122,7 @@ module _ {N P : Type 0} (eq : N → N → Bool) where
   abbrev pub field_demands : Scope N P → Field N P → List (Demand N P)
   field_demands s f = flat_map (part_demands s) (parts f)
 
-  -- of fields without inline parts
+  -- of fields as they are; of what they are written out as the same are met, fresh names aside
   abbrev pub demands : List (Field N P) → List (Demand N P)
   demands fs = order_demands fs ++ item_demands eq (flat_map items fs) ++ flat_map (field_demands (scope_of eq fs)) fs
 

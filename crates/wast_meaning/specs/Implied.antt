@@ -82,9 +82,9 @@ module _ {N P : Type 0} where
   func_sig (FuncType s) = Some s
   func_sig _ = None
 
-  -- plain types are final, without supertype, outside groups, and not shared
+  -- plain types are final, without supertype, and outside groups
   abbrev pub is_plain : TypeItem N P × Bool → Bool
-  is_plain t = t.0.definition.is_final && not (is_some t.0.definition.supertype) && not t.1 && not t.0.definition.comp.shared
+  is_plain t = t.0.definition.is_final && not (is_some t.0.definition.supertype) && not t.1
 
   abbrev pub plain_sig : TypeItem N P × Bool → Option (Sig N P)
   plain_sig t = if is_plain t then func_sig t.0.definition.comp.inner else None

@@ -3,7 +3,9 @@ pub mod Demands
 pub mod Fresh
 pub mod Implied
 pub mod Mentions
+pub mod Modules
 pub mod Numbered
+pub mod Room
 pub mod Scope
 pub mod Settled
 pub mod Spaces

@@ -1,12 +1,13 @@
 -- Fields whose uses have their types, and whose indices are numbers; nothing else of them changes (WebAssembly 3.0, 6.1.3 and 6.6.3).
 use Rattle.std.specs.Prelude.{ℕ, Bool, true, false, if◌then◌else◌, List, ◌++◌, map, Option, Some, None, option_map, unwrap_or}
 use Rattle.wasm_encoder_base.specs.Table.{Types}
-use Rattle.wast_parser.specs.Identifiers.{Reference, ByNumber, ByName}
+use Rattle.wast_parser.specs.Identifiers.{Reference, ByNumber}
+use Rattle.wast_names.specs.Space as names
 use Rattle.wast_core_types.specs.TypeTree.{Sig, FuncType, TypeUse}
 use Rattle.wast_fields.specs.FieldTree.{Field, TypeField, field_place}
 use Rattle.wast_meaning.specs.Written.{written_out}
 use Rattle.wast_meaning.specs.Implied.{no_sig, is_short, implied, type_taken}
-use Rattle.wast_meaning.specs.Scope.{Scope, scope_of, with_locals, scope_at, number, member, locals_of}
+use Rattle.wast_meaning.specs.Scope.{Scope, scope_of, with_locals, scope_at, members, locals_of}
 use Rattle.wast_meaning.specs.Changed.{Change, Changes, field_changed}
 
 -- USES THAT HAVE THEIR TYPES: each use without index takes the number of its type, at the place of its field; a short block none
@@ -33,16 +34,12 @@ implied_field t = TypeField (record {
 })
 
 -- INDICES THAT ARE NUMBERS, where their names mean something
-abbrev pub as_number : {N P : Type 0} → Option ℕ → Reference N P → Reference N P
-as_number (Some n) (ByName id) = ByNumber n id.1
-as_number _ i = i
-
 abbrev pub numbering : {N P : Type 0} → Scope N P → Change N P
 numbering s = record {
-  index = λ space i. as_number (number s space i) i;
-  member = λ t i. as_number (member s t i) i;
-  type_use = λ u. option_map (λ i. as_number (number s Types i) i) u.index;
-  block_use = λ u. option_map (λ i. as_number (number s Types i) i) u.index;
+  index = λ space. names.resolved (s.spaces space);
+  member = λ t. names.resolved (members s t);
+  type_use = λ u. option_map (names.resolved (s.spaces Types)) u.index;
+  block_use = λ u. option_map (names.resolved (s.spaces Types)) u.index;
 }
 
 module _ {N P : Type 0} (eq : N → N → Bool) where

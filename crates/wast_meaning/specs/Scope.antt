@@ -2,15 +2,14 @@
 use Rattle.std.specs.Prelude.{ℕ, zero, suc, Bool, List, [], ◌∷◌, ◌++◌, length, map, Option, Some, None, option_and_then, unwrap_or}
 use Rattle.wasm_encoder_base.specs.Table.{Space, Labels, Locals, Types}
 use Rattle.wasm_encoder_base.specs.Balanced.{Turn, Opens, Closes, Stays, turn_of}
-use Rattle.wast_parser.specs.Identifiers.{Named, Reference, ByNumber, ByName}
-use Rattle.wast_names.specs.Position.{position}
+use Rattle.wast_parser.specs.Identifiers.{Named, Reference}
 use Rattle.wast_names.specs.Space as names
-use Rattle.wast_names.specs.Space.{name_in}
+use Rattle.wast_names.specs.Space.{number_of}
 use Rattle.wast_core_types.specs.TypeTree.{Sig, TypeUse}
 use Rattle.wast_mnemonics.specs.Heads.{Head, Listed, Unlisted}
 use Rattle.wast_core_instr.specs.InstructionTree.{Operands, Instruction, Block, TryTable}
 use Rattle.wast_fields.specs.FieldTree.{Function, Field}
-use Rattle.wast_meaning.specs.Spaces.{items_in, denotes, denotes_field}
+use Rattle.wast_meaning.specs.Spaces.{items_in, fields_at, denotes, listed}
 use Rattle.wast_meaning.specs.Implied.{no_sig, sig_at, type_count}
 
 -- LABELS
@@ -48,14 +47,14 @@ module _ {N P : Type 0} where
   labels_seen Closes before = labels_from before 1
   labels_seen _ before = labels_from before 0
 
--- the number of the nearest opener still open that bears the name: how many blocks are open inside it
-abbrev pub label : {N P : Type 0} → (N → N → Bool) → List (Instruction N P) → Instruction N P → N → Option ℕ
-label eq before i n = position eq n (map name_in (labels_seen (turn_of_head i.head) before))
+-- a name means the nearest opener still open that bears it; its number is how many blocks are open inside that
+abbrev pub label_space : {N P : Type 0} → (N → N → Bool) → List (Instruction N P) → Instruction N P → names.Space N
+label_space eq before i = listed eq (labels_seen (turn_of_head i.head) before)
 
--- SCOPES: what names mean, and fields of types; the signatures of function types; the labels of the open blocks
+-- SCOPES: the index spaces, and those of the fields of each type; the signatures of function types; the labels of the open blocks
 pub record Scope (N P : Type 0) : Type 0 where
-  pub names : Space → N → Option ℕ
-  pub fields : ℕ → N → Option ℕ
+  pub spaces : Space → names.Space N
+  pub fields : ℕ → names.Space N
   pub sig_of : ℕ → Option (Sig N P)
   pub blocks : List (Option (Named N P))
 
@@ -69,18 +68,6 @@ locals_or a others Locals = a
 locals_or a others s = others s
 
 module _ {N P : Type 0} (eq : N → N → Bool) where
-  -- outside bodies
-  abbrev pub scope_of : List (Field N P) → Scope N P
-  scope_of fs = record { names = denotes eq fs; fields = denotes_field eq fs; sig_of = sig_at eq fs; blocks = [] }
-
-  -- in a body with these parameters and locals
-  abbrev pub with_locals : Scope N P → List (Option (Named N P)) → Scope N P
-  with_locals s ids = record s { names = locals_or (λ n. position eq n (map name_in ids)) s.names }
-
-  -- for an instruction after these, the nearest first
-  abbrev pub scope_at : Scope N P → List (Instruction N P) → Instruction N P → Scope N P
-  scope_at s before i = record s { names = labels_or (label eq before i) s.names; blocks = open_labels before }
-
   -- the index spaces of a module
   abbrev pub space_count : List (Field N P) → Space → ℕ
   space_count fs Types = type_count eq fs
@@ -89,21 +76,27 @@ module _ {N P : Type 0} (eq : N → N → Bool) where
   abbrev pub index_space : List (Field N P) → Space → names.Space N
   index_space fs s = record { count = space_count fs s; look = denotes eq fs s }
 
-module _ {N P : Type 0} where
-  -- the number that an index is
-  abbrev pub number : Scope N P → Space → Reference N P → Option ℕ
-  number s space (ByNumber n p) = Some n
-  number s space (ByName id) = s.names space id.0
+  -- outside bodies
+  abbrev pub scope_of : List (Field N P) → Scope N P
+  scope_of fs = record { spaces = index_space fs; fields = λ t. listed eq (fields_at fs t); sig_of = sig_at eq fs; blocks = [] }
 
-  -- and that of a field of the struct type that an index names
-  abbrev pub member : Scope N P → Reference N P → Reference N P → Option ℕ
-  member s t (ByNumber n p) = Some n
-  member s t (ByName id) = option_and_then (λ k. s.fields k id.0) (number s Types t)
+  -- in a body with these parameters and locals
+  abbrev pub with_locals : Scope N P → List (Option (Named N P)) → Scope N P
+  with_locals s ids = record s { spaces = locals_or (listed eq ids) s.spaces }
+
+  -- for an instruction after these, the nearest first
+  abbrev pub scope_at : Scope N P → List (Instruction N P) → Instruction N P → Scope N P
+  scope_at s before i = record s { spaces = labels_or (label_space eq before i) s.spaces; blocks = open_labels before }
+
+module _ {N P : Type 0} where
+  -- the space of the fields of the struct type that an index names
+  abbrev pub members : Scope N P → Reference N P → names.Space N
+  members s t = elim (number_of (s.spaces Types) t) [ Some k ↦ s.fields k | None ↦ names.empty ]
 
   -- the parameters of a use: those written, else, unnamed, those of the function type that its index names
   abbrev pub params_of_index : Scope N P → Option (Reference N P) → List (Option (Named N P))
   params_of_index s None = []
-  params_of_index s (Some i) = map (λ p. None) (unwrap_or (option_and_then s.sig_of (number s Types i)) no_sig).params
+  params_of_index s (Some i) = map (λ p. None) (unwrap_or (option_and_then s.sig_of (number_of (s.spaces Types) i)) no_sig).params
 
   abbrev pub params_of : Scope N P → TypeUse N P → List (Option (Named N P))
   params_of s u = elim u.inline [ Some sig ↦ map (λ p. p.id) sig.params | None ↦ params_of_index s u.index ]

@@ -1,4 +1,4 @@
--- Fields whose uses have their types and whose indices are numbers: resolving them changes nothing.
+-- Fields whose uses have their types and whose indices are numbers: where nothing stands inline, resolving them changes nothing.
 use Rattle.std.specs.Prelude.{Bool, true, false, not, is_some, ◌&&◌, ◌||◌, List, Option, Some, None, unwrap_or}
 use Rattle.std.specs.List.{list_all}
 use Rattle.wast_parser.specs.Identifiers.{Reference, ByNumber, ByName}

@@ -1,13 +1,14 @@
 -- Index spaces (WebAssembly 3.0, 6.1.3 and 6.6.1): the items of fields in order, and which number a name means.
-use Rattle.std.specs.Prelude.{ℕ, Bool, nat_eq, List, [], ◌∷◌, map, slice_get, Option, None, option_and_then, filter, codes}
+use Rattle.std.specs.Prelude.{ℕ, Bool, nat_eq, List, [], ◌∷◌, length, map, slice_get, Option, Some, None, filter, codes}
 use Rattle.std.specs.List.{flat_map}
 use Rattle.wasm_encoder_base.specs.Table.{Space, Labels, Locals, Functions, Types, Tables, Memories, Globals, Tags, Datas, Elems, Fields}
 use Rattle.wast_parser.specs.Identifiers.{Named}
 use Rattle.wast_names.specs.Position.{position}
+use Rattle.wast_names.specs.Space as names
 use Rattle.wast_names.specs.Space.{name_in, denoted}
 use Rattle.wast_core_types.specs.TypeTree.{InnerType, StructType, TypeItem}
 use Rattle.wast_imports.specs.ImportTree.{Item, ImportItems, Single, Group1, Group2}
-use Rattle.wast_fields.specs.FieldTree.{Field, TypeField, RecField, ImportField, Define, ElemField, DataField}
+use Rattle.wast_fields.specs.FieldTree.{Defined, TableOf, MemoryOf, Field, TypeField, RecField, ImportField, Define, ElemField, DataField}
 use Rattle.wast_meaning.specs.Written.{space_of_kind, kind_of_type, kind_of}
 
 -- spaces are told apart by numbers
@@ -68,12 +69,18 @@ module _ {N P : Type 0} where
   bound_imports (Group1 is) = map (λ i. bound_import i.1) is
   bound_imports (Group2 names i) = map (λ name. bound_import i) names
 
+  -- a segment that stands inline has no name
+  abbrev pub bound_segment : Defined N P → List (Bound N P)
+  bound_segment (TableOf wide t es) = bound Elems None None ∷ []
+  bound_segment (MemoryOf wide page vs) = bound Datas None None ∷ []
+  bound_segment d = []
+
   -- the items of a field, in order
   abbrev pub items : Field N P → List (Bound N P)
   items (TypeField t) = bound_type t ∷ []
   items (RecField r) = map bound_type r.types
   items (ImportField i) = bound_imports i.items
-  items (Define d) = bound (space_of_kind (kind_of d.defined)) d.id d.given ∷ []
+  items (Define d) = bound (space_of_kind (kind_of d.defined)) d.id d.given ∷ bound_segment d.defined
   items (ElemField e) = bound Elems e.id e.given ∷ []
   items (DataField d) = bound Datas d.id d.given ∷ []
   items _ = []
@@ -85,6 +92,10 @@ module _ {N P : Type 0} where
   abbrev pub ids_in : Space → List (Field N P) → List (Option (Named N P))
   ids_in s fs = map (λ b. b.id) (items_in s fs)
 
+  -- the fields of the type with a number
+  abbrev pub fields_at : List (Field N P) → ℕ → List (Option (Named N P))
+  fields_at fs t = elim (slice_get (items_in Types fs) t) [ Some b ↦ b.fields | None ↦ [] ]
+
 module _ {N P : Type 0} (eq : N → N → Bool) where
   -- what a name means in a space of a module; labels, locals and fields have no space of the module
   abbrev pub denotes : List (Field N P) → Space → N → Option ℕ
@@ -93,6 +104,6 @@ module _ {N P : Type 0} (eq : N → N → Bool) where
   denotes fs Fields n = None
   denotes fs s n = denoted eq (space_word s) n (map name_in (ids_in s fs))
 
-  -- and among the fields of a type
-  abbrev pub denotes_field : List (Field N P) → ℕ → N → Option ℕ
-  denotes_field fs t n = option_and_then (λ b. position eq n (map name_in b.fields)) (slice_get (items_in Types fs) t)
+  -- the space of the fields of a type, of locals, or of labels: a name means the first item that bears it
+  abbrev pub listed : List (Option (Named N P)) → names.Space N
+  listed ids = record { count = length ids; look = λ n. position eq n (map name_in ids) }

@@ -1,10 +1,11 @@
 //! What the fields of a module mean before they are encoded (WebAssembly Core Specification 3.0, 6.1.3, 6.5.2 and 6.6): the
 //! definitions that resolving names rests on. Of code there is [`Space`] alone.
 //!
-//! All of it is over names of any type with a test, and over places of any type. Names are compared by the test alone, and places
-//! not at all. Names that are made up come from a function that is given: the name for the field at a position.
+//! All of it but what a module is refused with is over names of any type with a test, and over places of any type. Names are compared
+//! by the test alone, and places not at all. Names that are made up come from a function that is given: the name for the field at a
+//! position.
 //!
-//! Demands and complaints, the places of names, and index spaces that grow item by item are those of `wast_names`.
+//! Demands and complaints, the places of names, index spaces, and what an index means in one, are those of `wast_names`.
 //!
 //! # What has to be believed
 //!
@@ -20,8 +21,10 @@
 //! | `Demands` | what names must keep to, in order |
 //! | `WellFormed` | what trees must keep to beside names |
 //! | `Changed`, `Numbered` | fields whose uses have their types and whose indices are numbers |
-//! | `Settled` | fields that resolving leaves as they are |
+//! | `Settled` | fields that resolving leaves as they are, where nothing stands inline |
 //! | `Fresh` | when names that are made up are fresh |
+//! | `Modules` | demands and breaches of whole modules, and what one is refused with |
+//! | `Room` | when index spaces have room for one more item |
 //! | `Views` | which index space a [`Space`] is |
 //!
 //! `proofs/Examples` has worked examples, a few for each rule, and `proofs/Operands` one for each row of operands. The other files of
@@ -35,7 +38,7 @@
 //! | `Taken` | the types that uses take and imply, one use after the other |
 //! | `Labels` | labels as a stack |
 //! | `Settles`, `SettlesFields` | where all demands are met, numbered fields are settled |
-//! | `Settled`, `SettledFields`, `Resolved` | settled fields are resolved to themselves |
+//! | `Settled`, `SettledFields`, `Resolved` | settled fields without inline parts are resolved to themselves |
 #![tactic(auto)]
 
 mod space;

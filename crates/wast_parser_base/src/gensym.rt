@@ -91,15 +91,3 @@ impl Gensym {
         }
     }
 }
-
-#[cfg(test)]
-mod tests {
-    use super::*;
-
-    #[test]
-    fn exhausted_at_the_bound(rt: HostRuntime) {
-        let mut gensym = Gensym { counter: u32::MAX };
-        assert!(rt; gensym.generate(Span::from_offset(0)).is_err());
-        assert_eq!(rt; gensym.counter, u32::MAX);
-    }
-}

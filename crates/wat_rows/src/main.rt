@@ -3,9 +3,11 @@
 //! Each line of standard input is a row, in which `~` and two hexadecimal digits stand for a byte. Printed are the row and
 //!
 //! - of a text, its binary in hexadecimal, or the fault in one line;
+//! - of `spelled: TEXT`, whether the text is spelled, whatever else is wrong with it;
 //! - of `rendered: TEXT`, the fault as the program tells it;
 //! - of `at N: TEXT`, a fault at the byte N of this text, told so;
-//! - of `faults:`, each fault in one line.
+//! - of `faults:`, each fault in one line;
+//! - of a line that begins with `#` nothing: it names what the rows below it are of.
 #![tactic(auto)]
 
 use std::alloc::{AllocError, Global};
@@ -16,8 +18,13 @@ fn main(rt: HostRuntime) -> io::Result<()> {
     for line in rt.lines(rt.alloc()) {
         let line = line?;
         println!(rt; "{line}")?;
+        if line.starts_with("#") {
+            continue;
+        }
         if line.as_str() == "faults:" {
             print_faults(&rt)?;
+        } else if let Some(text) = line.strip_prefix("spelled: ") {
+            print_spelled(&rt, text)?;
         } else if let Some(text) = line.strip_prefix("rendered: ") {
             print_rendered(&rt, text)?;
         } else if let Some((place, text)) = place_of(line.as_str()) {
@@ -61,6 +68,15 @@ fn print_binary(rt: &HostRuntime, row: &str) -> io::Result<()> {
     match assemble(rt.alloc(), text.as_slice()) {
         Ok(binary) => print_hexadecimal(rt, binary.as_slice()),
         Err(fault) => println!(rt; "{fault}"),
+    }
+}
+
+fn print_spelled(rt: &HostRuntime, row: &str) -> io::Result<()> {
+    let text = bytes_of(rt.alloc(), row)?;
+    match assemble(rt.alloc(), text.as_slice()) {
+        Err(Fault::Spelling(_)) => println!(rt; "misspelled"),
+        Err(Fault::Memory) => println!(rt; "out of memory"),
+        _ => println!(rt; "spelled"),
     }
 }
 

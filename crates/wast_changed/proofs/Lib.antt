@@ -1,0 +1,3 @@
+mod Boxed
+mod Rows
+mod Trees

@@ -1,0 +1,55 @@
+//! What becomes of each index.
+ghost use Rattle.std.specs.Prelude.{◌≡◌, ℕ, List, option_map, map, IfOk};
+ghost use Rattle.wast_grammar.specs.Tokens.{Name};
+ghost use Rattle.wast_parser.specs.Identifiers.{index_tree};
+ghost use Rattle.wast_core_types.specs.TypeViews.{sig_tree};
+ghost use Rattle.wast_meaning.specs.Changed.{Change};
+ghost use Rattle.wast_meaning.specs.Views.{space_view};
+
+use wast_core_types::FunctionType;
+use wast_meaning::Space;
+use wast_parser::Index;
+
+/// What becomes of each index, wherever one stands.
+pub trait Changing<'a> {
+    /// The same, as it is defined.
+    ghost change: { Self → Change Name ℕ };
+
+    /// What becomes of an index of a space.
+    fn index(&self, space: Space, index: Index<'a>) -> Index<'a>
+        ensures { index_tree result ≡ (change self.now).index (space_view space) (index_tree index.entry) };
+
+    /// What becomes of the index of a field, behind that of the struct type that has it (6.5.7).
+    fn member(&self, owner: &Index<'a>, field: Index<'a>) -> Index<'a>
+        ensures { index_tree result ≡ (change self.now).member (index_tree owner.now) (index_tree field.entry) };
+
+    /// What becomes of the index of a type use (6.6.3), beside the signature that is written with it.
+    fn type_use(
+        &self,
+        index: Option<Index<'a>>,
+        inline: Option<&FunctionType<'a>>,
+    ) -> Option<Index<'a>>
+        ensures { option_map index_tree result ≡ (change self.now).type_use (record { index = option_map index_tree index.entry; inline = option_map (λ s. sig_tree s.now) inline.entry }) };
+
+    /// The same in a block (6.5.2).
+    fn block_use(
+        &self,
+        index: Option<Index<'a>>,
+        inline: Option<&FunctionType<'a>>,
+    ) -> Option<Index<'a>>
+        ensures { option_map index_tree result ≡ (change self.now).block_use (record { index = option_map index_tree index.entry; inline = option_map (λ s. sig_tree s.now) inline.entry }) };
+}
+
+/// The index of a space, where there is one.
+pub fn change_optional<'a, C: Changing<'a>>(
+    change: &C,
+    space: Space,
+    index: Option<Index<'a>>,
+) -> Option<Index<'a>>
+    ensures { option_map index_tree result ≡ option_map ((C.change change.now).index (space_view space)) (option_map index_tree index.entry) }
+{
+    match index {
+        Some(index) => Some(change.index(space, index)),
+        None => None,
+    }
+}

@@ -1,0 +1,103 @@
+//! External types and imports.
+ghost use Rattle.std.specs.Prelude.{◌≡◌, ℕ, List, IfOk, map};
+ghost use Rattle.wast_grammar.specs.Tokens.{Name};
+ghost use Rattle.wast_imports.specs.ImportTree as spec;
+ghost use Rattle.wast_imports.specs.ImportViews.{extern_tree, item_tree, member_tree, items_tree, from_of, imports_tree};
+ghost use Rattle.wast_meaning.specs.Changed.{extern_changed, item_changed, imports_changed};
+
+use crate::changing::Changing;
+use crate::list::{Changed, change_list};
+use crate::types::change_type_use;
+use crate::value_types::{change_global_type, change_table_type};
+use std::alloc::{AllocError, Global};
+use wast_imports::{ImportGroup1Item, ImportItems, Imports, ItemKind, ItemSig, TagType};
+
+/// An external type (6.4.13). Fails only for want of memory.
+pub fn change_item_kind<'a, C: Changing<'a>>(
+    alloc: Global,
+    change: &C,
+    kind: ItemKind<'a>,
+) -> Result<ItemKind<'a>, AllocError>
+    ensures { IfOk result (λ new. extern_tree new ≡ extern_changed (C.change change.now) (extern_tree kind.entry)) }
+{
+    match kind {
+        ItemKind::Func(ty) => Ok(ItemKind::Func(change_type_use(alloc, change, ty)?)),
+        ItemKind::FuncExact(ty) => Ok(ItemKind::FuncExact(change_type_use(alloc, change, ty)?)),
+        ItemKind::Table(ty) => Ok(ItemKind::Table(change_table_type(change, ty))),
+        ItemKind::Memory(ty) => Ok(ItemKind::Memory(ty)),
+        ItemKind::Global(ty) => Ok(ItemKind::Global(change_global_type(change, ty))),
+        ItemKind::Tag(TagType::Exception(ty)) => Ok(ItemKind::Tag(TagType::Exception(
+            change_type_use(alloc, change, ty)?,
+        ))),
+    }
+}
+
+/// An external type with what it is called. Fails only for want of memory.
+pub fn change_item_sig<'a, C: Changing<'a>>(
+    alloc: Global,
+    change: &C,
+    sig: ItemSig<'a>,
+) -> Result<ItemSig<'a>, AllocError>
+    ensures { IfOk result (λ new. item_tree new ≡ item_changed (C.change change.now) (item_tree sig.entry)) }
+{
+    Ok(ItemSig {
+        span: sig.span,
+        id: sig.id,
+        name: sig.name,
+        kind: change_item_kind(alloc, change, sig.kind)?,
+    })
+}
+
+/// What is imported from a module (6.6.9); the name of the module stays. Fails only for want of memory.
+pub fn change_import_items<'a, C: Changing<'a>>(
+    alloc: Global,
+    change: &C,
+    items: ImportItems<'a>,
+) -> Result<ImportItems<'a>, AllocError>
+    ensures items { IfOk result (λ new. items_tree new ≡ imports_changed (C.change change.now) (items_tree items.entry)) }
+    ensures from { IfOk result (λ new. from_of new ≡ from_of items.entry) }
+{
+    match items {
+        ImportItems::Single { module, name, sig } => {
+            let sig = change_item_sig(alloc, change, sig)?;
+            Ok(ImportItems::Single { module, name, sig })
+        }
+        ImportItems::Group1 { module, items } => {
+            let items = change_list(alloc, change, items)?;
+            Ok(ImportItems::Group1 { module, items })
+        }
+        ImportItems::Group2 { module, sig, items } => {
+            let sig = change_item_sig(alloc, change, sig)?;
+            Ok(ImportItems::Group2 { module, sig, items })
+        }
+    }
+}
+
+/// Imports from a module (6.6.9). Fails only for want of memory.
+pub fn change_imports<'a, C: Changing<'a>>(
+    alloc: Global,
+    change: &C,
+    imports: Imports<'a>,
+) -> Result<Imports<'a>, AllocError>
+    ensures { IfOk result (λ new. imports_tree new ≡ record (imports_tree imports.entry) { items = imports_changed (C.change change.now) (imports_tree imports.entry).items }) }
+{
+    Ok(Imports {
+        span: imports.span,
+        items: change_import_items(alloc, change, imports.items)?,
+    })
+}
+
+impl<'a, C: Changing<'a>> Changed<'a, C> for ImportGroup1Item<'a> {
+    ghost Tree = { List ℕ × spec.Item Name ℕ };
+
+    ghost tree = { member_tree };
+
+    ghost changed = { λ c i. (i.0, item_changed c i.1) };
+
+    fn changed(self, alloc: Global, change: &C) -> Result<Self, AllocError> {
+        Ok(ImportGroup1Item {
+            name: self.name,
+            sig: change_item_sig(alloc, change, self.sig)?,
+        })
+    }
+}

@@ -1,0 +1,5 @@
+pub mod Counting
+pub mod FreshNames
+pub mod Offsets
+pub mod Parts
+pub mod Rounding
