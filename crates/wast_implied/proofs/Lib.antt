@@ -1,0 +1,9 @@
+pub mod Same
+pub mod Order
+pub mod Binds
+pub mod Steps
+pub mod Quiet
+pub mod Instructions
+pub mod Retold
+pub mod OtherFields
+pub mod Gathers

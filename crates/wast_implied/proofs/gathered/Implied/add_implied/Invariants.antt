@@ -1,0 +1,9 @@
+use Rattle.std.proofs.Common.{◌≡◌, take}
+use Rattle.wast_core.specs.ModuleViews.{field_tree}
+use Rattle.wast_names.specs.Walk.{reached}
+use Rattle.wast_implied.specs.Known.{after_field}
+use Rattle.wast_implied.specs.Views.{known}
+use Rattle.wast_implied.proofs.gathered.Implied.add_implied.Given as goal
+
+abbrev pub invariant-loop-field : goal.invariant-loop-field
+invariant-loop-field l = known l.self ≡ reached (λ k f. after_field k (field_tree f)) (known l.fn.self) (take l.field-index l.fields)

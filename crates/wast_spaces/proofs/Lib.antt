@@ -1,0 +1,4 @@
+pub mod Fields
+pub mod Joins
+pub mod Ordered
+pub mod Written

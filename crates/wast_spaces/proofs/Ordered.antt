@@ -1,0 +1,21 @@
+-- The walk over fields as code has them.
+use Rattle.std.proofs.Common.{◌≡◌, ℕ, List, Option, Some, None, refl}
+use Rattle.std.specs.Prelude.{option_map}
+use Rattle.std.specs.Option.{option_or}
+use Rattle.wasm_encoder_base.specs.Table.{Space}
+use Rattle.wast_grammar.specs.Tokens.{Name}
+use Rattle.wast_core.specs.ModuleViews.{field_tree}
+use Rattle.wast_core.specs.declared.field.ModuleField.{ModuleField}
+use Rattle.wast_names.specs.Demand.{Demand}
+use Rattle.wast_meaning.specs.Demands.{nearest, order_demand}
+
+abbrev pub asks : Option Space → ModuleField → List (Demand Name ℕ)
+asks before f = order_demand before (field_tree f)
+
+abbrev pub after : Option Space → ModuleField → Option Space
+after before f = nearest before (field_tree f)
+
+-- the first of two, as it is seen
+pub or_map : {A B : Type 0} (view : A → B) (o p : Option A) → option_map view (option_or o p) ≡ option_or (option_map view o) (option_map view p)
+or_map view None p = refl
+or_map view (Some x) p = refl
