@@ -1,10 +1,13 @@
-//! Modules and sections that are built by calls: the name of each row, and its bytes in hexadecimal.
+//! Modules and sections, custom ones too, that are built by calls: the name of each row, and its bytes in hexadecimal.
 #![tactic(auto)]
 
 mod code;
+mod dump;
 mod entities;
 mod imports;
+mod names;
 mod segments;
+mod tools;
 mod types;
 mod whole;
 
@@ -18,7 +21,10 @@ fn main(rt: HostRuntime) -> io::Result<()> {
     imports::print_rows(&rt)?;
     entities::print_rows(&rt)?;
     segments::print_rows(&rt)?;
-    code::print_rows(&rt)
+    code::print_rows(&rt)?;
+    names::print_rows(&rt)?;
+    tools::print_rows(&rt)?;
+    dump::print_rows(&rt)
 }
 
 /// Prints a row: its name, then the bytes, or why there are none.

@@ -1,5 +1,4 @@
-//! Tests of the calls of `wasm_encoder_base` and `wasm_encoder_code`, in a crate of their own: a crate with tests is
-//! proved twice.
+//! Tests of the calls of the encoder's crates, in a crate of their own: a crate with tests is proved twice.
 //!
 //! A test `ample_CALL` calls CALL with memory enough and finds that it is not refused; what it then answers is said by
 //! its contract, and shown by the rows of `wasm_encoder_rows`. The tests `refused_growths` have each growth refused in
@@ -11,10 +10,28 @@ mod bodies;
 #[cfg(test)]
 mod const_expr;
 #[cfg(test)]
+mod custom;
+#[cfg(test)]
+mod dump;
+#[cfg(test)]
 mod encode;
+#[cfg(test)]
+mod entities;
+#[cfg(test)]
+mod imports;
 #[cfg(test)]
 mod items;
 #[cfg(test)]
+mod modules;
+#[cfg(test)]
+mod names;
+#[cfg(test)]
+mod segments;
+#[cfg(test)]
 mod sink;
+#[cfg(test)]
+mod tools;
+#[cfg(test)]
+mod type_section;
 #[cfg(test)]
 mod types;

@@ -19,7 +19,6 @@ use wast_parser::{
 };
 
 /// A module (6.6.14): `(module $m ..)`.
-#[derive(Drop)]
 pub struct Module<'a> {
     /// Where the word `module` stands.
     pub span: Span,
@@ -29,6 +28,19 @@ pub struct Module<'a> {
     pub kind: ModuleKind<'a>,
     /// What a resolver refused the module with; none where it is read.
     pub refusal: Option<Error>,
+}
+
+// By hand, so that what drops one is proved here once, and not in each crate that holds one.
+impl Drop for Module<'_> {
+    fn drop(self) {
+        let Module {
+            span: _,
+            id: _,
+            name: _,
+            kind: _,
+            refusal: _,
+        } = self;
+    }
 }
 
 /// What a module holds.

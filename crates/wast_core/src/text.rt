@@ -68,20 +68,16 @@ fn parse_bare<'a>(parser: &mut Parser<'a>) -> Result<Module<'a>, Error>
     }
 }
 
-/// The first field, and then the others.
-fn with_first<'a>(
-    alloc: Global,
-    first: ModuleField<'a>,
-    others: Vec<ModuleField<'a>>,
-) -> Result<Vec<ModuleField<'a>>, AllocError>
-    ensures { IfOk result (λ fields. fields.items ≡ first.entry ∷ others.entry.items) }
+/// The first of a list, and then the others. Over any type: of fields the proof would take minutes.
+fn with_first<T: Drop>(alloc: Global, first: T, others: Vec<T>) -> Result<Vec<T>, AllocError>
+    ensures { IfOk result (λ all. all.items ≡ first ∷ others.items) }
 {
-    let mut fields = Vec::new(alloc);
-    fields.push(first)?;
-    for field in others {
-        fields.push(field)?;
+    let mut all = Vec::new(alloc);
+    all.push(first)?;
+    for item in others {
+        all.push(item)?;
     }
-    Ok(fields)
+    Ok(all)
 }
 
 /// Where the keyword of a field stands.

@@ -7,8 +7,8 @@ ghost use Rattle.wast_mnemonics.specs.declared.word.Word.TheVariants as words;
 ghost use Rattle.wast_mnemonics.specs.declared.word.MemoryWord.TheVariants as memory_words;
 ghost use Rattle.wast_mnemonics.specs.declared.proposal.ProposalWord.TheVariants as proposal_words;
 ghost use Rattle.wast_core_instr.specs.InstructionTree as spec;
-ghost use Rattle.wast_core_instr.specs.WordViews.{instruction_word, vector_arg_word};
-ghost use Rattle.wast_core_instr.specs.InstructionViews.{instruction_operands, vector_arg_operands};
+ghost use Rattle.wast_core_instr.specs.WordViews.{instruction_word, vector_arg_word, gc_word, proposal_word};
+ghost use Rattle.wast_core_instr.specs.InstructionViews.{instruction_operands, vector_arg_operands, gc_operands, proposal_operands};
 
 use crate::bulk::BulkOp;
 use crate::gc::GcOp;
@@ -130,43 +130,50 @@ pub(crate) fn with_indices<'a>(
     ensures word { instruction_word result ≡ words.Indices word }
     ensures operands { instruction_operands result ≡ spec.Two (index_tree first.entry) (index_tree second.entry) }
 {
+    Instruction::Gc(gc_indices(word, first, second))
+}
+
+fn gc_indices<'a>(word: IndicesWord, first: Index<'a>, second: Index<'a>) -> GcOp<'a>
+    ensures word { gc_word result ≡ words.Indices word }
+    ensures operands { gc_operands result ≡ spec.Two (index_tree first.entry) (index_tree second.entry) }
+{
     match word {
-        IndicesWord::StructGet => Instruction::Gc(GcOp::StructGet(StructAccess {
+        IndicesWord::StructGet => GcOp::StructGet(StructAccess {
             struct_type: first,
             field: second,
-        })),
-        IndicesWord::StructGetS => Instruction::Gc(GcOp::StructGetS(StructAccess {
+        }),
+        IndicesWord::StructGetS => GcOp::StructGetS(StructAccess {
             struct_type: first,
             field: second,
-        })),
-        IndicesWord::StructGetU => Instruction::Gc(GcOp::StructGetU(StructAccess {
+        }),
+        IndicesWord::StructGetU => GcOp::StructGetU(StructAccess {
             struct_type: first,
             field: second,
-        })),
-        IndicesWord::StructSet => Instruction::Gc(GcOp::StructSet(StructAccess {
+        }),
+        IndicesWord::StructSet => GcOp::StructSet(StructAccess {
             struct_type: first,
             field: second,
-        })),
-        IndicesWord::ArrayNewData => Instruction::Gc(GcOp::ArrayNewData(ArrayNewData {
+        }),
+        IndicesWord::ArrayNewData => GcOp::ArrayNewData(ArrayNewData {
             array: first,
             data_idx: second,
-        })),
-        IndicesWord::ArrayNewElem => Instruction::Gc(GcOp::ArrayNewElem(ArrayNewElem {
+        }),
+        IndicesWord::ArrayNewElem => GcOp::ArrayNewElem(ArrayNewElem {
             array: first,
             elem_idx: second,
-        })),
-        IndicesWord::ArrayCopy => Instruction::Gc(GcOp::ArrayCopy(ArrayCopy {
+        }),
+        IndicesWord::ArrayCopy => GcOp::ArrayCopy(ArrayCopy {
             dest_array: first,
             src_array: second,
-        })),
-        IndicesWord::ArrayInitData => Instruction::Gc(GcOp::ArrayInitData(ArrayInit {
+        }),
+        IndicesWord::ArrayInitData => GcOp::ArrayInitData(ArrayInit {
             array: first,
             segment: second,
-        })),
-        IndicesWord::ArrayInitElem => Instruction::Gc(GcOp::ArrayInitElem(ArrayInit {
+        }),
+        IndicesWord::ArrayInitElem => GcOp::ArrayInitElem(ArrayInit {
             array: first,
             segment: second,
-        })),
+        }),
     }
 }
 
@@ -214,21 +221,28 @@ pub(crate) fn with_lane<'a>(word: LaneWord, lane: LaneArg) -> Instruction<'a>
     ensures word { instruction_word result ≡ words.Lane word }
     ensures operands { instruction_operands result ≡ spec.Lane lane.lane }
 {
+    Instruction::VectorArg(vector_lane(word, lane))
+}
+
+fn vector_lane<'a>(word: LaneWord, lane: LaneArg) -> VectorArgOp<'a>
+    ensures word { vector_arg_word result ≡ words.Lane word }
+    ensures operands { vector_arg_operands result ≡ spec.Lane lane.lane }
+{
     match word {
-        LaneWord::I8x16ExtractLaneS => Instruction::VectorArg(VectorArgOp::I8x16ExtractLaneS(lane)),
-        LaneWord::I8x16ExtractLaneU => Instruction::VectorArg(VectorArgOp::I8x16ExtractLaneU(lane)),
-        LaneWord::I8x16ReplaceLane => Instruction::VectorArg(VectorArgOp::I8x16ReplaceLane(lane)),
-        LaneWord::I16x8ExtractLaneS => Instruction::VectorArg(VectorArgOp::I16x8ExtractLaneS(lane)),
-        LaneWord::I16x8ExtractLaneU => Instruction::VectorArg(VectorArgOp::I16x8ExtractLaneU(lane)),
-        LaneWord::I16x8ReplaceLane => Instruction::VectorArg(VectorArgOp::I16x8ReplaceLane(lane)),
-        LaneWord::I32x4ExtractLane => Instruction::VectorArg(VectorArgOp::I32x4ExtractLane(lane)),
-        LaneWord::I32x4ReplaceLane => Instruction::VectorArg(VectorArgOp::I32x4ReplaceLane(lane)),
-        LaneWord::I64x2ExtractLane => Instruction::VectorArg(VectorArgOp::I64x2ExtractLane(lane)),
-        LaneWord::I64x2ReplaceLane => Instruction::VectorArg(VectorArgOp::I64x2ReplaceLane(lane)),
-        LaneWord::F32x4ExtractLane => Instruction::VectorArg(VectorArgOp::F32x4ExtractLane(lane)),
-        LaneWord::F32x4ReplaceLane => Instruction::VectorArg(VectorArgOp::F32x4ReplaceLane(lane)),
-        LaneWord::F64x2ExtractLane => Instruction::VectorArg(VectorArgOp::F64x2ExtractLane(lane)),
-        LaneWord::F64x2ReplaceLane => Instruction::VectorArg(VectorArgOp::F64x2ReplaceLane(lane)),
+        LaneWord::I8x16ExtractLaneS => VectorArgOp::I8x16ExtractLaneS(lane),
+        LaneWord::I8x16ExtractLaneU => VectorArgOp::I8x16ExtractLaneU(lane),
+        LaneWord::I8x16ReplaceLane => VectorArgOp::I8x16ReplaceLane(lane),
+        LaneWord::I16x8ExtractLaneS => VectorArgOp::I16x8ExtractLaneS(lane),
+        LaneWord::I16x8ExtractLaneU => VectorArgOp::I16x8ExtractLaneU(lane),
+        LaneWord::I16x8ReplaceLane => VectorArgOp::I16x8ReplaceLane(lane),
+        LaneWord::I32x4ExtractLane => VectorArgOp::I32x4ExtractLane(lane),
+        LaneWord::I32x4ReplaceLane => VectorArgOp::I32x4ReplaceLane(lane),
+        LaneWord::I64x2ExtractLane => VectorArgOp::I64x2ExtractLane(lane),
+        LaneWord::I64x2ReplaceLane => VectorArgOp::I64x2ReplaceLane(lane),
+        LaneWord::F32x4ExtractLane => VectorArgOp::F32x4ExtractLane(lane),
+        LaneWord::F32x4ReplaceLane => VectorArgOp::F32x4ReplaceLane(lane),
+        LaneWord::F64x2ExtractLane => VectorArgOp::F64x2ExtractLane(lane),
+        LaneWord::F64x2ReplaceLane => VectorArgOp::F64x2ReplaceLane(lane),
     }
 }
 
@@ -253,31 +267,22 @@ pub(crate) fn with_memarg_lane<'a>(
     ensures word { instruction_word result ≡ words.MemoryLane word }
     ensures operands { instruction_operands result ≡ spec.MemoryLane (mem_arg_tree operands.entry.memarg) operands.entry.lane.lane }
 {
+    Instruction::VectorArg(vector_memory_lane(word, operands))
+}
+
+fn vector_memory_lane<'a>(word: MemoryLaneWord, operands: LoadOrStoreLane<'a>) -> VectorArgOp<'a>
+    ensures word { vector_arg_word result ≡ words.MemoryLane word }
+    ensures operands { vector_arg_operands result ≡ spec.MemoryLane (mem_arg_tree operands.entry.memarg) operands.entry.lane.lane }
+{
     match word {
-        MemoryLaneWord::V128Load8Lane => Instruction::VectorArg(VectorArgOp::V128Load8Lane(
-            operands,
-        )),
-        MemoryLaneWord::V128Load16Lane => Instruction::VectorArg(VectorArgOp::V128Load16Lane(
-            operands,
-        )),
-        MemoryLaneWord::V128Load32Lane => Instruction::VectorArg(VectorArgOp::V128Load32Lane(
-            operands,
-        )),
-        MemoryLaneWord::V128Load64Lane => Instruction::VectorArg(VectorArgOp::V128Load64Lane(
-            operands,
-        )),
-        MemoryLaneWord::V128Store8Lane => Instruction::VectorArg(VectorArgOp::V128Store8Lane(
-            operands,
-        )),
-        MemoryLaneWord::V128Store16Lane => Instruction::VectorArg(VectorArgOp::V128Store16Lane(
-            operands,
-        )),
-        MemoryLaneWord::V128Store32Lane => Instruction::VectorArg(VectorArgOp::V128Store32Lane(
-            operands,
-        )),
-        MemoryLaneWord::V128Store64Lane => Instruction::VectorArg(VectorArgOp::V128Store64Lane(
-            operands,
-        )),
+        MemoryLaneWord::V128Load8Lane => VectorArgOp::V128Load8Lane(operands),
+        MemoryLaneWord::V128Load16Lane => VectorArgOp::V128Load16Lane(operands),
+        MemoryLaneWord::V128Load32Lane => VectorArgOp::V128Load32Lane(operands),
+        MemoryLaneWord::V128Load64Lane => VectorArgOp::V128Load64Lane(operands),
+        MemoryLaneWord::V128Store8Lane => VectorArgOp::V128Store8Lane(operands),
+        MemoryLaneWord::V128Store16Lane => VectorArgOp::V128Store16Lane(operands),
+        MemoryLaneWord::V128Store32Lane => VectorArgOp::V128Store32Lane(operands),
+        MemoryLaneWord::V128Store64Lane => VectorArgOp::V128Store64Lane(operands),
     }
 }
 
@@ -286,9 +291,16 @@ pub(crate) fn plain_proposal<'a>(word: PlainProposal) -> Instruction<'a>
     ensures word { instruction_word result ≡ words.Proposal (proposal_words.Plain word) }
     ensures operands { instruction_operands result ≡ spec.NoOperands }
 {
+    Instruction::Proposal(plain_op(word))
+}
+
+fn plain_op<'a>(word: PlainProposal) -> ProposalOp<'a>
+    ensures word { proposal_word result ≡ words.Proposal (proposal_words.Plain word) }
+    ensures operands { proposal_operands result ≡ spec.NoOperands }
+{
     match word {
-        PlainProposal::Pause => Instruction::Proposal(ProposalOp::Pause),
-        PlainProposal::RefI31Shared => Instruction::Proposal(ProposalOp::RefI31Shared),
+        PlainProposal::Pause => ProposalOp::Pause,
+        PlainProposal::RefI31Shared => ProposalOp::RefI31Shared,
     }
 }
 
@@ -297,14 +309,19 @@ pub(crate) fn index_proposal<'a>(word: IndexProposal, index: Index<'a>) -> Instr
     ensures word { instruction_word result ≡ words.Proposal (proposal_words.Index word) }
     ensures operands { instruction_operands result ≡ spec.One (index_tree index.entry) }
 {
+    Instruction::Proposal(index_op(word, index))
+}
+
+fn index_op<'a>(word: IndexProposal, index: Index<'a>) -> ProposalOp<'a>
+    ensures word { proposal_word result ≡ words.Proposal (proposal_words.Index word) }
+    ensures operands { proposal_operands result ≡ spec.One (index_tree index.entry) }
+{
     match word {
-        IndexProposal::ContNew => Instruction::Proposal(ProposalOp::ContNew(index)),
-        IndexProposal::Suspend => Instruction::Proposal(ProposalOp::Suspend(index)),
-        IndexProposal::StructNewDesc => Instruction::Proposal(ProposalOp::StructNewDesc(index)),
-        IndexProposal::StructNewDefaultDesc => Instruction::Proposal(
-            ProposalOp::StructNewDefaultDesc(index),
-        ),
-        IndexProposal::RefGetDesc => Instruction::Proposal(ProposalOp::RefGetDesc(index)),
+        IndexProposal::ContNew => ProposalOp::ContNew(index),
+        IndexProposal::Suspend => ProposalOp::Suspend(index),
+        IndexProposal::StructNewDesc => ProposalOp::StructNewDesc(index),
+        IndexProposal::StructNewDefaultDesc => ProposalOp::StructNewDefaultDesc(index),
+        IndexProposal::RefGetDesc => ProposalOp::RefGetDesc(index),
     }
 }
 
@@ -317,15 +334,22 @@ pub(crate) fn indices_proposal<'a>(
     ensures word { instruction_word result ≡ words.Proposal (proposal_words.Indices word) }
     ensures operands { instruction_operands result ≡ spec.Two (index_tree first.entry) (index_tree second.entry) }
 {
+    Instruction::Proposal(indices_op(word, first, second))
+}
+
+fn indices_op<'a>(word: IndicesProposal, first: Index<'a>, second: Index<'a>) -> ProposalOp<'a>
+    ensures word { proposal_word result ≡ words.Proposal (proposal_words.Indices word) }
+    ensures operands { proposal_operands result ≡ spec.Two (index_tree first.entry) (index_tree second.entry) }
+{
     match word {
-        IndicesProposal::ContBind => Instruction::Proposal(ProposalOp::ContBind(ContBind {
+        IndicesProposal::ContBind => ProposalOp::ContBind(ContBind {
             argument_index: first,
             result_index: second,
-        })),
-        IndicesProposal::Switch => Instruction::Proposal(ProposalOp::Switch(Switch {
+        }),
+        IndicesProposal::Switch => ProposalOp::Switch(Switch {
             type_index: first,
             tag_index: second,
-        })),
+        }),
     }
 }
 
@@ -337,67 +361,34 @@ pub(crate) fn ordered_index<'a>(
     ensures word { instruction_word result ≡ words.Proposal (proposal_words.OrderedIndex word) }
     ensures operands { instruction_operands result ≡ spec.Ordered (ordering_tree operand.entry.ordering) (spec.One (index_tree operand.entry.inner)) }
 {
+    Instruction::Proposal(ordered_index_op(word, operand))
+}
+
+fn ordered_index_op<'a>(word: OrderedIndexProposal, operand: Ordered<Index<'a>>) -> ProposalOp<'a>
+    ensures word { proposal_word result ≡ words.Proposal (proposal_words.OrderedIndex word) }
+    ensures operands { proposal_operands result ≡ spec.Ordered (ordering_tree operand.entry.ordering) (spec.One (index_tree operand.entry.inner)) }
+{
     match word {
-        OrderedIndexProposal::GlobalAtomicGet => Instruction::Proposal(ProposalOp::GlobalAtomicGet(
-            operand,
-        )),
-        OrderedIndexProposal::GlobalAtomicSet => Instruction::Proposal(ProposalOp::GlobalAtomicSet(
-            operand,
-        )),
-        OrderedIndexProposal::GlobalAtomicRmwAdd => Instruction::Proposal(
-            ProposalOp::GlobalAtomicRmwAdd(operand),
-        ),
-        OrderedIndexProposal::GlobalAtomicRmwSub => Instruction::Proposal(
-            ProposalOp::GlobalAtomicRmwSub(operand),
-        ),
-        OrderedIndexProposal::GlobalAtomicRmwAnd => Instruction::Proposal(
-            ProposalOp::GlobalAtomicRmwAnd(operand),
-        ),
-        OrderedIndexProposal::GlobalAtomicRmwOr => Instruction::Proposal(
-            ProposalOp::GlobalAtomicRmwOr(operand),
-        ),
-        OrderedIndexProposal::GlobalAtomicRmwXor => Instruction::Proposal(
-            ProposalOp::GlobalAtomicRmwXor(operand),
-        ),
-        OrderedIndexProposal::GlobalAtomicRmwXchg => Instruction::Proposal(
-            ProposalOp::GlobalAtomicRmwXchg(operand),
-        ),
-        OrderedIndexProposal::GlobalAtomicRmwCmpxchg => Instruction::Proposal(
-            ProposalOp::GlobalAtomicRmwCmpxchg(operand),
-        ),
-        OrderedIndexProposal::ArrayAtomicGet => Instruction::Proposal(ProposalOp::ArrayAtomicGet(
-            operand,
-        )),
-        OrderedIndexProposal::ArrayAtomicGetS => Instruction::Proposal(ProposalOp::ArrayAtomicGetS(
-            operand,
-        )),
-        OrderedIndexProposal::ArrayAtomicGetU => Instruction::Proposal(ProposalOp::ArrayAtomicGetU(
-            operand,
-        )),
-        OrderedIndexProposal::ArrayAtomicSet => Instruction::Proposal(ProposalOp::ArrayAtomicSet(
-            operand,
-        )),
-        OrderedIndexProposal::ArrayAtomicRmwAdd => Instruction::Proposal(
-            ProposalOp::ArrayAtomicRmwAdd(operand),
-        ),
-        OrderedIndexProposal::ArrayAtomicRmwSub => Instruction::Proposal(
-            ProposalOp::ArrayAtomicRmwSub(operand),
-        ),
-        OrderedIndexProposal::ArrayAtomicRmwAnd => Instruction::Proposal(
-            ProposalOp::ArrayAtomicRmwAnd(operand),
-        ),
-        OrderedIndexProposal::ArrayAtomicRmwOr => Instruction::Proposal(
-            ProposalOp::ArrayAtomicRmwOr(operand),
-        ),
-        OrderedIndexProposal::ArrayAtomicRmwXor => Instruction::Proposal(
-            ProposalOp::ArrayAtomicRmwXor(operand),
-        ),
-        OrderedIndexProposal::ArrayAtomicRmwXchg => Instruction::Proposal(
-            ProposalOp::ArrayAtomicRmwXchg(operand),
-        ),
-        OrderedIndexProposal::ArrayAtomicRmwCmpxchg => Instruction::Proposal(
-            ProposalOp::ArrayAtomicRmwCmpxchg(operand),
-        ),
+        OrderedIndexProposal::GlobalAtomicGet => ProposalOp::GlobalAtomicGet(operand),
+        OrderedIndexProposal::GlobalAtomicSet => ProposalOp::GlobalAtomicSet(operand),
+        OrderedIndexProposal::GlobalAtomicRmwAdd => ProposalOp::GlobalAtomicRmwAdd(operand),
+        OrderedIndexProposal::GlobalAtomicRmwSub => ProposalOp::GlobalAtomicRmwSub(operand),
+        OrderedIndexProposal::GlobalAtomicRmwAnd => ProposalOp::GlobalAtomicRmwAnd(operand),
+        OrderedIndexProposal::GlobalAtomicRmwOr => ProposalOp::GlobalAtomicRmwOr(operand),
+        OrderedIndexProposal::GlobalAtomicRmwXor => ProposalOp::GlobalAtomicRmwXor(operand),
+        OrderedIndexProposal::GlobalAtomicRmwXchg => ProposalOp::GlobalAtomicRmwXchg(operand),
+        OrderedIndexProposal::GlobalAtomicRmwCmpxchg => ProposalOp::GlobalAtomicRmwCmpxchg(operand),
+        OrderedIndexProposal::ArrayAtomicGet => ProposalOp::ArrayAtomicGet(operand),
+        OrderedIndexProposal::ArrayAtomicGetS => ProposalOp::ArrayAtomicGetS(operand),
+        OrderedIndexProposal::ArrayAtomicGetU => ProposalOp::ArrayAtomicGetU(operand),
+        OrderedIndexProposal::ArrayAtomicSet => ProposalOp::ArrayAtomicSet(operand),
+        OrderedIndexProposal::ArrayAtomicRmwAdd => ProposalOp::ArrayAtomicRmwAdd(operand),
+        OrderedIndexProposal::ArrayAtomicRmwSub => ProposalOp::ArrayAtomicRmwSub(operand),
+        OrderedIndexProposal::ArrayAtomicRmwAnd => ProposalOp::ArrayAtomicRmwAnd(operand),
+        OrderedIndexProposal::ArrayAtomicRmwOr => ProposalOp::ArrayAtomicRmwOr(operand),
+        OrderedIndexProposal::ArrayAtomicRmwXor => ProposalOp::ArrayAtomicRmwXor(operand),
+        OrderedIndexProposal::ArrayAtomicRmwXchg => ProposalOp::ArrayAtomicRmwXchg(operand),
+        OrderedIndexProposal::ArrayAtomicRmwCmpxchg => ProposalOp::ArrayAtomicRmwCmpxchg(operand),
     }
 }
 
@@ -409,18 +400,22 @@ pub(crate) fn ordered_optional_index<'a>(
     ensures word { instruction_word result ≡ words.Proposal (proposal_words.OrderedOptionalIndex word) }
     ensures operands { instruction_operands result ≡ spec.Ordered (ordering_tree operand.entry.ordering) (spec.Optional (table_arg_tree operand.entry.inner)) }
 {
+    Instruction::Proposal(ordered_optional_index_op(word, operand))
+}
+
+fn ordered_optional_index_op<'a>(
+    word: OrderedOptionalIndexProposal,
+    operand: Ordered<TableArg<'a>>,
+) -> ProposalOp<'a>
+    ensures word { proposal_word result ≡ words.Proposal (proposal_words.OrderedOptionalIndex word) }
+    ensures operands { proposal_operands result ≡ spec.Ordered (ordering_tree operand.entry.ordering) (spec.Optional (table_arg_tree operand.entry.inner)) }
+{
     match word {
-        OrderedOptionalIndexProposal::TableAtomicGet => Instruction::Proposal(
-            ProposalOp::TableAtomicGet(operand),
-        ),
-        OrderedOptionalIndexProposal::TableAtomicSet => Instruction::Proposal(
-            ProposalOp::TableAtomicSet(operand),
-        ),
-        OrderedOptionalIndexProposal::TableAtomicRmwXchg => Instruction::Proposal(
-            ProposalOp::TableAtomicRmwXchg(operand),
-        ),
-        OrderedOptionalIndexProposal::TableAtomicRmwCmpxchg => Instruction::Proposal(
-            ProposalOp::TableAtomicRmwCmpxchg(operand),
+        OrderedOptionalIndexProposal::TableAtomicGet => ProposalOp::TableAtomicGet(operand),
+        OrderedOptionalIndexProposal::TableAtomicSet => ProposalOp::TableAtomicSet(operand),
+        OrderedOptionalIndexProposal::TableAtomicRmwXchg => ProposalOp::TableAtomicRmwXchg(operand),
+        OrderedOptionalIndexProposal::TableAtomicRmwCmpxchg => ProposalOp::TableAtomicRmwCmpxchg(
+            operand,
         ),
     }
 }
@@ -433,39 +428,29 @@ pub(crate) fn ordered_indices<'a>(
     ensures word { instruction_word result ≡ words.Proposal (proposal_words.OrderedIndices word) }
     ensures operands { instruction_operands result ≡ spec.Ordered (ordering_tree operand.entry.ordering) (spec.Two (index_tree operand.entry.inner.struct_type) (index_tree operand.entry.inner.field)) }
 {
+    Instruction::Proposal(ordered_indices_op(word, operand))
+}
+
+fn ordered_indices_op<'a>(
+    word: OrderedIndicesProposal,
+    operand: Ordered<StructAccess<'a>>,
+) -> ProposalOp<'a>
+    ensures word { proposal_word result ≡ words.Proposal (proposal_words.OrderedIndices word) }
+    ensures operands { proposal_operands result ≡ spec.Ordered (ordering_tree operand.entry.ordering) (spec.Two (index_tree operand.entry.inner.struct_type) (index_tree operand.entry.inner.field)) }
+{
     match word {
-        OrderedIndicesProposal::StructAtomicGet => Instruction::Proposal(
-            ProposalOp::StructAtomicGet(operand),
-        ),
-        OrderedIndicesProposal::StructAtomicGetS => Instruction::Proposal(
-            ProposalOp::StructAtomicGetS(operand),
-        ),
-        OrderedIndicesProposal::StructAtomicGetU => Instruction::Proposal(
-            ProposalOp::StructAtomicGetU(operand),
-        ),
-        OrderedIndicesProposal::StructAtomicSet => Instruction::Proposal(
-            ProposalOp::StructAtomicSet(operand),
-        ),
-        OrderedIndicesProposal::StructAtomicRmwAdd => Instruction::Proposal(
-            ProposalOp::StructAtomicRmwAdd(operand),
-        ),
-        OrderedIndicesProposal::StructAtomicRmwSub => Instruction::Proposal(
-            ProposalOp::StructAtomicRmwSub(operand),
-        ),
-        OrderedIndicesProposal::StructAtomicRmwAnd => Instruction::Proposal(
-            ProposalOp::StructAtomicRmwAnd(operand),
-        ),
-        OrderedIndicesProposal::StructAtomicRmwOr => Instruction::Proposal(
-            ProposalOp::StructAtomicRmwOr(operand),
-        ),
-        OrderedIndicesProposal::StructAtomicRmwXor => Instruction::Proposal(
-            ProposalOp::StructAtomicRmwXor(operand),
-        ),
-        OrderedIndicesProposal::StructAtomicRmwXchg => Instruction::Proposal(
-            ProposalOp::StructAtomicRmwXchg(operand),
-        ),
-        OrderedIndicesProposal::StructAtomicRmwCmpxchg => Instruction::Proposal(
-            ProposalOp::StructAtomicRmwCmpxchg(operand),
+        OrderedIndicesProposal::StructAtomicGet => ProposalOp::StructAtomicGet(operand),
+        OrderedIndicesProposal::StructAtomicGetS => ProposalOp::StructAtomicGetS(operand),
+        OrderedIndicesProposal::StructAtomicGetU => ProposalOp::StructAtomicGetU(operand),
+        OrderedIndicesProposal::StructAtomicSet => ProposalOp::StructAtomicSet(operand),
+        OrderedIndicesProposal::StructAtomicRmwAdd => ProposalOp::StructAtomicRmwAdd(operand),
+        OrderedIndicesProposal::StructAtomicRmwSub => ProposalOp::StructAtomicRmwSub(operand),
+        OrderedIndicesProposal::StructAtomicRmwAnd => ProposalOp::StructAtomicRmwAnd(operand),
+        OrderedIndicesProposal::StructAtomicRmwOr => ProposalOp::StructAtomicRmwOr(operand),
+        OrderedIndicesProposal::StructAtomicRmwXor => ProposalOp::StructAtomicRmwXor(operand),
+        OrderedIndicesProposal::StructAtomicRmwXchg => ProposalOp::StructAtomicRmwXchg(operand),
+        OrderedIndicesProposal::StructAtomicRmwCmpxchg => ProposalOp::StructAtomicRmwCmpxchg(
+            operand,
         ),
     }
 }

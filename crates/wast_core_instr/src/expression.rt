@@ -23,7 +23,8 @@ use wast_parser::{Error, Meaning, Parse, Parser, Span};
 
 /// Instructions in the order in which they are carried out, and hints, whose indices rise (6.5.10). Folded and flat forms of an
 /// expression are one value.
-#[derive(Drop)]
+///
+/// It is taken apart by [`Expression::into_parts`] alone.
 pub struct Expression<'a> {
     pub instrs: Vec<Instruction<'a>>,
     pub branch_hints: Vec<BranchHint>,
@@ -31,7 +32,30 @@ pub struct Expression<'a> {
     pub instr_spans: Option<Vec<Span>>,
 }
 
+// By hand, so that what drops one is proved here once, and not in each crate that holds one.
+impl Drop for Expression<'_> {
+    fn drop(self) {
+        let Expression {
+            instrs: _,
+            branch_hints: _,
+            instr_spans: _,
+        } = self;
+    }
+}
+
 impl<'a> Expression<'a> {
+    /// Its instructions, its hints, and where the instructions stand.
+    pub fn into_parts(self) -> (Vec<Instruction<'a>>, Vec<BranchHint>, Option<Vec<Span>>)
+        ensures { result ≡ (self.entry.instrs, self.entry.branch_hints, self.entry.instr_spans) }
+    {
+        let Expression {
+            instrs,
+            branch_hints,
+            instr_spans,
+        } = self;
+        (instrs, branch_hints, instr_spans)
+    }
+
     /// An expression of one instruction.
     pub fn one(alloc: Global, instr: Instruction<'a>) -> Result<Self, AllocError>
         ensures { IfOk result (λ e. expression_tree e ≡ expression_of ((None, instruction_tree instr.entry) ∷ [])) }

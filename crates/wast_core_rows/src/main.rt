@@ -7,10 +7,17 @@
 //! - `data TEXT`: a value of a data segment, printed as how many bytes it is, and these;
 //! - `instr TEXT`: the instructions to which its items unfold, one a line, and the hints, or that the text is refused;
 //! - `folded TEXT`: the same of an instruction behind its operands;
-//! - `mnemonic TEXT`: whether it is one instruction.
+//! - `mnemonic TEXT`: whether it is one instruction;
+//! - `custom TEXT`: a custom field: its name, its place and where it stands; then its data, its producers, or its
+//!   subsections, each by its number and its bytes;
+//! - `export TEXT`: an export: its name, its kind and what it refers to;
+//! - `inline TEXT`: the names of inline exports, and behind them the two of an inline import.
 #![tactic(auto)]
 
+mod customs;
 mod data;
+mod exports;
+mod fields;
 mod imports;
 mod instr;
 mod types;
@@ -42,6 +49,8 @@ fn answer(rt: HostRuntime, line: &str) -> io::Result<()> {
         instr::unfold(rt, rest, true)
     } else if word == "mnemonic" {
         instr::mnemonic(rt, rest)
+    } else if word == "custom" || word == "export" || word == "inline" {
+        fields::read(&rt, word, rest)
     } else {
         println!(rt; "no such word")
     }

@@ -12,7 +12,6 @@ use wasm_encoder_base::Bytes;
 use wast_lexer::Span;
 
 /// A custom field.
-#[derive(Drop)]
 pub enum Custom<'a> {
     Raw(RawCustomSection<'a>),
     Producers(Producers<'a>),
@@ -29,6 +28,15 @@ pub struct RawCustomSection<'a> {
     pub place: CustomPlace,
     /// The data, in the strings in which it is written.
     pub bytes: Vec<Bytes<'a>>,
+}
+
+// By hand, so that what drops one is proved here once, and not in each crate that holds one.
+impl Drop for Custom<'_> {
+    fn drop(self) {
+        match self {
+            Custom::Raw(_) | Custom::Producers(_) | Custom::Dylink0(_) => {}
+        }
+    }
 }
 
 impl<'a> Custom<'a> {

@@ -1,3 +1,4 @@
 pub mod Powers
 pub mod Spoken
 pub mod Turns
+pub mod Written

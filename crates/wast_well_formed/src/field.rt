@@ -2,14 +2,14 @@
 ghost use Rattle.std.specs.Prelude.{◌≡◌, map, not, slice_get, ◌&&◌};
 ghost use Rattle.std.specs.List.{list_all};
 ghost use Rattle.wast_fields.specs.FieldTree.{field_place, is_start};
-ghost use Rattle.wast_core.specs.ModuleViews.{field_tree};
+ghost use Rattle.wast_core.specs.ModuleViews.{field_tree, module_tree};
 ghost use Rattle.wast_meaning.specs.Mentions.{parts};
 ghost use Rattle.wast_meaning.specs.WellFormed as spec;
 ghost use Rattle.wast_meaning.specs.WellFormed.{part_formed};
-ghost use Rattle.wast_well_formed.specs.Breaches.{breaches};
+ghost use Rattle.wast_well_formed.specs.Breaches.{breaches, written_breach};
 
 use crate::parts::parts_formed;
-use wast_core::{MemoryKind, ModuleField};
+use wast_core::{MemoryKind, Module, ModuleField, ModuleKind};
 use wast_parser::Span;
 
 /// Whether the expressions in a field are formed, a memory with its segment inline has pages whose size fits, and the field isn't a
@@ -32,6 +32,17 @@ pub fn first_breach(fields: &[ModuleField<'_>]) -> Option<Span>
         started = started || is_start(field);
     }
     None
+}
+
+/// Where the keyword of the first field stands, of a module that a text spells, that breaches what it must keep to, if there is one.
+/// Such a module has no names that are made up. The pieces of a binary breach nothing.
+pub fn first_breach_written(module: &Module<'_>) -> Option<Span>
+    ensures { result ≡ written_breach (module_tree «module».now) }
+{
+    match &module.kind {
+        ModuleKind::Text(fields) => first_breach(fields),
+        ModuleKind::Binary(_) => None,
+    }
 }
 
 /// Whether the size of the pages of a memory whose segment stands inline is 2 to a power below 64, in bytes.

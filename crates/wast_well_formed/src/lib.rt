@@ -10,13 +10,14 @@
 //! - no start function stands before it where it is one.
 //!
 //! [`field_formed`] tells whether one field is so, and [`first_breach`] where the first stands that isn't. Nothing is changed, no
-//! memory is taken, and no name is looked up: that names that are made up are bound is left to others.
+//! memory is taken, and no name is looked up: that names that are made up are bound is left to others. A text makes up no name, so
+//! [`first_breach_written`] tells of a module that one spells all that it must keep to.
 //!
 //! # What has to be believed
 //!
 //! | File of `specs/` | Says |
 //! |---|---|
-//! | `Breaches` | the places of the fields that aren't so |
+//! | `Breaches` | the places of the fields that aren't so, and of a text the first that breaches what it must keep to |
 //! | `Views` | which turn of the definitions a [`Turn`] is |
 //!
 //! What a field keeps to is the definitions' own, those of `wast_meaning`'s file `WellFormed`.
@@ -30,5 +31,5 @@ mod turn;
 
 pub use alignment::is_aligned;
 pub use expression::{is_formed, is_formed_constant};
-pub use field::{field_formed, first_breach};
+pub use field::{field_formed, first_breach, first_breach_written};
 pub use turn::Turn;

@@ -1,27 +1,21 @@
 -- What the parts of `assemble` answer is what the input deserves.
-use Rattle.std.proofs.Common.{ℕ, ◌≡◌, ◌<◌, ◌^◌, true, false, inl, inr, Some, None, List, Bor, length, refl, sym, ◌∙◌, ap, arith}
-use Rattle.std.specs.Prelude.{codes}
+use Rattle.std.proofs.Common.{ℕ, ◌≡◌, ◌<◌, ◌^◌, true, false, inl, inr, Some, None, List, Result, Ok, Err, length, refl, sym, ◌∙◌, ap, arith}
+use Rattle.std.specs.Prelude.{MatchResult}
 use Rattle.std.specs.Str.{IsUtf8}
 use Rattle.wast_grammar.specs.Tokens.{Name}
 use Rattle.wat.specs.declared.fault.Fault.{Fault}
 use Rattle.wat.specs.declared.fault.Fault.TheVariants as faults
 use Rattle.wast_parser.specs.Problem.{Problem, is_memory}
 use Rattle.wast_fields.specs.FieldTree.{Module}
+use Rattle.wast_well_formed.specs.Breaches.{written_breach}
 use Rattle.wat_profile.specs.Profile.{Func, profile}
 use Rattle.wat_profile.specs.StandsFor.{meant}
 use Rattle.wat.specs.Means.{Spells}
 use Rattle.wat.specs.Unspelled.{IsUnspelled}
-use Rattle.wat_profile.specs.Layout.{Lays, Fits}
 use Rattle.wat.specs.Headline.{NotUtf8, Fails, Accepts, Assembles, Deserves}
 use Rattle.wat.specs.NoText.{IsNoText}
+use Rattle.wat.specs.Judged.{IsLaid, IsJudged, IsAnswered, IsTold}
 use Rattle.wat.proofs.Verdict.{one_condition}
-
--- a text that spells no tree
-pub misspelled : (bytes : List ℕ) (error : Problem) → length bytes < 2 ^ 32 → IsUtf8 bytes → is_memory error.cause ≡ false → IsUnspelled bytes error → Deserves bytes (faults.Spelling error)
-misspelled bytes error short utf8 m u = elim u [
-  | inl t ↦ (let e : true ≡ false = sym t ∙ m in absurd (cc))
-  | inr none ↦ ((short, utf8, none), m)
-]
 
 pub no_text : (bytes : List ℕ) (f : Fault) → IsNoText bytes f → Deserves bytes f
 no_text bytes faults.TooLong t = t
@@ -29,7 +23,7 @@ no_text bytes (faults.NotUtf8 offset) t = t
 no_text bytes (faults.Spelling error) t = absurd t
 no_text bytes faults.Memory t = tt
 no_text bytes faults.Read t = t
-no_text bytes (faults.NotWellFormed span) t = t
+no_text bytes (faults.NotWellFormed span) t = absurd t
 no_text bytes (faults.Unmet error) t = t
 no_text bytes (faults.Uncovered span form) t = absurd t
 no_text bytes faults.TooLarge t = absurd t
@@ -50,17 +44,64 @@ told_not_utf8 bytes (faults.Uncovered span form) n t h = absurd t
 told_not_utf8 bytes faults.TooLarge n t h = absurd t
 told_not_utf8 bytes (faults.Write written) n t h = absurd t
 
-module _ (bytes : List ℕ) (tree : Module Name ℕ) (short : length bytes < 2 ^ 32) (utf8 : IsUtf8 bytes) (s : Spells bytes tree) where
-  -- a tree of today's profile, with its functions
-  module _ (fs : List Func) (found : profile tree ≡ Some fs) where
-    pub accepted : Accepts bytes (meant fs)
-    accepted = record { short = short; utf8 = utf8; means = record { tree = tree; spelled = s; stands_for = record { funcs = fs; in_profile = found; is_meant = refl } } }
+module _ (bytes : List ℕ) (short : length bytes < 2 ^ 32) (utf8 : IsUtf8 bytes) where
+  module _ (tree : Module Name ℕ) (s : Spells bytes tree) where
+    -- a well formed tree of today's profile, with its functions
+    accepted : written_breach tree ≡ None → (fs : List Func) → profile tree ≡ Some fs → Accepts bytes (meant fs)
+    accepted formed fs found =
+        record { short = short; utf8 = utf8; means = record { tree = tree; spelled = s; stands_for = record { funcs = fs; in_profile = found; is_meant = refl } }; well_formed = formed }
 
-    pub assembled : (binary : List ℕ) → Lays {N = List ℕ} binary (meant fs) → Assembles bytes binary
-    assembled binary lays = (meant fs, accepted, record { lays = lays })
+    assembled_tree : (binary : List ℕ) → IsLaid tree binary → Assembles bytes binary
+    assembled_tree binary l = (meant l.1.0, accepted l.0 l.1.0 l.1.1, record { lays = l.1.2 })
 
-    pub too_large : ¬ (Fits (meant {N = List ℕ} fs)) → Deserves bytes faults.TooLarge
-    too_large large = (meant fs, accepted, large)
+    judged : (f : Fault) → IsJudged tree f → Deserves bytes f
+    judged faults.TooLong j = absurd j
+    judged (faults.NotUtf8 offset) j = absurd j
+    judged (faults.Spelling error) j = absurd j
+    judged faults.Memory j = tt
+    judged faults.Read j = j
+    judged (faults.NotWellFormed span) j = (short, utf8, (tree, s, j))
+    judged (faults.Unmet error) j = j
+    judged (faults.Uncovered span form) j = ((short, utf8, (tree, s, j.0, j.1, j.2)), j.3)
+    judged faults.TooLarge j = (meant j.1.0, accepted j.0 j.1.0 j.1.1, j.1.2)
+    judged (faults.Write written) j = j
 
-  pub not_yet : (form : Bor (List ℕ)) → form.now ≡ codes "not yet" → profile tree ≡ None → Deserves bytes (faults.Uncovered tree.place form)
-  not_yet form same none = ((short, utf8, (tree, s, none, refl)), same)
+  pub assembled : (binary : List ℕ) → IsAnswered bytes binary → Assembles bytes binary
+  assembled binary a = assembled_tree a.0 a.1 binary a.2
+
+  pub deserved : (f : Fault) → IsTold bytes f → Deserves bytes f
+  deserved (faults.Spelling error) t = ((short, utf8, t.1), t.0)
+  deserved faults.Memory t = tt
+  deserved faults.TooLong t = judged t.0 t.1 faults.TooLong t.2
+  deserved (faults.NotUtf8 offset) t = judged t.0 t.1 (faults.NotUtf8 offset) t.2
+  deserved faults.Read t = judged t.0 t.1 faults.Read t.2
+  deserved (faults.NotWellFormed span) t = judged t.0 t.1 (faults.NotWellFormed span) t.2
+  deserved (faults.Unmet error) t = judged t.0 t.1 (faults.Unmet error) t.2
+  deserved (faults.Uncovered span form) t = judged t.0 t.1 (faults.Uncovered span form) t.2
+  deserved faults.TooLarge t = judged t.0 t.1 faults.TooLarge t.2
+  deserved (faults.Write written) t = judged t.0 t.1 (faults.Write written) t.2
+
+-- a refusal that isn't want of memory
+pub misspelled : (text : List ℕ) (error : Problem) → is_memory error.cause ≡ false → IsUnspelled text error → IsTold text (faults.Spelling error)
+misspelled text error m u = elim u [
+  | inl t ↦ (let e : true ≡ false = sym t ∙ m in absurd (cc))
+  | inr none ↦ (m, none)
+]
+
+-- a fault of the tree that a text spells
+pub told_of : (text : List ℕ) (tree : Module Name ℕ) → Spells text tree → (f : Fault) → IsJudged tree f → IsTold text f
+told_of text tree s (faults.Spelling error) j = absurd j
+told_of text tree s faults.Memory j = tt
+told_of text tree s faults.TooLong j = (tree, s, j)
+told_of text tree s (faults.NotUtf8 offset) j = (tree, s, j)
+told_of text tree s faults.Read j = (tree, s, j)
+told_of text tree s (faults.NotWellFormed span) j = (tree, s, j)
+told_of text tree s (faults.Unmet error) j = (tree, s, j)
+told_of text tree s (faults.Uncovered span form) j = (tree, s, j)
+told_of text tree s faults.TooLarge j = (tree, s, j)
+told_of text tree s (faults.Write written) j = (tree, s, j)
+
+-- what an answer says, said of something else
+pub matched : {A E : Type 0} {P Q : A → Type 0} {R S : E → Type 0} (r : Result A E) → MatchResult r P R → ((x : A) → P x → Q x) → ((e : E) → R e → S e) → MatchResult r Q S
+matched (Ok x) m f g = f x m
+matched (Err e) m f g = g e m

@@ -6,10 +6,11 @@ use Rattle.std.proofs.lemmas.Bool.{cases_lt, cases_Bool}
 use Rattle.std.proofs.lemmas.Str.{IsUtf8-nil, IsUtf8-from_is_utf8, is_utf8-from_IsUtf8}
 use Rattle.std.specs.Str.{IsUtf8, IsValidUpTo, is_utf8}
 use Rattle.wast_grammar.specs.Tokens.{Name}
+use Rattle.wast_well_formed.specs.Breaches.{written_breach}
 use Rattle.wat_profile.specs.AbstractModule.{AbstractModule}
 use Rattle.wat_profile.specs.Profile.{Func, profile}
 use Rattle.wat_profile.specs.StandsFor.{meant}
-use Rattle.wat.specs.Headline.{Condition, TooLong, NotUtf8, Misspelled, NotYet, Fails, Accepts, OneVerdict}
+use Rattle.wat.specs.Headline.{Condition, TooLong, NotUtf8, Misspelled, NotWellFormed, NotYet, Fails, Accepts, OneVerdict}
 use Rattle.wat.specs.Laws.{OneMeaning}
 use Rattle.wat.proofs.OneSpelling.{one_spelling}
 
@@ -28,30 +29,46 @@ one_length bytes m n x y =
     (λ h. ⊎_elim (λ k. absurd (y.longest m k x.front)) (λ k. omega arith) (cases_lt n m))
     (cases_lt m n)
 
+-- two trees that the bytes spell have the same first breach, or none
+same_breach : (bytes : List ℕ) (s t : Module Name ℕ) → Spells bytes s → Spells bytes t → (a b : Option ℕ) → written_breach s ≡ a → written_breach t ≡ b → a ≡ b
+same_breach bytes s t x y a b e f = sym e ∙ ap written_breach (one_spelling bytes s t x y) ∙ f
+
 pub one_condition : (bytes : List ℕ) (c d : Condition) → Fails bytes c → Fails bytes d → c ≡ d
 one_condition bytes TooLong TooLong x y = refl
 one_condition bytes TooLong (NotUtf8 n) x y = absurd (let short = y.0 in omega arith)
 one_condition bytes TooLong Misspelled x y = absurd (let short = y.0 in omega arith)
+one_condition bytes TooLong (NotWellFormed n) x y = absurd (let short = y.0 in omega arith)
 one_condition bytes TooLong (NotYet n) x y = absurd (let short = y.0 in omega arith)
 one_condition bytes (NotUtf8 m) TooLong x y = absurd (let short = x.0 in omega arith)
 one_condition bytes (NotUtf8 m) (NotUtf8 n) x y = ap NotUtf8 (one_length bytes m n x.2 y.2)
 one_condition bytes (NotUtf8 m) Misspelled x y = absurd (x.1 y.1)
+one_condition bytes (NotUtf8 m) (NotWellFormed n) x y = absurd (x.1 y.1)
 one_condition bytes (NotUtf8 m) (NotYet n) x y = absurd (x.1 y.1)
 one_condition bytes Misspelled TooLong x y = absurd (let short = x.0 in omega arith)
 one_condition bytes Misspelled (NotUtf8 n) x y = absurd (y.1 x.1)
 one_condition bytes Misspelled Misspelled x y = refl
+one_condition bytes Misspelled (NotWellFormed n) x y = absurd (x.2 y.2.0 y.2.1)
 one_condition bytes Misspelled (NotYet n) x y = absurd (x.2 y.2.0 y.2.1)
+one_condition bytes (NotWellFormed m) TooLong x y = absurd (let short = x.0 in omega arith)
+one_condition bytes (NotWellFormed m) (NotUtf8 n) x y = absurd (y.1 x.1)
+one_condition bytes (NotWellFormed m) Misspelled x y = absurd (y.2 x.2.0 x.2.1)
+one_condition bytes (NotWellFormed m) (NotWellFormed n) x y = ap NotWellFormed (some_same m n (same_breach bytes x.2.0 y.2.0 x.2.1 y.2.1 (Some m) (Some n) x.2.2 y.2.2))
+one_condition bytes (NotWellFormed m) (NotYet n) x y = absurd (let e = same_breach bytes x.2.0 y.2.0 x.2.1 y.2.1 (Some m) None x.2.2 y.2.2 in cc)
 one_condition bytes (NotYet m) TooLong x y = absurd (let short = x.0 in omega arith)
 one_condition bytes (NotYet m) (NotUtf8 n) x y = absurd (y.1 x.1)
 one_condition bytes (NotYet m) Misspelled x y = absurd (y.2 x.2.0 x.2.1)
-one_condition bytes (NotYet m) (NotYet n) x y = ap NotYet (x.2.3 ∙ ap (λ t. t.place) (one_spelling bytes x.2.0 y.2.0 x.2.1 y.2.1) ∙ sym y.2.3)
+one_condition bytes (NotYet m) (NotWellFormed n) x y = absurd (let e = same_breach bytes x.2.0 y.2.0 x.2.1 y.2.1 None (Some n) x.2.2 y.2.2 in cc)
+one_condition bytes (NotYet m) (NotYet n) x y = ap NotYet (x.2.4 ∙ ap (λ t. t.place) (one_spelling bytes x.2.0 y.2.0 x.2.1 y.2.1) ∙ sym y.2.4)
 
 none_where_accepted : (bytes : List ℕ) (c : Condition) (m : AbstractModule (List ℕ)) → Fails bytes c → Accepts bytes m → ⊥
 none_where_accepted bytes TooLong m x y = let short = y.short in omega arith
 none_where_accepted bytes (NotUtf8 n) m x y = x.1 y.utf8
 none_where_accepted bytes Misspelled m x y = x.2 y.means.tree y.means.spelled
+none_where_accepted bytes (NotWellFormed n) m x y =
+    let e = same_breach bytes x.2.0 y.means.tree x.2.1 y.means.spelled (Some n) None x.2.2 y.well_formed in
+    absurd (cc)
 none_where_accepted bytes (NotYet n) m x y =
-    let e = sym x.2.2 ∙ ap profile (one_spelling bytes x.2.0 y.means.tree x.2.1 y.means.spelled) ∙ y.means.stands_for.in_profile in
+    let e = sym x.2.3 ∙ ap profile (one_spelling bytes x.2.0 y.means.tree x.2.1 y.means.spelled) ∙ y.means.stands_for.in_profile in
     absurd (cc)
 
 -- bytes are UTF-8 or not
@@ -91,7 +108,7 @@ some_verdict bytes fails accepts = ⊎_elim
     (λ short. elim (cases_Bool (is_utf8 bytes)) [
       | inl y ↦
           let utf8 = IsUtf8-from_is_utf8 bytes y in
-          fails Misspelled (short, utf8, λ tree s. by_profile short utf8 tree s (profile tree) refl)
+          fails Misspelled (short, utf8, λ tree s. by_breach short utf8 tree s (written_breach tree) refl)
       | inr n ↦
           let none = no_utf8 bytes n in
           let front = valid_up_to bytes none in
@@ -100,9 +117,14 @@ some_verdict bytes fails accepts = ⊎_elim
     (λ long. fails TooLong (omega (arith, long)))
     (cases_lt (length bytes) (2 ^ 32))
   where
-    by_profile : length bytes < 2 ^ 32 → IsUtf8 bytes → (tree : Module Name ℕ) → Spells bytes tree → (o : Option (List Func)) → profile tree ≡ o → ⊥
-    by_profile short utf8 tree s None e = fails (NotYet tree.place) (short, utf8, (tree, s, e, refl))
-    by_profile short utf8 tree s (Some fs) e = accepts (meant fs) (record { short = short; utf8 = utf8; means = record { tree = tree; spelled = s; stands_for = record { funcs = fs; in_profile = e; is_meant = refl } } })
+    by_profile : length bytes < 2 ^ 32 → IsUtf8 bytes → (tree : Module Name ℕ) → Spells bytes tree → written_breach tree ≡ None → (o : Option (List Func)) → profile tree ≡ o → ⊥
+    by_profile short utf8 tree s w None e = fails (NotYet tree.place) (short, utf8, (tree, s, w, e, refl))
+    by_profile short utf8 tree s w (Some fs) e =
+        accepts (meant fs) (record { short = short; utf8 = utf8; means = record { tree = tree; spelled = s; stands_for = record { funcs = fs; in_profile = e; is_meant = refl } }; well_formed = w })
+
+    by_breach : length bytes < 2 ^ 32 → IsUtf8 bytes → (tree : Module Name ℕ) → Spells bytes tree → (o : Option ℕ) → written_breach tree ≡ o → ⊥
+    by_breach short utf8 tree s (Some place) w = fails (NotWellFormed place) (short, utf8, (tree, s, w))
+    by_breach short utf8 tree s None w = by_profile short utf8 tree s w (profile tree) refl
 
 pub one_verdict : OneVerdict
 one_verdict = record {

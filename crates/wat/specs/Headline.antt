@@ -1,13 +1,13 @@
 -- What an input is worth: the first condition that it fails, or the module that it means; and which answer that is.
--- More of the text format will add cases here: conditions, that a module isn't well formed, that a name or a type use doesn't
--- stand for what it must, and that a form isn't written to binaries, each with its place, and their lines in `Deserves`; to
--- `Accepts` the bytes that a `binary` module spells, by which no module is meant, and whose binary they are; and to
+-- More of the text format will add cases here: conditions, that a name or a type use doesn't stand for what it must, and that a
+-- form isn't written to binaries, each with its place, and their lines in `Deserves`; to `Accepts` the bytes that a `binary` module spells, by which no module is meant, and whose binary they are; and to
 -- `Assembles` the case of a custom section with a reserved name, of whose binary `Lays` alone is promised and not `Reads`.
-use Rattle.std.specs.Prelude.{ℕ, ◌≡◌, ◌<◌, ◌≤◌, ◌^◌, false, List, None, codes, length}
+use Rattle.std.specs.Prelude.{ℕ, ◌≡◌, ◌<◌, ◌≤◌, ◌^◌, false, List, Some, None, codes, length}
 use Rattle.std.specs.Str.{IsUtf8, IsValidUpTo}
 use Rattle.wast_grammar.specs.Tokens.{Name}
 use Rattle.wast_parser.specs.Problem.{is_memory}
 use Rattle.wast_fields.specs.FieldTree.{Module}
+use Rattle.wast_well_formed.specs.Breaches.{written_breach}
 use Rattle.wat_profile.specs.AbstractModule.{AbstractModule}
 use Rattle.wat_profile.specs.Layout.{Fits, Reads}
 use Rattle.wat_profile.specs.Profile.{profile}
@@ -23,6 +23,8 @@ pub data Condition : Type 0 where
   NotUtf8 : ℕ → Condition
   -- spells a tree
   Misspelled : Condition
+  -- spells a tree that is well formed; with the place of its first field that isn't, which is the field's keyword
+  NotWellFormed : ℕ → Condition
   -- spells a tree of today's profile; with the place of the module: its word `module`, or else the keyword of its first field
   NotYet : ℕ → Condition
 
@@ -31,14 +33,18 @@ abbrev pub Fails : List ℕ → Condition → Type 0
 Fails bytes TooLong = 2 ^ 32 ≤ length bytes
 Fails bytes (NotUtf8 n) = (length bytes < 2 ^ 32) × ¬ (IsUtf8 bytes) × IsValidUpTo bytes n
 Fails bytes Misspelled = (length bytes < 2 ^ 32) × IsUtf8 bytes × ((tree : Module Name ℕ) → ¬ (Spells bytes tree))
+Fails bytes (NotWellFormed place) =
+    (length bytes < 2 ^ 32) × IsUtf8 bytes × ((tree : Module Name ℕ) × Spells bytes tree × (written_breach tree ≡ Some place))
 Fails bytes (NotYet place) =
-    (length bytes < 2 ^ 32) × IsUtf8 bytes × ((tree : Module Name ℕ) × Spells bytes tree × (profile tree ≡ None) × (place ≡ tree.place))
+    (length bytes < 2 ^ 32) × IsUtf8 bytes
+    × ((tree : Module Name ℕ) × Spells bytes tree × (written_breach tree ≡ None) × (profile tree ≡ None) × (place ≡ tree.place))
 
 -- The bytes meet every condition, and mean the module.
 pub record Accepts (bytes : List ℕ) (m : AbstractModule (List ℕ)) : Type 0 where
   pub short : length bytes < 2 ^ 32
   pub utf8 : IsUtf8 bytes
   pub means : Means bytes m
+  pub well_formed : written_breach means.tree ≡ None
 
 -- a count, a length or an index of the binary meant is past 4294967295
 abbrev pub IsTooLarge : AbstractModule (List ℕ) → Type 0
@@ -53,12 +59,12 @@ abbrev pub Deserves : List ℕ → Fault → Type 0
 Deserves bytes faults.TooLong = Fails bytes TooLong
 Deserves bytes (faults.NotUtf8 offset) = Fails bytes (NotUtf8 offset)
 Deserves bytes (faults.Spelling error) = Fails bytes Misspelled × (is_memory error.cause ≡ false)
+Deserves bytes (faults.NotWellFormed span) = Fails bytes (NotWellFormed span)
 Deserves bytes (faults.Uncovered span form) = Fails bytes (NotYet span) × (form.now ≡ codes "not yet")
 Deserves bytes faults.TooLarge = (m : AbstractModule (List ℕ)) × Accepts bytes m × IsTooLarge m
 Deserves bytes faults.Memory = Unit {0}
 -- never answered for any bytes
 Deserves bytes faults.Read = ⊥
-Deserves bytes (faults.NotWellFormed span) = ⊥
 Deserves bytes (faults.Unmet error) = ⊥
 Deserves bytes (faults.Write written) = ⊥
 

@@ -1,4 +1,5 @@
 pub mod Headline
+pub mod Judged
 pub mod Laws
 pub mod Means
 pub mod NoText

@@ -1,22 +1,27 @@
 //! From the bytes of a text to the bytes of a binary.
 
-ghost use Rattle.std.specs.Prelude.{◌≡◌, ◌<◌, ◌^◌, ℕ, length, Err, MatchResult};
+ghost use Rattle.std.specs.Prelude.{◌≡◌, ◌<◌, ◌^◌, ℕ, false, length, Err, MatchResult};
 ghost use Rattle.std.specs.Str.{IsUtf8};
 ghost use Rattle.wat.specs.Headline.{Assembles, Deserves, Fails, TooLong, NotUtf8};
 ghost use Rattle.wat.specs.NoText.{IsNoText};
+ghost use Rattle.wast_parser.specs.Table.{IsTable};
+ghost use Rattle.wat.specs.Judged.{IsAnswered, IsJudged, IsLaid, IsTold};
+ghost use Rattle.wat.specs.TextViews.{wat_tree};
 
 use crate::fault::Fault;
 use crate::text::{Wat, parse_text};
 use std::alloc::Global;
 use wasm_encoder_base::EncodeError;
 use wast_parser::ParseBuffer;
+use wast_well_formed::first_breach_written;
 use wat_profile::{encode, profiled};
 
 /// The binary of the module that a text spells.
 ///
 /// Answers a binary exactly where, memory found and no count or length of the binary past 4294967295, `input` is
 /// a UTF-8 text of at most 4294967295 bytes that spells a module of today's profile: functions with inline exports, whose
-/// bodies are `nop`, `drop` and `i32.const`; else the fault of the first condition that fails. Any other module that is spelled is
+/// bodies are `nop`, `drop` and `i32.const`; else the fault of the first condition that fails. A module that is spelled and isn't well
+/// formed is `NotWellFormed`, with the place of the keyword of the first field that isn't, and any other one outside the profile
 /// `Uncovered`, with the form `not yet` and the place of its word `module`, or else of its first field's keyword. `TooLarge` comes
 /// exactly where, memory found, a count or length of the binary meant is past 4294967295, and `Memory` where a growth found no memory.
 /// The length and UTF-8 are tested without memory.
@@ -33,12 +38,30 @@ pub fn assemble(alloc: Global, input: &[u8]) -> Result<Vec<u8>, Fault>
         Ok(buffer) => buffer,
         Err(_) => return Err(Fault::Memory),
     };
-    let Wat::Module(module) = match parse_text(&buffer) {
-        Ok(text) => text,
-        Err(error) if error.is_memory() => return Err(Fault::Memory),
-        Err(error) => return Err(Fault::Spelling(error)),
-    };
-    let funcs = match profiled(alloc, &module) {
+    binary_of_text(alloc, &buffer)
+}
+
+/// The binary of the module that the text of a buffer spells.
+fn binary_of_text<'a>(alloc: Global, buffer: &'a ParseBuffer<'a>) -> Result<Vec<u8>, Fault>
+    requires { IsTable false buffer.now.text buffer.now.tokens buffer.now.fault }
+    ensures { MatchResult result (λ binary. IsAnswered buffer.now.text binary.items) (λ fault. IsTold buffer.now.text fault) }
+{
+    match parse_text(buffer) {
+        Ok(text) => binary_of(alloc, &text),
+        Err(error) if error.is_memory() => Err(Fault::Memory),
+        Err(error) => Err(Fault::Spelling(error)),
+    }
+}
+
+/// The binary of a module that a text spells.
+fn binary_of(alloc: Global, text: &Wat<'_>) -> Result<Vec<u8>, Fault>
+    ensures { MatchResult result (λ binary. IsLaid (wat_tree text.now) binary.items) (λ fault. IsJudged (wat_tree text.now) fault) }
+{
+    let Wat::Module(module) = text;
+    if let Some(place) = first_breach_written(module) {
+        return Err(Fault::NotWellFormed(place));
+    }
+    let funcs = match profiled(alloc, module) {
         Ok(Some(funcs)) => funcs,
         Ok(None) => {
             return Err(Fault::Uncovered {

@@ -1,19 +1,18 @@
-//! Custom fields, exports, and values of data segments.
+//! Calls on trees, beside those by which texts are read: what these answer with memory found, the rows of `wat_rows` show.
 
 use crate::text::{buffer, failed};
 use std::test::Fail;
-use wast_customs::{Custom, Dylink0Subsection};
+use wast_core_instr::{Expression, Instruction};
+use wast_core_types::RefType;
+use wast_customs::Dylink0Subsection;
 use wast_data::DataVal;
-use wast_exports::InlineExport;
-use wast_parser::{Encode, Parser, parse};
+use wast_parser::{Encode, parse};
 
 #[test]
-fn ample_custom(rt: HostRuntime) -> Result<(), Fail> {
-    let buffer = buffer(rt.alloc(), "(@custom \"\\41\" \"b\")")?;
-    let custom: Custom = Parser::new(&buffer)
-        .with_annotation("custom")
-        .map_err(failed)?;
-    assert_eq!(rt; custom.name(), "A");
+fn ample_clone(rt: HostRuntime) -> Result<(), Fail> {
+    let buffer = buffer(rt.alloc(), "(ref $\"\\41\")")?;
+    let ty: RefType = parse(&buffer).map_err(failed)?;
+    assert!(rt; ty.clone(rt.alloc())? == ty);
     Ok(())
 }
 
@@ -28,14 +27,6 @@ fn ample_encode(rt: HostRuntime) -> Result<(), Fail> {
 }
 
 #[test]
-fn ample_exports(rt: HostRuntime) -> Result<(), Fail> {
-    let buffer = buffer(rt.alloc(), "(export \"\\41\") (export \"b\")")?;
-    let exports: InlineExport = parse(&buffer).map_err(failed)?;
-    assert_eq!(rt; exports.names.len(), 2);
-    Ok(())
-}
-
-#[test]
 fn ample_push_onto(rt: HostRuntime) -> Result<(), Fail> {
     let buffer = buffer(rt.alloc(), "(i16 -1 2)")?;
     let value: DataVal = parse(&buffer).map_err(failed)?;
@@ -44,5 +35,12 @@ fn ample_push_onto(rt: HostRuntime) -> Result<(), Fail> {
         value.push_onto(&mut bytes)?;
     }
     assert_eq!(rt; bytes.as_slice(), b"\xFF\xFF\x02\x00".as_slice());
+    Ok(())
+}
+
+#[test]
+fn ample_one(rt: HostRuntime) -> Result<(), Fail> {
+    let expression = Expression::one(rt.alloc(), Instruction::Nop)?;
+    assert_eq!(rt; expression.instrs.len(), 1);
     Ok(())
 }

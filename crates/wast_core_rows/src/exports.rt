@@ -1,5 +1,5 @@
 //! Exports, and what stands inline.
-use crate::refused;
+use crate::fields::refused;
 use std::io;
 use wast_exports::{Export, InlineExport, InlineImport};
 use wast_parser::{Error, Index, ParseBuffer, Parser, parse};

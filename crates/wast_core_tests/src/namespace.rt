@@ -1,5 +1,6 @@
 //! A name space by its calls.
 
+use crate::text::failed;
 use std::alloc::Global;
 use std::test::Fail;
 use wast_names::{Namespace, resolve_error};
@@ -127,13 +128,5 @@ fn said(alloc: Global, error: Option<Error>) -> Result<String, Fail> {
     match error {
         Some(error) => Ok(format!(in alloc; "{error}")?),
         None => Ok(String::new(alloc)),
-    }
-}
-
-fn failed(error: Error) -> Fail {
-    if error.is_memory() {
-        "out of memory".into()
-    } else {
-        "refused".into()
     }
 }

@@ -1,5 +1,5 @@
 //! Custom fields.
-use crate::{print_bytes, refused};
+use crate::fields::{print_bytes, refused};
 use std::io;
 use wast_customs::{Custom, Dylink0Subsection, Producer};
 use wast_parser::{Encode, Error, ParseBuffer, Parser};
