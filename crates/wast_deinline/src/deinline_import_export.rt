@@ -210,16 +210,25 @@ fn push_export<'a>(
 ) -> Result<(), AllocError>
     ensures { OnOk result (map field_tree out.new.items ≡ map field_tree out.old.items ++ export_of span (kind_view kind) (identifier_tree id.now) (export_name_tree export.entry) ∷ []) }
 {
-    let item = Index::Id(id.clone(alloc)?);
-    push(
-        out,
-        ModuleField::Export(Export {
-            span,
-            name: export.name,
-            kind,
-            item,
-        }),
-    )
+    let own = id.clone(alloc)?;
+    push(out, export_field(span, kind, own, export))
+}
+
+/// An export of what has this name.
+fn export_field<'a>(
+    span: Span,
+    kind: ExportKind,
+    own: Id<'a>,
+    export: ExportName<'a>,
+) -> ModuleField<'a>
+    ensures { field_tree result ≡ export_of span (kind_view kind) (identifier_tree own.entry) (export_name_tree export.entry) }
+{
+    ModuleField::Export(Export {
+        span,
+        name: export.name,
+        kind,
+        item: Index::Id(own),
+    })
 }
 
 /// Appends a field.
