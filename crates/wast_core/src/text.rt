@@ -68,7 +68,7 @@ fn parse_bare<'a>(parser: &mut Parser<'a>) -> Result<Module<'a>, Error>
     }
 }
 
-/// The first of a list, and then the others. Over any type: of fields the proof would take minutes.
+/// The first of a list, and then the others.
 fn with_first<T: Drop>(alloc: Global, first: T, others: Vec<T>) -> Result<Vec<T>, AllocError>
     ensures { IfOk result (λ all. all.items ≡ first ∷ others.items) }
 {
