@@ -133,6 +133,7 @@ pub(crate) fn with_indices<'a>(
     Instruction::Gc(gc_indices(word, first, second))
 }
 
+/// Its operation alone.
 fn gc_indices<'a>(word: IndicesWord, first: Index<'a>, second: Index<'a>) -> GcOp<'a>
     ensures word { gc_word result ≡ words.Indices word }
     ensures operands { gc_operands result ≡ spec.Two (index_tree first.entry) (index_tree second.entry) }
@@ -224,6 +225,7 @@ pub(crate) fn with_lane<'a>(word: LaneWord, lane: LaneArg) -> Instruction<'a>
     Instruction::VectorArg(vector_lane(word, lane))
 }
 
+/// Its operation alone.
 fn vector_lane<'a>(word: LaneWord, lane: LaneArg) -> VectorArgOp<'a>
     ensures word { vector_arg_word result ≡ words.Lane word }
     ensures operands { vector_arg_operands result ≡ spec.Lane lane.lane }
@@ -270,6 +272,7 @@ pub(crate) fn with_memarg_lane<'a>(
     Instruction::VectorArg(vector_memory_lane(word, operands))
 }
 
+/// Its operation alone.
 fn vector_memory_lane<'a>(word: MemoryLaneWord, operands: LoadOrStoreLane<'a>) -> VectorArgOp<'a>
     ensures word { vector_arg_word result ≡ words.MemoryLane word }
     ensures operands { vector_arg_operands result ≡ spec.MemoryLane (mem_arg_tree operands.entry.memarg) operands.entry.lane.lane }
@@ -294,6 +297,7 @@ pub(crate) fn plain_proposal<'a>(word: PlainProposal) -> Instruction<'a>
     Instruction::Proposal(plain_op(word))
 }
 
+/// Its operation alone.
 fn plain_op<'a>(word: PlainProposal) -> ProposalOp<'a>
     ensures word { proposal_word result ≡ words.Proposal (proposal_words.Plain word) }
     ensures operands { proposal_operands result ≡ spec.NoOperands }
@@ -312,6 +316,7 @@ pub(crate) fn index_proposal<'a>(word: IndexProposal, index: Index<'a>) -> Instr
     Instruction::Proposal(index_op(word, index))
 }
 
+/// Its operation alone.
 fn index_op<'a>(word: IndexProposal, index: Index<'a>) -> ProposalOp<'a>
     ensures word { proposal_word result ≡ words.Proposal (proposal_words.Index word) }
     ensures operands { proposal_operands result ≡ spec.One (index_tree index.entry) }
@@ -337,6 +342,7 @@ pub(crate) fn indices_proposal<'a>(
     Instruction::Proposal(indices_op(word, first, second))
 }
 
+/// Its operation alone.
 fn indices_op<'a>(word: IndicesProposal, first: Index<'a>, second: Index<'a>) -> ProposalOp<'a>
     ensures word { proposal_word result ≡ words.Proposal (proposal_words.Indices word) }
     ensures operands { proposal_operands result ≡ spec.Two (index_tree first.entry) (index_tree second.entry) }
@@ -364,6 +370,7 @@ pub(crate) fn ordered_index<'a>(
     Instruction::Proposal(ordered_index_op(word, operand))
 }
 
+/// Its operation alone.
 fn ordered_index_op<'a>(word: OrderedIndexProposal, operand: Ordered<Index<'a>>) -> ProposalOp<'a>
     ensures word { proposal_word result ≡ words.Proposal (proposal_words.OrderedIndex word) }
     ensures operands { proposal_operands result ≡ spec.Ordered (ordering_tree operand.entry.ordering) (spec.One (index_tree operand.entry.inner)) }
@@ -403,6 +410,7 @@ pub(crate) fn ordered_optional_index<'a>(
     Instruction::Proposal(ordered_optional_index_op(word, operand))
 }
 
+/// Its operation alone.
 fn ordered_optional_index_op<'a>(
     word: OrderedOptionalIndexProposal,
     operand: Ordered<TableArg<'a>>,
@@ -431,6 +439,7 @@ pub(crate) fn ordered_indices<'a>(
     Instruction::Proposal(ordered_indices_op(word, operand))
 }
 
+/// Its operation alone.
 fn ordered_indices_op<'a>(
     word: OrderedIndicesProposal,
     operand: Ordered<StructAccess<'a>>,
