@@ -1,3 +1,4 @@
+pub mod Alone
 pub mod Begins
 pub mod Examples
 pub mod ModuleLaws

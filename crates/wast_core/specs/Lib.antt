@@ -1,3 +1,4 @@
 pub mod ModuleSyntax
 pub mod ModuleViews
 pub mod Laws
+pub mod FieldsAlone

@@ -1,5 +1,5 @@
 //! Modules as the whole of a text.
-ghost use Rattle.std.specs.Prelude.{◌≡◌, ◌∷◌, ℕ, List, IfOk, map};
+ghost use Rattle.std.specs.Prelude.{◌≡◌, ◌∷◌, ◌<◌, ℕ, List, IfOk, map, vec_len};
 ghost use Rattle.wast_grammar.specs.Tokens.{Name};
 ghost use Rattle.wast_parser.specs.Lawful.{Lawful};
 ghost use Rattle.wast_parser.specs.State.{ahead, Keeps};
@@ -8,13 +8,14 @@ ghost use Rattle.wast_fields.specs.FieldTree as spec;
 ghost use Rattle.wast_fields.specs.FieldTree.{field_place};
 ghost use Rattle.wast_core.specs.ModuleSyntax.{bare_module, wat};
 ghost use Rattle.wast_core.specs.ModuleViews.{field_tree, module_tree};
+ghost use Rattle.wast_core.specs.FieldsAlone.{IsModuleOf, some};
 
 use crate::field::ModuleField;
 use crate::keyword;
 use crate::module::{Module, ModuleKind, second_start};
 use std::alloc::{AllocError, Global};
 use wast_lexer::Span;
-use wast_parser::{Error, Meaning, Parse, Parser, list_of};
+use wast_parser::{Error, Item, Meaning, Parse, Parser, list_of};
 use wast_value_types::Group;
 
 /// The module that a whole text spells (6.6.14): `(module ..)`, or the fields of one alone, of which there is one at least. Then the
@@ -52,20 +53,38 @@ fn parse_bare<'a>(parser: &mut Parser<'a>) -> Result<Module<'a>, Error>
     ensures read { Gives module_tree result parser.new (bare_module.reads (ahead parser.old)) }
     ensures keeps { Keeps parser.old parser.new }
 {
-    let first = ModuleField::parse(parser)?;
-    let span = span_of(&first);
-    let others = list_of(parser)?;
-    let fields = with_first(parser.alloc(), first, others)?;
+    match some_of(parser) {
+        Ok(fields) => module_of(parser, fields),
+        Err(e) => Err(e),
+    }
+}
+
+/// The module of fields, of which there is one at least. Refused where two of them are start functions, with an error at the second.
+fn module_of<'a>(parser: &Parser<'a>, fields: Vec<ModuleField<'a>>) -> Result<Module<'a>, Error>
+    requires { 0 < vec_len fields }
+    ensures { IsModuleOf (map field_tree fields.entry.items) result }
+{
     match second_start(&fields) {
         Some(span) => Err(parser.error_at(span, "a module has one start function at most")),
         None => Ok(Module {
-            span,
+            span: span_of(&fields[0]),
             id: None,
             name: None,
             kind: ModuleKind::Text(fields),
             refusal: None,
         }),
     }
+}
+
+/// Reads one or more, one after the other.
+fn some_of<'a, T: Parse<'a> + Item>(parser: &mut Parser<'a>) -> Result<Vec<T>, Error>
+    ensures read { Gives (λ v. map T.tree v.items) result parser.new ((some T.syntax).reads (ahead parser.old)) }
+    ensures keeps { Keeps parser.old parser.new }
+    ensures some { IfOk result (λ v. 0 < vec_len v) }
+{
+    let first = T::parse(parser)?;
+    let others = list_of(parser)?;
+    Ok(with_first(parser.alloc(), first, others)?)
 }
 
 /// The first of a list, and then the others.
