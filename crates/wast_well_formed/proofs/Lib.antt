@@ -1,4 +1,4 @@
+pub mod Formed
 pub mod Powers
-pub mod Spoken
 pub mod Turns
 pub mod Written

@@ -11,7 +11,6 @@ use Rattle.wast_meaning.specs.WellFormed as spec
 use Rattle.wast_meaning.specs.Mentions.{parts}
 use Rattle.wast_meaning.specs.WellFormed.{part_formed, pages_formed, is_bound, are_bound}
 use Rattle.wast_well_formed.specs.Breaches.{breach, breaches}
-use Rattle.wast_well_formed.proofs.Spoken.{and_true}
 
 bound : {N : Type 0} (c : Complaint N) (holds : Bool) → is_bound (λ n. false) c holds ≡ true
 bound (Duplicate kind) holds = refl
@@ -21,7 +20,8 @@ bound TypeMismatch holds = refl
 bound LabelMismatch holds = refl
 
 last_true : (a b c d : Bool) → d ≡ true → (a && b && c && d) ≡ (a && b && c)
-last_true true true c d e = ap (λ x. c && x) e ∙ and_true c
+last_true true true true d e = e
+last_true true true false d e = refl
 last_true true false c d e = refl
 last_true false b c d e = refl
 
