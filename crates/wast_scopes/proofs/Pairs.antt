@@ -1,0 +1,69 @@
+-- Two lists of types, one after the other.
+use Rattle.std.proofs.Common.{◌≡◌, ℕ, ◌+◌, ◌<◌, ◌≤◌, suc, List, [], ◌∷◌, Bool, true, false, Option, Some, None, map, length, drop, get_or, refl, sym, ◌∙◌, ap, arith, add-one, drop-cons, nat_eq, inl, inr}
+use Rattle.std.specs.Prelude.{◌&&◌}
+use Rattle.std.specs.Cmp.Lexicographic.{pointwise}
+use Rattle.std.proofs.lemmas.Bool.{cases_lt}
+use Rattle.std.proofs.lemmas.Bool.Decides.{Decides-eqb}
+use Rattle.std.proofs.lemmas.List.{drop_all}
+use Rattle.wast_parser_base.specs.Identifier.{Identifier}
+use Rattle.wast_parser_base.specs.declared.index.NameAnnotation.{NameAnnotation}
+use Rattle.wast_value_types.specs.ValueViews.{val_tree}
+use Rattle.wast_value_types.specs.declared.val_type.ValType.{ValType}
+use Rattle.wast_core_types.specs.TypeViews.{param_tree}
+use Rattle.wast_scopes.specs.declared.numbered.NumberedType.{NumberedType}
+use Rattle.wast_scopes.specs.declared.numbered.NumberedType.TheVariants as numbered
+use Rattle.wast_scopes.specs.Numbered.{Look, NumberedValue, numbered_value, same_numbered_value}
+use Rattle.wast_scopes.specs.NumberedViews.{value_of_numbered}
+
+abbrev pub param_value : Look → Option Identifier × Option NameAnnotation × ValType → NumberedValue
+param_value look p = numbered_value look (param_tree p).val_type
+
+abbrev pub result_value : Look → ValType → NumberedValue
+result_value look t = numbered_value look (val_tree t)
+
+rest_is : {X : Type 0} (xs : List X) (i : ℕ) (x : X) → i < length xs → x ≡ get_or xs i x → drop i xs ≡ x ∷ drop (i + 1) xs
+rest_is xs i x h e = rw (add-one) (drop-cons xs i x h ∙ ap (λ y. y ∷ drop (suc i) xs) (sym e))
+
+map_views : {X Y Z : Type 0} (of : Y → Z) (view : X → Y) (xs : List X) → map (λ x. of (view x)) xs ≡ map of (map view xs)
+map_views of view [] = refl
+map_views of view (x ∷ xs) = ap (λ l. of (view x) ∷ l) (map_views of view xs)
+
+pub two_views : {X Y : Type 0} (of : Y → NumberedValue) (view : X → Y) (xs : List X) (ys : List NumberedType) → pointwise same_numbered_value (map (λ x. of (view x)) xs) (map value_of_numbered ys) ≡ pointwise same_numbered_value (map of (map view xs)) (map value_of_numbered ys)
+two_views of view xs ys = ap (λ l. pointwise same_numbered_value l (map value_of_numbered ys)) (map_views of view xs)
+
+module _ {X : Type 0} (seen : X → NumberedValue) where
+  abbrev pub alike : List X → List NumberedType → Bool
+  alike xs ys = pointwise same_numbered_value (map seen xs) (map value_of_numbered ys)
+
+  both : (xs : List X) (ys : List NumberedType) (i : ℕ) (x : X) (y : NumberedType) → i < length xs → x ≡ get_or xs i x → i < length ys → y ≡ get_or ys i y
+      → alike (drop i xs) (drop i ys) ≡ (same_numbered_value (seen x) (value_of_numbered y) && alike (drop (i + 1) xs) (drop (i + 1) ys))
+  both xs ys i x y hx ex hy ey = ap (λ l. alike l (drop i ys)) (rest_is xs i x hx ex) ∙ ap (alike (x ∷ drop (i + 1) xs)) (rest_is ys i y hy ey)
+
+  -- two that are the same leave the rest
+  pub alike_more : (xs : List X) (ys : List NumberedType) (i : ℕ) (x : X) (y : NumberedType) (whole : Bool) → i < length xs → x ≡ get_or xs i x → i < length ys → y ≡ get_or ys i y
+      → same_numbered_value (seen x) (value_of_numbered y) ≡ true → alike (drop i xs) (drop i ys) ≡ whole → alike (drop (i + 1) xs) (drop (i + 1) ys) ≡ whole
+  alike_more xs ys i x y whole hx ex hy ey same l = sym (both xs ys i x y hx ex hy ey ∙ ap (λ b. b && alike (drop (i + 1) xs) (drop (i + 1) ys)) same) ∙ l
+
+  -- two that aren't end it
+  pub alike_stops : (xs : List X) (ys : List NumberedType) (i : ℕ) (x : X) (y : NumberedType) (whole : Bool) → i < length xs → x ≡ get_or xs i x → i < length ys → y ≡ get_or ys i y
+      → same_numbered_value (seen x) (value_of_numbered y) ≡ false → alike (drop i xs) (drop i ys) ≡ whole → false ≡ whole
+  alike_stops xs ys i x y whole hx ex hy ey other l = sym (both xs ys i x y hx ex hy ey ∙ ap (λ b. b && alike (drop (i + 1) xs) (drop (i + 1) ys)) other) ∙ l
+
+  -- and so does a shorter list
+  pub alike_short : (xs : List X) (ys : List NumberedType) (i : ℕ) (x : X) (whole : Bool) → i < length xs → x ≡ get_or xs i x → length ys ≤ i
+      → alike (drop i xs) (drop i ys) ≡ whole → false ≡ whole
+  alike_short xs ys i x whole hx ex hy l = sym (ap (λ l. alike l (drop i ys)) (rest_is xs i x hx ex) ∙ ap (alike (x ∷ drop (i + 1) xs)) (drop_all i ys hy)) ∙ l
+
+  ended : (ys : List NumberedType) (i : ℕ) → i ≤ length ys → alike [] (drop i ys) ≡ nat_eq i (length ys)
+  ended ys i h = of (nat_eq i (length ys)) refl
+    where
+      of : (b : Bool) → nat_eq i (length ys) ≡ b → alike [] (drop i ys) ≡ b
+      of true e = let same : i ≡ length ys = (Decides-eqb i (length ys)).0 e in ap (alike []) (drop_all i ys (omega (arith, same)))
+      of false e =
+          elim (cases_lt i (length ys)) [
+            | inl lt ↦ ap (alike []) (drop-cons ys i numbered.I32 lt)
+            | inr le ↦ let same : nat_eq i (length ys) ≡ true = (Decides-eqb i (length ys)).1 (omega (arith, le, h)) in absurd (cc)
+          ]
+
+  pub alike_ends : (xs : List X) (ys : List NumberedType) (i : ℕ) (whole : Bool) → length xs ≤ i → i ≤ length ys → alike (drop i xs) (drop i ys) ≡ whole → nat_eq i (length ys) ≡ whole
+  alike_ends xs ys i whole hx hy l = sym (ap (λ l. alike l (drop i ys)) (drop_all i xs hx) ∙ ended ys i hy) ∙ l

@@ -1,0 +1,8 @@
+pub mod Numbered
+pub mod NumberedViews
+pub mod Open
+pub mod Signatures
+pub mod Known
+pub mod FunctionViews
+pub mod Views
+pub mod Laws
