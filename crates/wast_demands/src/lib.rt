@@ -1,0 +1,29 @@
+//! What the names of a module must keep to (WebAssembly Core Specification 3.0, 6.1.3, 6.5.2, 6.6.3 and 6.6.14).
+//!
+//! [`check_names`] refuses the first demand of the fields of a module that isn't met, in this order:
+//!
+//! 1. imports stand before definitions of functions, tables, memories, globals and tags;
+//! 2. no item bears the name of an earlier one of its index space, segments aside;
+//! 3. in the order of the text, each name that is mentioned means something, each signature beside the index of a type is that type's, no
+//!    two parameters or locals of a function bear one name, and each name that is repeated behind a block is that block's.
+//!
+//! ```text
+//! (func (call $f)) (import "m" "f" (func))
+//! ```
+//!
+//! is an error at the word `import`, and without it one at `$f`: `` unknown func: failed to find name `$f` ``. Fields are only borrowed.
+//! [`check_fields`] does so with fields that may have parts inline, and writes them out.
+//!
+//! The parts: `wast_spaces`, index spaces; `wast_implied`, the types that uses imply; `wast_scopes`, what is known at a place; `wast_parts`,
+//! the walk over fields.
+//!
+//! # What has to be believed
+//!
+//! The demands are those of `wast_meaning`'s file `Demands`, and how they are told those of `wast_names`' file `Demand`.
+#![tactic(auto)]
+
+mod names;
+mod written;
+
+pub use names::check_names;
+pub use written::check_fields;

@@ -1,0 +1,124 @@
+//! All demands of names.
+ghost use Rattle.std.specs.Prelude.{◌≡◌, ℕ, ◌++◌, map, option_map, IfOk};
+ghost use Rattle.std.specs.List.{flat_map};
+ghost use Rattle.wasm_encoder_base.specs.Table.{Types};
+ghost use Rattle.wast_grammar.specs.Tokens.{Name};
+ghost use Rattle.wast_grammar.specs.Spelling.{same_name};
+ghost use Rattle.wast_core.specs.ModuleViews.{field_tree};
+ghost use Rattle.wast_names.specs.Demand.{Answers, Demand, is_met};
+ghost use Rattle.wast_names.specs.Space as names;
+ghost use Rattle.wast_meaning.specs.Demands.{demands, field_demands, item_demands};
+ghost use Rattle.wast_meaning.specs.Implied.{implied_sigs, written_types};
+ghost use Rattle.wast_meaning.specs.Scope.{scope_of};
+ghost use Rattle.wast_meaning.specs.Spaces.{items};
+ghost use Rattle.wast_spaces.specs.Joins.{spaces_behind, type_fields};
+ghost use Rattle.wast_spaces.specs.Views.{fields_of_types, spaces_of};
+ghost use Rattle.wast_scopes.specs.Known.{part_by};
+ghost use Rattle.wast_scopes.specs.Numbered.{numbered_sig};
+ghost use Rattle.wast_scopes.specs.Signatures.{func_type, signatures};
+ghost use Rattle.wast_scopes.specs.Views.{Refused, known, refused_anywhere};
+
+use std::alloc::{AllocError, Global};
+use wast_core::{Expression, FunctionType, Local, ModuleField, TypeUse};
+use wast_implied::Implied;
+use wast_mentions::Mention;
+use wast_parser::Error;
+use wast_parts::{PartJudge, PartJudgement, tell_all_parts};
+use wast_scopes::{Scope, Signatures, check_constant, check_func, check_mention};
+use wast_spaces::{Spaces, check_order};
+
+/// Tests the names of a module with these fields.
+///
+/// Refuses the first import behind a definition, else the first item that bears the name of an earlier one, else the first name that means
+/// nothing, signature that isn't that of the type beside it, local that bears the name of an earlier one, or repeated name that isn't its
+/// block's; else only where no memory is found, or there are more than 4294967295 items of a kind or blocks inside each other.
+pub fn check_names<'a>(alloc: Global, fields: &[ModuleField<'a>]) -> Result<(), Error>
+    ensures { Answers result (demands same_name (map field_tree fields.now)) }
+{
+    match check_order(alloc, fields) {
+        Ok(()) => check_ordered(alloc, fields),
+        Err(e) => Err(e),
+    }
+}
+
+/// Tests items and what is mentioned.
+fn check_ordered<'a>(alloc: Global, fields: &[ModuleField<'a>]) -> Result<(), Error>
+    ensures { Answers result (item_demands same_name (flat_map items (map field_tree fields.now)) ++ flat_map (field_demands same_name (scope_of same_name (map field_tree fields.now))) (map field_tree fields.now)) }
+{
+    match Spaces::of(alloc, fields) {
+        Ok(spaces) => check_mentioned(alloc, fields, &spaces),
+        Err(e) => Err(e),
+    }
+}
+
+/// Tests what is mentioned, where these are the index spaces of the fields.
+fn check_mentioned<'a>(
+    alloc: Global,
+    fields: &[ModuleField<'a>],
+    spaces: &Spaces<'a>,
+) -> Result<(), Error>
+    requires spaces { spaces_of spaces.now ≡ spaces_behind (λ t. names.empty) (flat_map items (map field_tree fields.now)) }
+    requires fields { fields_of_types spaces.now ≡ type_fields (flat_map items (map field_tree fields.now)) }
+    ensures { Answers result (flat_map (field_demands same_name (scope_of same_name (map field_tree fields.now))) (map field_tree fields.now)) }
+{
+    match signatures_of(alloc, fields, spaces) {
+        Ok(signatures) => {
+            let scope = Scope::new(alloc, spaces, &signatures);
+            tell_all_parts(fields, &Names { scope: &scope })
+        }
+        Err(e) => Err(Error::from(e)),
+    }
+}
+
+/// The function types of the fields, written and implied.
+fn signatures_of<'a>(
+    alloc: Global,
+    fields: &[ModuleField<'a>],
+    spaces: &Spaces<'a>,
+) -> Result<Signatures, AllocError>
+    ensures { IfOk result (λ s. signatures s ≡ map (option_map (numbered_sig (spaces_of spaces.now Types).look)) (map func_type (flat_map written_types (map field_tree fields.now)) ++ implied_sigs same_name (map field_tree fields.now))) }
+{
+    match Implied::of(alloc, fields) {
+        Ok(implied) => Signatures::of(alloc, fields, spaces, &implied),
+        Err(e) => Err(e),
+    }
+}
+
+/// Who tests all that the parts of fields mention.
+#[derive(Drop)]
+struct Names<'p, 's, 'a> {
+    scope: &'p Scope<'s, 'a>,
+}
+
+impl PartJudgement for Names<'_, '_, '_> {
+    type Fault = Error;
+
+    ghost Demand = { Demand Name ℕ };
+
+    ghost holds = { is_met };
+
+    ghost asks = { λ n. part_by (known n.scope.now) };
+
+    ghost tells = { Refused };
+
+    ghost anywhere = { refused_anywhere };
+}
+
+impl<'a> PartJudge<'a> for Names<'_, '_, 'a> {
+    fn judge_mention(&self, mention: Mention<'_, 'a>) -> Result<(), Error> {
+        check_mention(self.scope, mention)
+    }
+
+    fn judge_constant(&self, expression: &Expression<'a>) -> Result<(), Error> {
+        check_constant(self.scope, expression)
+    }
+
+    fn judge_function(
+        &self,
+        ty: &TypeUse<'a, FunctionType<'a>>,
+        locals: &[Local<'a>],
+        body: &Expression<'a>,
+    ) -> Result<(), Error> {
+        check_func(self.scope, ty, locals, body)
+    }
+}
