@@ -1,0 +1,15 @@
+pub mod Changes
+pub mod DemandsKept
+pub mod Expanded
+pub mod Fresh
+pub mod Kept
+pub mod Names
+pub mod Outlined
+pub mod NumberedKept
+pub mod Plain
+pub mod Resolved
+pub mod Sigs
+pub mod Taken
+pub mod Taking
+pub mod Unmet
+pub mod WrittenDemands

@@ -1,0 +1,7 @@
+use Rattle.wast_grammar.specs.Spelling.{same_name}
+use Rattle.wast_resolve_laws.proofs.Expanded as expanded
+use Rattle.wast_resolve_laws.proofs.Names.{name_self}
+use Rattle.wast_resolve_laws.proofs.laws.signatures_kept.Goals as goal
+
+pub returns : goal.returns
+returns c = expanded.sig_kept same_name name_self
