@@ -6,6 +6,7 @@ use Rattle.wast_grammar.specs.Tokens.{Name}
 use Rattle.wat.specs.declared.fault.Fault.{Fault}
 use Rattle.wat.specs.declared.fault.Fault.TheVariants as faults
 use Rattle.wast_parser.specs.Problem.{Problem, is_memory}
+use Rattle.wast_names.specs.Demand.{Tells}
 use Rattle.wast_fields.specs.FieldTree.{Module}
 use Rattle.wast_well_formed.specs.Breaches.{written_breach}
 use Rattle.wat_profile.specs.Profile.{Func, profile}
@@ -15,6 +16,8 @@ use Rattle.wat.specs.Unspelled.{IsUnspelled}
 use Rattle.wat.specs.Headline.{NotUtf8, Fails, Accepts, Assembles, Deserves}
 use Rattle.wat.specs.NoText.{IsNoText}
 use Rattle.wat.specs.Judged.{IsLaid, IsJudged, IsAnswered, IsTold}
+use Rattle.wat.specs.Naming.{unmet_demand}
+use Rattle.wat.proofs.Unmet.{told_unmet}
 use Rattle.wat.proofs.Verdict.{one_condition}
 
 pub no_text : (bytes : List ℕ) (f : Fault) → IsNoText bytes f → Deserves bytes f
@@ -24,7 +27,7 @@ no_text bytes (faults.Spelling error) t = absurd t
 no_text bytes faults.Memory t = tt
 no_text bytes faults.Read t = t
 no_text bytes (faults.NotWellFormed span) t = absurd t
-no_text bytes (faults.Unmet error) t = t
+no_text bytes (faults.Unmet error) t = absurd t
 no_text bytes (faults.Uncovered span form) t = absurd t
 no_text bytes faults.TooLarge t = absurd t
 no_text bytes (faults.Write written) t = t
@@ -46,25 +49,30 @@ told_not_utf8 bytes (faults.Write written) n t h = absurd t
 
 module _ (bytes : List ℕ) (short : length bytes < 2 ^ 32) (utf8 : IsUtf8 bytes) where
   module _ (tree : Module Name ℕ) (s : Spells bytes tree) where
-    -- a well formed tree of today's profile, with its functions
-    accepted : written_breach tree ≡ None → (fs : List Func) → profile tree ≡ Some fs → Accepts bytes (meant fs)
-    accepted formed fs found =
-        record { short = short; utf8 = utf8; means = record { tree = tree; spelled = s; stands_for = record { funcs = fs; in_profile = found; is_meant = refl } }; well_formed = formed }
+    -- a well formed tree of today's profile whose demands are met, with its functions
+    accepted : written_breach tree ≡ None → unmet_demand tree ≡ None → (fs : List Func) → profile tree ≡ Some fs → Accepts bytes (meant fs)
+    accepted formed met fs found =
+        record { short = short; utf8 = utf8; means = record { tree = tree; spelled = s; stands_for = record { funcs = fs; in_profile = found; is_meant = refl } }; well_formed = formed; all_met = met }
 
     assembled_tree : (binary : List ℕ) → IsLaid tree binary → Assembles bytes binary
-    assembled_tree binary l = (meant l.1.0, accepted l.0 l.1.0 l.1.1, record { lays = l.1.2 })
+    assembled_tree binary l = (meant l.2.0, accepted l.0 l.1 l.2.0 l.2.1, record { lays = l.2.2 })
+
+    unmet : (error : Problem) → written_breach tree ≡ None → Tells (unmet_demand tree) error → Deserves bytes (faults.Unmet error)
+    unmet error formed t =
+        let d = told_unmet tree (unmet_demand tree) error refl t in
+        (d.0, d.1, (short, utf8, (tree, s, formed, d.2)), d.3)
 
     judged : (f : Fault) → IsJudged tree f → Deserves bytes f
-    judged faults.TooLong j = absurd j
-    judged (faults.NotUtf8 offset) j = absurd j
-    judged (faults.Spelling error) j = absurd j
+    judged faults.TooLong j = absurd j.2
+    judged (faults.NotUtf8 offset) j = absurd j.2
+    judged (faults.Spelling error) j = absurd j.2
     judged faults.Memory j = tt
-    judged faults.Read j = j
+    judged faults.Read j = j.2
     judged (faults.NotWellFormed span) j = (short, utf8, (tree, s, j))
-    judged (faults.Unmet error) j = j
-    judged (faults.Uncovered span form) j = ((short, utf8, (tree, s, j.0, j.1, j.2)), j.3)
-    judged faults.TooLarge j = (meant j.1.0, accepted j.0 j.1.0 j.1.1, j.1.2)
-    judged (faults.Write written) j = j
+    judged (faults.Unmet error) j = unmet error j.0 j.1
+    judged (faults.Uncovered span form) j = ((short, utf8, (tree, s, j.0, j.1, j.2.0, j.2.1)), j.2.2)
+    judged faults.TooLarge j = (meant j.2.0, accepted j.0 j.1 j.2.0 j.2.1, j.2.2)
+    judged (faults.Write written) j = j.2
 
   pub assembled : (binary : List ℕ) → IsAnswered bytes binary → Assembles bytes binary
   assembled binary a = assembled_tree a.0 a.1 binary a.2
@@ -90,7 +98,7 @@ misspelled text error m u = elim u [
 
 -- a fault of the tree that a text spells
 pub told_of : (text : List ℕ) (tree : Module Name ℕ) → Spells text tree → (f : Fault) → IsJudged tree f → IsTold text f
-told_of text tree s (faults.Spelling error) j = absurd j
+told_of text tree s (faults.Spelling error) j = absurd j.2
 told_of text tree s faults.Memory j = tt
 told_of text tree s faults.TooLong j = (tree, s, j)
 told_of text tree s (faults.NotUtf8 offset) j = (tree, s, j)

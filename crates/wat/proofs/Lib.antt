@@ -6,4 +6,5 @@ pub mod Places
 pub mod Reading
 pub mod Runs
 pub mod Stops
+pub mod Unmet
 pub mod Verdict

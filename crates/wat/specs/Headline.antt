@@ -1,17 +1,19 @@
 -- What an input is worth: the first condition that it fails, or the module that it means; and which answer that is.
--- More of the text format will add cases here: conditions, that a name or a type use doesn't stand for what it must, and that a
--- form isn't written to binaries, each with its place, and their lines in `Deserves`; to `Accepts` the bytes that a `binary` module spells, by which no module is meant, and whose binary they are; and to
+-- More of the text format will add cases here: a condition, that a form isn't written to binaries, with its place, and its line in
+-- `Deserves`; to `Accepts` the bytes that a `binary` module spells, by which no module is meant, and whose binary they are; and to
 -- `Assembles` the case of a custom section with a reserved name, of whose binary `Lays` alone is promised and not `Reads`.
 use Rattle.std.specs.Prelude.{ℕ, ◌≡◌, ◌<◌, ◌≤◌, ◌^◌, false, List, Some, None, codes, length}
 use Rattle.std.specs.Str.{IsUtf8, IsValidUpTo}
 use Rattle.wast_grammar.specs.Tokens.{Name}
 use Rattle.wast_parser.specs.Problem.{is_memory}
+use Rattle.wast_names.specs.Demand.{Complaint, Demand, told}
 use Rattle.wast_fields.specs.FieldTree.{Module}
 use Rattle.wast_well_formed.specs.Breaches.{written_breach}
 use Rattle.wat_profile.specs.AbstractModule.{AbstractModule}
 use Rattle.wat_profile.specs.Layout.{Fits, Reads}
 use Rattle.wat_profile.specs.Profile.{profile}
 use Rattle.wat.specs.Means.{Spells, Means}
+use Rattle.wat.specs.Naming.{unmet_demand}
 use Rattle.wat.specs.declared.fault.Fault.{Fault}
 use Rattle.wat.specs.declared.fault.Fault.TheVariants as faults
 
@@ -25,8 +27,14 @@ pub data Condition : Type 0 where
   Misspelled : Condition
   -- spells a tree that is well formed; with the place of its first field that isn't, which is the field's keyword
   NotWellFormed : ℕ → Condition
+  -- spells a tree all of whose demands of names are met; with the place of the first that isn't, and what is wrong there
+  Unmet : (place : ℕ) → Complaint Name → Condition
   -- spells a tree of today's profile; with the place of the module: its word `module`, or else the keyword of its first field
   NotYet : ℕ → Condition
+
+-- the demand at this place that isn't met, with this complaint
+abbrev pub unmet_at : ℕ → Complaint Name → Demand Name ℕ
+unmet_at place complaint = record { place = place; complaint = complaint; holds = false }
 
 -- Of all conditions this is the first that the bytes fail.
 abbrev pub Fails : List ℕ → Condition → Type 0
@@ -35,9 +43,12 @@ Fails bytes (NotUtf8 n) = (length bytes < 2 ^ 32) × ¬ (IsUtf8 bytes) × IsVali
 Fails bytes Misspelled = (length bytes < 2 ^ 32) × IsUtf8 bytes × ((tree : Module Name ℕ) → ¬ (Spells bytes tree))
 Fails bytes (NotWellFormed place) =
     (length bytes < 2 ^ 32) × IsUtf8 bytes × ((tree : Module Name ℕ) × Spells bytes tree × (written_breach tree ≡ Some place))
+Fails bytes (Unmet place complaint) =
+    (length bytes < 2 ^ 32) × IsUtf8 bytes
+    × ((tree : Module Name ℕ) × Spells bytes tree × (written_breach tree ≡ None) × (unmet_demand tree ≡ Some (unmet_at place complaint)))
 Fails bytes (NotYet place) =
     (length bytes < 2 ^ 32) × IsUtf8 bytes
-    × ((tree : Module Name ℕ) × Spells bytes tree × (written_breach tree ≡ None) × (profile tree ≡ None) × (place ≡ tree.place))
+    × ((tree : Module Name ℕ) × Spells bytes tree × (written_breach tree ≡ None) × (unmet_demand tree ≡ None) × (profile tree ≡ None) × (place ≡ tree.place))
 
 -- The bytes meet every condition, and mean the module.
 pub record Accepts (bytes : List ℕ) (m : AbstractModule (List ℕ)) : Type 0 where
@@ -45,6 +56,7 @@ pub record Accepts (bytes : List ℕ) (m : AbstractModule (List ℕ)) : Type 0 w
   pub utf8 : IsUtf8 bytes
   pub means : Means bytes m
   pub well_formed : written_breach means.tree ≡ None
+  pub all_met : unmet_demand means.tree ≡ None
 
 -- a count, a length or an index of the binary meant is past 4294967295
 abbrev pub IsTooLarge : AbstractModule (List ℕ) → Type 0
@@ -60,12 +72,12 @@ Deserves bytes faults.TooLong = Fails bytes TooLong
 Deserves bytes (faults.NotUtf8 offset) = Fails bytes (NotUtf8 offset)
 Deserves bytes (faults.Spelling error) = Fails bytes Misspelled × (is_memory error.cause ≡ false)
 Deserves bytes (faults.NotWellFormed span) = Fails bytes (NotWellFormed span)
+Deserves bytes (faults.Unmet error) = (place : ℕ) × (complaint : Complaint Name) × Fails bytes (Unmet place complaint) × (error ≡ told (unmet_at place complaint))
 Deserves bytes (faults.Uncovered span form) = Fails bytes (NotYet span) × (form.now ≡ codes "not yet")
 Deserves bytes faults.TooLarge = (m : AbstractModule (List ℕ)) × Accepts bytes m × IsTooLarge m
 Deserves bytes faults.Memory = Unit {0}
 -- never answered for any bytes
 Deserves bytes faults.Read = ⊥
-Deserves bytes (faults.Unmet error) = ⊥
 Deserves bytes (faults.Write written) = ⊥
 
 -- Of the conditions at most one is the first that fails; none is where the bytes mean a module; they mean one at most; and it

@@ -2,6 +2,7 @@ pub mod Headline
 pub mod Judged
 pub mod Laws
 pub mod Means
+pub mod Naming
 pub mod NoText
 pub mod Program
 pub mod Registered

@@ -95,6 +95,21 @@ fn refused_growths_of_a_fault(rt: HostRuntime) -> Result<(), Fail> {
 }
 
 #[test]
+fn refused_growths_of_an_unmet_demand(rt: HostRuntime) -> Result<(), Fail> {
+    match assemble(rt.alloc(), b"(module (memory (export \"a\") 1) (start $x))") {
+        Err(Fault::Memory) => Err("out of memory".into()),
+        Err(Fault::Unmet(error)) => {
+            assert_eq!(rt; error.span().offset(), 39);
+            Ok(())
+        }
+        _ => {
+            assert!(rt; false);
+            Ok(())
+        }
+    }
+}
+
+#[test]
 fn refused_growths_of_a_message(rt: HostRuntime) -> Result<(), Fail> {
     assert_message(&rt, rt.alloc())
 }
