@@ -1,11 +1,12 @@
 //! What becomes of each index.
-ghost use Rattle.std.specs.Prelude.{◌≡◌, ℕ, List, option_map, map, IfOk};
+ghost use Rattle.std.specs.Prelude.{◌≡◌, ℕ, IfOk, option_map};
 ghost use Rattle.wast_grammar.specs.Tokens.{Name};
 ghost use Rattle.wast_parser.specs.Identifiers.{index_tree};
 ghost use Rattle.wast_core_types.specs.TypeViews.{sig_tree};
 ghost use Rattle.wast_meaning.specs.Changed.{Change};
 ghost use Rattle.wast_meaning.specs.Views.{space_view};
 
+use std::alloc::AllocError;
 use wast_core_types::FunctionType;
 use wast_meaning::Space;
 use wast_parser::Index;
@@ -23,21 +24,21 @@ pub trait Changing<'a> {
     fn member(&self, owner: &Index<'a>, field: Index<'a>) -> Index<'a>
         ensures { index_tree result ≡ (change self.now).member (index_tree owner.now) (index_tree field.entry) };
 
-    /// What becomes of the index of a type use (6.6.3), beside the signature that is written with it.
+    /// What becomes of the index of a type use (6.6.3), beside the signature that is written with it. Fails only for want of memory.
     fn type_use(
         &self,
         index: Option<Index<'a>>,
         inline: Option<&FunctionType<'a>>,
-    ) -> Option<Index<'a>>
-        ensures { option_map index_tree result ≡ (change self.now).type_use (record { index = option_map index_tree index.entry; inline = option_map (λ s. sig_tree s.now) inline.entry }) };
+    ) -> Result<Option<Index<'a>>, AllocError>
+        ensures { IfOk result (λ new. option_map index_tree new ≡ (change self.now).type_use (record { index = option_map index_tree index.entry; inline = option_map (λ s. sig_tree s.now) inline.entry })) };
 
     /// The same in a block (6.5.2).
     fn block_use(
         &self,
         index: Option<Index<'a>>,
         inline: Option<&FunctionType<'a>>,
-    ) -> Option<Index<'a>>
-        ensures { option_map index_tree result ≡ (change self.now).block_use (record { index = option_map index_tree index.entry; inline = option_map (λ s. sig_tree s.now) inline.entry }) };
+    ) -> Result<Option<Index<'a>>, AllocError>
+        ensures { IfOk result (λ new. option_map index_tree new ≡ (change self.now).block_use (record { index = option_map index_tree index.entry; inline = option_map (λ s. sig_tree s.now) inline.entry })) };
 }
 
 /// The index of a space, where there is one.

@@ -2,15 +2,16 @@
 ghost use Rattle.std.specs.Prelude.{◌≡◌, ℕ, IfOk, map, option_map};
 ghost use Rattle.wast_grammar.specs.Tokens.{Name};
 ghost use Rattle.wasm_encoder_base.specs.Table.{Tables};
+ghost use Rattle.wast_core_types.specs.TypeViews.{use_tree};
 ghost use Rattle.wast_typed_operands.specs.TypedTree as spec;
 ghost use Rattle.wast_typed_operands.specs.TypedViews.{block_tree, catch_tree, try_table_tree, indirect_tree, select_types_tree};
-ghost use Rattle.wast_meaning.specs.Changed.{val_changed, use_changed, block_changed, catch_changed};
+ghost use Rattle.wast_meaning.specs.Changed.{val_changed, sig_changed, use_changed, block_changed, catch_changed};
 
 use crate::changing::{Changing, change_optional};
 use crate::list::{Changed, change_list};
-use crate::types::{change_inline, change_type_use};
+use crate::types::{change_function_type, change_type_use};
 use std::alloc::{AllocError, Global};
-use wast_core_types::TypeUse;
+use wast_core_types::{FunctionType, TypeUse};
 use wast_meaning::Space;
 use wast_typed_operands::{
     BlockType, CallIndirect, SelectTypes, TryTable, TryTableCatch, TryTableCatchKind,
@@ -25,10 +26,36 @@ pub fn change_block_type<'a, C: Changing<'a>>(
     ensures { IfOk result (λ new. block_tree new.value ≡ block_changed (C.change change.now) (block_tree block.entry.value)) }
 {
     let BlockType { label, ty } = Box::into_inner(block);
-    let index = change.block_use(ty.index, ty.inline.as_ref());
-    let inline = change_inline(alloc, change, ty.inline)?;
-    let ty = TypeUse { index, inline };
+    let ty = change_block_use(alloc, change, ty)?;
     Ok(Box::new(alloc, BlockType { label, ty })?)
+}
+
+/// A type use in a block (6.5.2). Fails only for want of memory.
+fn change_block_use<'a, C: Changing<'a>>(
+    alloc: Global,
+    change: &C,
+    ty: TypeUse<'a, FunctionType<'a>>,
+) -> Result<TypeUse<'a, FunctionType<'a>>, AllocError>
+    ensures { IfOk result (λ new. use_tree new ≡ record { index = (C.change change.now).block_use (use_tree ty.entry); inline = option_map (sig_changed (C.change change.now)) (use_tree ty.entry).inline }) }
+{
+    let TypeUse { index, inline } = ty;
+    match inline {
+        Some(signature) => {
+            let index = change.block_use(index, Some(&signature))?;
+            let signature = change_function_type(alloc, change, signature)?;
+            Ok(TypeUse {
+                index,
+                inline: Some(signature),
+            })
+        }
+        None => {
+            let index = change.block_use(index, None)?;
+            Ok(TypeUse {
+                index,
+                inline: None,
+            })
+        }
+    }
 }
 
 /// A clause of `try_table` (6.5.2).

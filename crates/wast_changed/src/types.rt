@@ -100,20 +100,6 @@ pub fn change_rec<'a, C: Changing<'a>>(
     })
 }
 
-/// A signature that may be left out. Fails only for want of memory.
-pub(crate) fn change_inline<'a, C: Changing<'a>>(
-    alloc: Global,
-    change: &C,
-    inline: Option<FunctionType<'a>>,
-) -> Result<Option<FunctionType<'a>>, AllocError>
-    ensures { IfOk result (λ new. option_map sig_tree new ≡ option_map (sig_changed (C.change change.now)) (option_map sig_tree inline.entry)) }
-{
-    match inline {
-        Some(ty) => Ok(Some(change_function_type(alloc, change, ty)?)),
-        None => Ok(None),
-    }
-}
-
 /// A type use (6.6.3). Fails only for want of memory.
 pub fn change_type_use<'a, C: Changing<'a>>(
     alloc: Global,
@@ -122,9 +108,24 @@ pub fn change_type_use<'a, C: Changing<'a>>(
 ) -> Result<TypeUse<'a, FunctionType<'a>>, AllocError>
     ensures { IfOk result (λ new. use_tree new ≡ use_changed (C.change change.now) (use_tree ty.entry)) }
 {
-    let index = change.type_use(ty.index, ty.inline.as_ref());
-    let inline = change_inline(alloc, change, ty.inline)?;
-    Ok(TypeUse { index, inline })
+    let TypeUse { index, inline } = ty;
+    match inline {
+        Some(signature) => {
+            let index = change.type_use(index, Some(&signature))?;
+            let signature = change_function_type(alloc, change, signature)?;
+            Ok(TypeUse {
+                index,
+                inline: Some(signature),
+            })
+        }
+        None => {
+            let index = change.type_use(index, None)?;
+            Ok(TypeUse {
+                index,
+                inline: None,
+            })
+        }
+    }
 }
 
 impl<'a, C: Changing<'a>> Changed<'a, C> for Param<'a> {

@@ -13,7 +13,8 @@ use Rattle.wast_parser.proofs.GrammarLaws.{Lawful, among_laws, nothing_laws, see
 use Rattle.wast_parser.proofs.IdentifierLaws.{identifier_laws, index_laws}
 use Rattle.wast_value_types.proofs.ValueLaws.{heap_type_laws, ref_type_laws}
 use Rattle.wast_operands.specs.OperandSyntax.{id_starts, two_indices, optional_index}
-use Rattle.wast_operands.proofs.OperandLaws.{two_indices_laws, index_count_laws, label_table_laws, optional_index_laws, optional_indices_laws, one_or_two_laws, signed_literal_laws, float_literal_laws, lane_laws, shuffle_laws, vector_laws, optional_ordering_laws, ordered_laws as behind_laws, mem_arg_laws, mem_arg_lane_laws, resume_laws, resume_throw_laws}
+use Rattle.wast_vector_operands.proofs.VectorLaws.{signed_literal_laws, float_literal_laws, lane_laws, shuffle_laws, vector_laws}
+use Rattle.wast_operands.proofs.OperandLaws.{two_indices_laws, index_count_laws, label_table_laws, optional_index_laws, optional_indices_laws, one_or_two_laws, optional_ordering_laws, ordered_laws as behind_laws, mem_arg_laws, mem_arg_lane_laws, resume_laws, resume_throw_laws}
 use Rattle.wast_typed_operands.specs.TypedSyntax.{catch_starts}
 use Rattle.wast_typed_operands.proofs.TypedLaws.{block_laws, try_table_laws, try_table_settles, indirect_laws, select_types_laws, cast_laws}
 use Rattle.wast_mnemonics.specs.TextTable.{TextOperands, TextEntry, text_table}

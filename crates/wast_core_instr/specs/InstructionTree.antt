@@ -2,7 +2,8 @@
 use Rattle.std.specs.Prelude.{ℕ, ℤ, Bool, true, false, List, Option, Some, None}
 use Rattle.wast_parser.specs.Identifiers.{Named, Reference}
 use Rattle.wast_value_types.specs.ValueTree.{HeapType, RefType, ValType}
-use Rattle.wast_operands.specs.OperandTree.{Ordering, MemArg, Vector, Handle}
+use Rattle.wast_vector_operands.specs.VectorTree.{Vector}
+use Rattle.wast_operands.specs.OperandTree.{Ordering, MemArg, Handle}
 use Rattle.wast_typed_operands.specs.TypedTree as typed
 use Rattle.wast_mnemonics.specs.Heads.{Head}
 

@@ -3,8 +3,8 @@ use Rattle.std.proofs.Common.{◌≡◌, ℕ, List, [], ◌∷◌, ◌++◌, map
 use Rattle.std.specs.List.{flat_map}
 use Rattle.std.proofs.lemmas.List.Concat.{flat_map-cons}
 use Rattle.wast_parser.specs.Spelling.{◌>>=◌}
-use Rattle.wast_operands.specs.OperandTree.{Vector}
-use Rattle.wast_operands.specs.OperandViews.{vector_bytes}
+use Rattle.wast_vector_operands.specs.VectorTree.{Vector}
+use Rattle.wast_vector_operands.specs.VectorViews.{vector_bytes}
 use Rattle.wast_data.specs.DataTree.{vectors_bytes}
 
 -- these bytes before those of vectors, where they have some

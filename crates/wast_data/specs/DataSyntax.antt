@@ -4,8 +4,8 @@ use Rattle.std.specs.Int.{Width, w8, w16, w32, w64, byte_len}
 use Rattle.std.specs.List.{flat_map}
 use Rattle.wast_parser.specs.Look.{Test, On, OneOf, Any, AWord, AString, join, faults}
 use Rattle.wast_parser.specs.Grammar.{Syntax, among, next, seen, many, either, paren, string}
-use Rattle.wast_operands.specs.OperandSyntax.{integer_starts, float_starts, shape_starts, signed_literal, float_literal, vector}
-use Rattle.wast_operands.specs.OperandViews.{lane_bytes}
+use Rattle.wast_vector_operands.specs.VectorSyntax.{integer_starts, float_starts, shape_starts, signed_literal, float_literal, vector}
+use Rattle.wast_vector_operands.specs.VectorViews.{lane_bytes}
 use Rattle.wast_data.specs.DataTree.{DataVal, Text, Integral, Float, of_vectors}
 
 -- the types of numbers in data

@@ -1,8 +1,8 @@
 -- Values of data segments (WebAssembly 3.0, 6.6.12), and their bytes. No names or places stand in them.
 use Rattle.std.specs.Prelude.{ℕ, ◌*◌, List, [], ◌∷◌, ◌++◌, length, Option, Some, None}
 use Rattle.wast_parser.specs.Spelling.{◌>>=◌}
-use Rattle.wast_operands.specs.OperandTree.{Vector}
-use Rattle.wast_operands.specs.OperandViews.{vector_bytes}
+use Rattle.wast_vector_operands.specs.VectorTree.{Vector}
+use Rattle.wast_vector_operands.specs.VectorViews.{vector_bytes}
 
 pub data DataVal : Type 0 where
   -- a string

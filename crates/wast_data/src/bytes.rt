@@ -2,14 +2,14 @@
 ghost use Rattle.std.specs.Prelude.{◌≡◌, ◌++◌, ◌*◌, List, ℕ, map, option_map, IfOk, OnOk};
 ghost use Rattle.std.specs.Int.{w8, w16, w32, w64};
 ghost use Rattle.std.specs.List.{flat_map};
-ghost use Rattle.wast_operands.specs.OperandViews.{lane_bytes, vector_tree};
+ghost use Rattle.wast_vector_operands.specs.VectorViews.{lane_bytes, vector_tree};
 ghost use Rattle.wast_data.specs.DataTree.{vectors_bytes, of_vectors};
 ghost use Rattle.wast_data.specs.DataViews.{value_tree};
 
 use crate::value::DataVal;
 use std::alloc::{AllocError, Global};
-use wast_operands::V128Const;
 use wast_parser::Item;
+use wast_vector_operands::V128Const;
 
 /// An integer that data may hold.
 pub(crate) trait DataInteger: Item {

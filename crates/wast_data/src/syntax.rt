@@ -8,7 +8,7 @@ ghost use Rattle.wast_parser.specs.Lawful.{Lawful, Leads};
 ghost use Rattle.wast_parser.specs.State.{ahead, Keeps};
 ghost use Rattle.wast_parser.specs.Reading.{Asks, Gives};
 ghost use Rattle.wast_parser.specs.Cursors.{stands};
-ghost use Rattle.wast_operands.specs.OperandSyntax.{float_starts, float_literal};
+ghost use Rattle.wast_vector_operands.specs.VectorSyntax.{float_starts, float_literal};
 ghost use Rattle.wast_data.specs.DataTree as spec;
 ghost use Rattle.wast_data.specs.DataSyntax as words;
 ghost use Rattle.wast_data.specs.DataSyntax.{number_word, number_types, value_starts, vectors, numbers_of, numbers, value};
@@ -17,11 +17,11 @@ ghost use Rattle.wast_data.specs.DataViews.{number_view, value_tree};
 use crate::bytes::{DataInteger, integers_bytes, of_vectors, total};
 use crate::value::DataVal;
 use wasm_encoder_base::Bytes;
-use wast_operands::{FloatLit, V128Const};
 use wast_parser::{
     Cursor, Error, Item, LParen, Meaning, Parse, Parser, Peek, RParen, Spelled, WordSet,
     find_among, list_of,
 };
+use wast_vector_operands::{FloatLit, V128Const};
 
 impl<'a> Meaning for DataVal<'a> {
     ghost Tree = { spec.DataVal };

@@ -1,8 +1,6 @@
 pub mod Digits
-pub mod Filling
-pub mod FlatLooks
 pub mod Labels
 pub mod OperandExamples
 pub mod OperandLaws
-pub mod Places
 pub mod Said
+pub use Rattle.wast_vector_operands.proofs.VectorLaws

@@ -1,19 +1,19 @@
 -- The laws of the syntax of operands: each mirrors its production.
-use Rattle.std.proofs.Common.{◌≡◌, ℕ, zero, suc, Bool, true, false, List, [], ◌∷◌, ◌++◌, Some, None, inr, refl, sym, ◌∙◌, ap}
-use Rattle.std.specs.Prelude.{◌*◌, ◌-◌, ◌^◌, codes}
-use Rattle.std.specs.Int.{Width, w8, w16, w32, w64, byte_len}
-use Rattle.wast_parser.specs.Tokens.{SignificantToken, Open, Id, Word, Integer, Float}
-use Rattle.wast_parser.specs.Look.{look, at, apart, join, faults}
-use Rattle.wast_parser.specs.Grammar.{Syntax, led, wide, next, seq, times, float}
+use Rattle.std.proofs.Common.{◌≡◌, ℕ, Bool, true, false, [], ◌∷◌, Some, None, inr, refl}
+use Rattle.std.specs.Prelude.{◌-◌, ◌^◌, codes}
+use Rattle.wast_parser.specs.Tokens.{Id, Word}
+use Rattle.wast_parser.specs.Look.{apart, join, faults}
+use Rattle.wast_parser.specs.Grammar.{Syntax, led, wide, seq}
 use Rattle.wast_parser.specs.Identifiers.{ByName}
-use Rattle.wast_parser.specs.Integers.{unsigned, signed}
-use Rattle.wast_grammar.proofs.Looks.{absurd_of, first_deep, flat_plain, answered, sub_law}
-use Rattle.wast_parser.proofs.GrammarLaws.{Lawful, Leads, led_laws, word_laws, among_laws, begun_laws, float_laws, nothing_laws, seen_laws, only_laws, seq_laws, next_laws, maybe_laws, many_laws, times_laws, either_laws, group_laws, bound_laws, wide_laws}
-use Rattle.wast_parser.proofs.LeadLaws.{LooksSpelled, spelled_seen, seen_leads, among_leads, next_leads, group_leads}
+use Rattle.wast_parser.specs.Integers.{unsigned}
+use Rattle.wast_grammar.proofs.Looks.{sub_law}
+use Rattle.wast_parser.proofs.GrammarLaws.{Lawful, Leads, led_laws, word_laws, among_laws, begun_laws, nothing_laws, seen_laws, only_laws, seq_laws, next_laws, maybe_laws, many_laws, either_laws, group_laws, bound_laws, wide_laws}
+use Rattle.wast_parser.proofs.LeadLaws.{seen_leads, among_leads, group_leads}
 use Rattle.wast_parser.proofs.IdentifierLaws.{identifier_laws, index_laws, item_ref_laws}
-use Rattle.wast_parser.proofs.IntegerLaws.{number_laws, integer_value_leads}
-use Rattle.wast_operands.specs.OperandTree.{Modifiers, OnSwitch, Vector, Integers, Floats, Shape, I8x16, I16x8, I32x4, I64x2, F32x4, F64x2}
-use Rattle.wast_operands.specs.OperandSyntax.{u64_number, alignment, ordering_word, orderings, shape_word, shapes, integer_starts, id_starts, index_starts, float_starts, shape_starts, ordering_starts, offset_starts, align_starts, type_starts, handle_starts, lane_starts, is_bare, two_indices, u32_operand, index_count, label_table, optional_index, optional_indices, one_or_two, signed_literal, float_literal, lane, shuffle, integers, floats, lanes_of, shape, vector, ordering, optional_ordering, ordered, array_target, target, one_or_two_orderings, offset, align, modifiers, mem_arg, behind_integer, integer_first, behind_modifiers, untargeted_lane, mem_arg_lane, handled, handle_body, handle, handlers, resume, resume_throw}
+use Rattle.wast_parser.proofs.IntegerLaws.{number_laws}
+use Rattle.wast_operands.specs.OperandTree.{Modifiers, OnSwitch}
+use Rattle.wast_vector_operands.specs.VectorSyntax.{integer_starts, lane}
+use Rattle.wast_operands.specs.OperandSyntax.{u64_number, alignment, ordering_word, orderings, id_starts, index_starts, ordering_starts, offset_starts, align_starts, type_starts, handle_starts, lane_starts, is_bare, two_indices, u32_operand, index_count, label_table, optional_index, optional_indices, one_or_two, ordering, optional_ordering, ordered, array_target, target, one_or_two_orderings, offset, align, modifiers, mem_arg, behind_integer, integer_first, behind_modifiers, untargeted_lane, mem_arg_lane, handled, handle_body, handle, handlers, resume, resume_throw}
 
 module _ {N P : Type 0} where
   pub two_indices_laws : Lawful (two_indices {N = N} {P = P})
@@ -36,46 +36,6 @@ module _ {N P : Type 0} where
 
   pub one_or_two_laws : Lawful (one_or_two {N = N} {P = P})
   one_or_two_laws = seen_laws _ _ (seq_laws _ _ index_laws optional_index_laws refl)
-
-  -- LITERALS
-  pub signed_literal_laws : (bits : ℕ) → Lawful (signed_literal {N = N} {P = P} bits)
-  signed_literal_laws bits = seen_laws _ _ (number_laws (2 ^ bits - 1) (Some (2 ^ (bits - 1))) (signed (2 ^ (bits - 1))))
-
-  pub float_literal_laws : Lawful (float_literal {N = N} {P = P})
-  float_literal_laws = seen_laws _ _ float_laws
-
-  pub lane_laws : Lawful (lane {N = N} {P = P})
-  lane_laws = seen_laws _ _ (number_laws (2 ^ 8 - 1) None unsigned)
-
-  pub shuffle_laws : Lawful (shuffle {N = N} {P = P})
-  shuffle_laws = times_laws lane lane_laws refl refl 16
-
-  -- VECTORS
-  pub integers_laws : (w : Width) (n : ℕ) → Lawful (integers {N = N} {P = P} w n)
-  integers_laws w n = seen_laws _ _ (times_laws (signed_literal (8 * byte_len w)) (signed_literal_laws (8 * byte_len w)) refl refl n)
-
-  pub floats_laws : (w : Width) (n : ℕ) → Lawful (floats {N = N} {P = P} w n)
-  floats_laws w n = seen_laws _ _ (times_laws float_literal float_literal_laws refl refl n)
-
-  bounded_integers : (w : Width) (n : ℕ) → (integers {N = N} {P = P} w n).empty ≡ false → Lawful (wide float_starts false [] (integers {N = N} {P = P} w n))
-  bounded_integers w n full = wide_laws (integers w n) float_starts false [] (integers_laws w n) (sub_law integer_starts float_starts refl) (λ e. cc) (sub_law [] [] refl)
-
-  lanes_laws : (s : Shape) → Lawful (wide float_starts false [] (lanes_of {N = N} {P = P} s))
-  lanes_laws I8x16 = bounded_integers _ 16 refl
-  lanes_laws I16x8 = bounded_integers _ 8 refl
-  lanes_laws I32x4 = bounded_integers _ 4 refl
-  lanes_laws I64x2 = bounded_integers _ 2 refl
-  lanes_laws F32x4 = floats_laws _ 4
-  lanes_laws F64x2 = floats_laws _ 2
-
-  pub shape_laws : Lawful (shape {N = N} {P = P})
-  shape_laws = among_laws shape_word shapes []
-
-  shaped_laws : Lawful (next {N = N} {P = P} shape (λ s. lanes_of s.0) float_starts false [])
-  shaped_laws = next_laws shape (λ s. lanes_of s.0) float_starts false [] shape_laws (λ s. lanes_laws s.0) refl
-
-  pub vector_laws : Lawful (vector {N = N} {P = P})
-  vector_laws = seen_laws _ _ shaped_laws
 
   -- ORDERINGS
   pub ordering_laws : Lawful (ordering {N = N} {P = P})
@@ -154,48 +114,6 @@ module _ {N P : Type 0} where
   resume_throw_laws = seq_laws _ _ index_laws resume_laws refl
 
   -- WHERE THEY BEGIN
-  float_only : (ts : List (SignificantToken N P)) → at float_starts ts ≡ true → LooksSpelled (float {N = N} {P = P}).spells ts
-  float_only [] h = absurd cc
-  float_only (Open p ∷ ts) h = absurd_of true refl (sym (first_deep true ts) ∙ (flat_plain float_starts (look (Open p ∷ ts)) refl h).0)
-  float_only (Integer n w p ∷ ts) h = ((w, p), Integer n w p, [], [], (Integer n w p, refl, refl), refl)
-  float_only (Float w p ∷ ts) h = ((w, p), Float w p, [], [], (Float w p, refl, refl), refl)
-  float_only (_ ∷ ts) h = absurd cc
-
-  pub float_leads : Leads (float_literal {N = N} {P = P}).spells float_starts
-  float_leads = seen_leads (λ x. x.0) float.spells float_starts (record {
-    seen = spelled_seen float float_laws refl;
-    only = λ ts h. float_only ts (answered float_starts ts true h).1;
-  })
-
-  -- one literal, so often
-  repeated : {A : Type 0} (g : Syntax N P A) (a : A) (us : List (SignificantToken N P)) → g.spells a us → (n : ℕ) → (xs : List A) × (ts : List (SignificantToken N P)) × (times n g).spells xs ts
-  repeated g a us s zero = ([], [], (refl, refl))
-  repeated g a us s (suc n) = let r = repeated g a us s n in (a ∷ r.0, us ++ r.1, (ap suc r.2.0, (us, r.1, refl, s, r.2.1)))
-
-  some_integers : P → (w : Width) (n : ℕ) → (v : Vector) × (us : List (SignificantToken N P)) × (integers w n).spells v us
-  some_integers p w n =
-      let bits = 8 * byte_len w in
-      let one = (integer_value_leads {N = N} (2 ^ bits - 1) (Some (2 ^ (bits - 1))) (signed (2 ^ (bits - 1)))).only (Integer (record { minus = false; size = 0 }) [] p ∷ []) refl in
-      let all = repeated (signed_literal bits) one.0 (one.1 ∷ one.2) one.4 n in
-      (Integers w all.0, all.1, (all.0, refl, all.2))
-
-  some_floats : P → (w : Width) (n : ℕ) → (v : Vector) × (us : List (SignificantToken N P)) × (floats w n).spells v us
-  some_floats p w n =
-      let all = repeated float_literal [] (Float [] p ∷ []) (([], p), refl, (Float [] p, refl, refl)) n in
-      (Floats w all.0, all.1, (all.0, refl, all.2))
-
-  some_lanes : P → (s : Shape) → (v : Vector) × (us : List (SignificantToken N P)) × (lanes_of s).spells v us
-  some_lanes p I8x16 = some_integers p w8 16
-  some_lanes p I16x8 = some_integers p w16 8
-  some_lanes p I32x4 = some_integers p w32 4
-  some_lanes p I64x2 = some_integers p w64 2
-  some_lanes p F32x4 = some_floats p w32 4
-  some_lanes p F64x2 = some_floats p w64 2
-
-  pub vector_leads : P → Leads (vector {N = N} {P = P}).spells shape_starts
-  vector_leads p = seen_leads (λ x. x.1) (next shape (λ s. lanes_of s.0) float_starts false []).spells shape_starts
-      (next_leads shape (λ s. lanes_of s.0) float_starts false [] shape_starts shaped_laws refl (among_leads shape_word shapes []) refl refl (λ s. some_lanes p s.0))
-
   pub ordering_leads : Leads (ordering {N = N} {P = P}).spells ordering_starts
   ordering_leads = seen_leads _ _ ordering_starts (among_leads ordering_word orderings [])
 

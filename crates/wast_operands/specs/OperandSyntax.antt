@@ -1,14 +1,14 @@
 -- The syntax of operands in which no type stands (WebAssembly 3.0, 6.5).
-use Rattle.std.specs.Prelude.{ℕ, ℤ, ◌*◌, ◌-◌, ◌^◌, ◌==◌, ◌&&◌, nat_lt, Bool, true, false, if◌then◌else◌, List, [], ◌∷◌, map, Option, Some, None, is_none, unwrap_or, codes}
-use Rattle.std.specs.Int.{Width, w8, w16, w32, w64, byte_len, is_power_of_two}
+use Rattle.std.specs.Prelude.{ℕ, ◌-◌, ◌^◌, ◌==◌, ◌&&◌, nat_lt, Bool, true, false, if◌then◌else◌, List, [], ◌∷◌, map, Option, Some, None, is_none, unwrap_or, codes}
+use Rattle.std.specs.Int.{is_power_of_two}
 use Rattle.wast_lexer.specs.Numbers.{is_base}
 use Rattle.wast_parser.specs.Tokens.{number, base_of}
 use Rattle.wast_parser.specs.Spelling.{◌>>=◌, after}
-use Rattle.wast_parser.specs.Look.{Test, On, OneOf, Begun, Any, AnId, AnInteger, AFloat, AWord, this_group, join, faults}
-use Rattle.wast_parser.specs.Grammar.{Syntax, among, begun, word, float, nothing, next, seq, seen, only, maybe, many, times, either, group}
-use Rattle.wast_parser.specs.Integers.{number_in, unsigned, signed}
+use Rattle.wast_parser.specs.Look.{Test, On, OneOf, Begun, Any, AnId, AnInteger, AWord, this_group, join, faults}
+use Rattle.wast_parser.specs.Grammar.{Syntax, among, begun, word, nothing, next, seq, seen, only, maybe, many, either, group}
+use Rattle.wast_parser.specs.Integers.{number_in, unsigned}
 use Rattle.wast_parser.specs.Identifiers.{Reference, ByNumber, ByName, identifier, index, item_ref}
-use Rattle.wast_operands.specs.OperandTree.{Ordering, AcqRel, SeqCst, MemArgTarget, Memory, Array, Modifiers, MemArg, Vector, Integers, Floats, Shape, I8x16, I16x8, I32x4, I64x2, F32x4, F64x2, Handle, OnLabel, OnSwitch}
+use Rattle.wast_operands.specs.OperandTree.{Ordering, AcqRel, SeqCst, MemArgTarget, Memory, Array, Modifiers, MemArg, Handle, OnLabel, OnSwitch}
 
 -- NUMBERS IN WORDS, as in `offset=8`
 -- whether a text is digits of a base, with single `_` between them (6.3.1)
@@ -37,35 +37,15 @@ ordering_word SeqCst = codes "seq_cst"
 abbrev pub orderings : List Ordering
 orderings = AcqRel ∷ SeqCst ∷ []
 
-abbrev pub shape_word : Shape → List ℕ
-shape_word I8x16 = codes "i8x16"
-shape_word I16x8 = codes "i16x8"
-shape_word I32x4 = codes "i32x4"
-shape_word I64x2 = codes "i64x2"
-shape_word F32x4 = codes "f32x4"
-shape_word F64x2 = codes "f64x2"
-
-abbrev pub shapes : List Shape
-shapes = I8x16 ∷ I16x8 ∷ I32x4 ∷ I64x2 ∷ F32x4 ∷ F64x2 ∷ []
-
 -- WHAT THEY BEGIN WITH
-abbrev pub integer_starts : List Test
-integer_starts = On false AnInteger Any ∷ []
-
 abbrev pub id_starts : List Test
 id_starts = On false AnId Any ∷ []
 
 abbrev pub index_starts : List Test
 index_starts = On false AnInteger Any ∷ On false AnId Any ∷ []
 
-abbrev pub float_starts : List Test
-float_starts = On false AFloat Any ∷ On false AnInteger Any ∷ []
-
 abbrev pub ordering_starts : List Test
 ordering_starts = On false AWord (OneOf (map ordering_word orderings) []) ∷ []
-
-abbrev pub shape_starts : List Test
-shape_starts = On false AWord (OneOf (map shape_word shapes) []) ∷ []
 
 abbrev pub offset_starts : List Test
 offset_starts = On false AWord (Begun (codes "offset=")) ∷ []
@@ -135,44 +115,6 @@ module _ {N P : Type 0} where
   -- index? index
   abbrev pub one_or_two : Syntax N P (Option (Reference N P) × Reference N P)
   one_or_two = seen first_if_two (seq index optional_index)
-
-  -- LITERALS (6.3.1, 6.3.2)
-  -- an integer of so many bits, which means a signed number
-  abbrev pub signed_literal : ℕ → Syntax N P ℤ
-  signed_literal bits = seen (λ n. n.0) (number_in (2 ^ bits - 1) (Some (2 ^ (bits - 1))) (signed (2 ^ (bits - 1))))
-
-  -- what may stand for a float, as it is written
-  abbrev pub float_literal : Syntax N P (List ℕ)
-  float_literal = seen (λ x. x.0) float
-
-  -- the number of a lane
-  abbrev pub lane : Syntax N P ℕ
-  lane = seen (λ n. n.0) (number_in (2 ^ 8 - 1) None unsigned)
-
-  -- sixteen of them
-  abbrev pub shuffle : Syntax N P (List ℕ)
-  shuffle = times 16 lane
-
-  -- VECTORS: a shape, and as many literals
-  abbrev pub integers : Width → ℕ → Syntax N P Vector
-  integers w n = seen (Integers w) (times n (signed_literal (8 * byte_len w)))
-
-  abbrev pub floats : Width → ℕ → Syntax N P Vector
-  floats w n = seen (Floats w) (times n float_literal)
-
-  abbrev pub lanes_of : Shape → Syntax N P Vector
-  lanes_of I8x16 = integers w8 16
-  lanes_of I16x8 = integers w16 8
-  lanes_of I32x4 = integers w32 4
-  lanes_of I64x2 = integers w64 2
-  lanes_of F32x4 = floats w32 4
-  lanes_of F64x2 = floats w64 2
-
-  abbrev pub shape : Syntax N P (Shape × P)
-  shape = among shape_word shapes []
-
-  abbrev pub vector : Syntax N P Vector
-  vector = seen (λ x. x.1) (next shape (λ s. lanes_of s.0) float_starts false [])
 
   -- ORDERINGS
   abbrev pub ordering : Syntax N P Ordering

@@ -1,7 +1,6 @@
 -- Operands of instructions in which no type stands, as they are written: abstract syntax trees (WebAssembly 3.0, 6.5), over
 -- names of type N and places of type P. An index that may be left out and is means index 0.
-use Rattle.std.specs.Prelude.{ℕ, ℤ, List, Option}
-use Rattle.std.specs.Int.{Width}
+use Rattle.std.specs.Prelude.{ℕ, Option}
 use Rattle.wast_parser.specs.Identifiers.{Reference}
 
 -- orderings of atomic instructions
@@ -26,20 +25,6 @@ pub record MemArg (N P : Type 0) : Type 0 where
   pub ordering : Option (Ordering × Option Ordering)
   pub offset : ℕ
   pub align : ℕ
-
--- constants of 128 bits: lanes of a width, integers by their numbers, floats as they are written
-pub data Vector : Type 0 where
-  Integers : Width → List ℤ → Vector
-  Floats : Width → List (List ℕ) → Vector
-
--- the shapes of such constants (6.5.10)
-pub data Shape : Type 0 where
-  I8x16 : Shape
-  I16x8 : Shape
-  I32x4 : Shape
-  I64x2 : Shape
-  F32x4 : Shape
-  F64x2 : Shape
 
 -- handlers of a continuation that is resumed
 pub data Handle (N P : Type 0) : Type 0 where

@@ -4,13 +4,14 @@ ghost use Rattle.wast_parser.specs.Grammar.{begun, seen};
 ghost use Rattle.wast_parser.specs.State.{ahead, Keeps};
 ghost use Rattle.wast_parser.specs.Look.{ask, join};
 ghost use Rattle.wast_parser.specs.Reading.{Asks, Gives};
-ghost use Rattle.wast_operands.specs.OperandSyntax.{offset_starts, align_starts, integer_starts, lane_starts, u64_number, alignment, target, one_or_two_orderings, offset, align, modifiers, is_bare, as_mem_arg, mem_arg, modified_lane, behind_integer, integer_first, untargeted_lane, mem_arg_lane};
+ghost use Rattle.wast_vector_operands.specs.VectorSyntax.{integer_starts};
+ghost use Rattle.wast_operands.specs.OperandSyntax.{offset_starts, align_starts, lane_starts, u64_number, alignment, target, one_or_two_orderings, offset, align, modifiers, is_bare, as_mem_arg, mem_arg, modified_lane, behind_integer, integer_first, untargeted_lane, mem_arg_lane};
 ghost use Rattle.wast_operands.specs.OperandViews.{target_tree, mem_arg_ordering_tree, modifiers_tree, mem_arg_tree, lane_access_tree};
 
 use crate::number::u64_number;
 use crate::ordering::Ordering;
-use crate::vector::LaneArg;
 use wast_parser::{Error, Id, Index, ItemRef, Keyword, KeywordName, Parse, Parser, Span};
+use wast_vector_operands::LaneArg;
 
 /// What a memory argument is of.
 #[derive(Debug, Drop)]

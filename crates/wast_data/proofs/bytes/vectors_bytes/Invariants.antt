@@ -1,5 +1,5 @@
 use Rattle.std.proofs.Common.{◌≡◌, map, drop}
-use Rattle.wast_operands.specs.OperandViews.{vector_tree}
+use Rattle.wast_vector_operands.specs.VectorViews.{vector_tree}
 use Rattle.wast_data.specs.DataTree.{vectors_bytes}
 use Rattle.wast_data.proofs.Appended.{with_bytes}
 use Rattle.wast_data.proofs.bytes.vectors_bytes.Given as goal

@@ -1,6 +1,6 @@
 use Rattle.std.proofs.Common.{refl}
 use Rattle.std.specs.Int.{w8, w16, w32, w64}
-use Rattle.wast_operands.specs.OperandViews.{lane_bytes}
+use Rattle.wast_vector_operands.specs.VectorViews.{lane_bytes}
 use Rattle.wast_data.proofs.syntax.parse_numbers_of.Goals as goal
 
 pub returns-in-I8-clause-read : goal.returns-in-I8-clause-read

@@ -2,8 +2,9 @@ use Rattle.std.proofs.Common.{◌∙◌, ap, refl, false, Some, [], map, sym, su
 use Rattle.wast_parser.specs.Look.{Test, On, AWord, OneOf, join}
 use Rattle.wast_parser.specs.State.{ahead}
 use Rattle.wast_parser.specs.Reading.{Asks}
-use Rattle.wast_operands.specs.OperandSyntax.{ordering_word, orderings, offset_starts, align_starts, integer_starts}
-use Rattle.wast_operands.proofs.FlatLooks.{first_seen, first_untold, first_other}
+use Rattle.wast_vector_operands.specs.VectorSyntax.{integer_starts}
+use Rattle.wast_operands.specs.OperandSyntax.{ordering_word, orderings, offset_starts, align_starts}
+use Rattle.wast_vector_operands.proofs.FlatLooks.{first_seen, first_untold, first_other}
 use Rattle.wast_operands.proofs.mem_arg.peek_lane.Goals as goal
 
 abbrev front : Test

@@ -1,5 +1,0 @@
-use Rattle.wast_operands.proofs.OperandLaws.{float_literal_laws}
-use Rattle.wast_operands.proofs.vector.FloatLitMeaning.lawful.Goals as goal
-
-pub returns : goal.returns
-returns c = float_literal_laws

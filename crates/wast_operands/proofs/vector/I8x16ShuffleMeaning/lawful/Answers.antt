@@ -1,5 +1,0 @@
-use Rattle.wast_operands.proofs.OperandLaws.{shuffle_laws}
-use Rattle.wast_operands.proofs.vector.I8x16ShuffleMeaning.lawful.Goals as goal
-
-pub returns : goal.returns
-returns c = shuffle_laws

@@ -1,5 +1,0 @@
-use Rattle.wast_operands.proofs.OperandLaws.{vector_laws}
-use Rattle.wast_operands.proofs.vector.V128ConstMeaning.lawful.Goals as goal
-
-pub returns : goal.returns
-returns c = vector_laws

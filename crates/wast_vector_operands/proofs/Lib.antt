@@ -1,0 +1,4 @@
+pub mod Filling
+pub mod FlatLooks
+pub mod Places
+pub mod VectorLaws

@@ -1,0 +1,3 @@
+pub mod VectorSyntax
+pub mod VectorTree
+pub mod VectorViews
