@@ -13,6 +13,7 @@ use Rattle.wast_parser.proofs.IdentifierLaws.{identifier_laws, index_laws, item_
 use Rattle.wast_parser.proofs.IntegerLaws.{number_laws}
 use Rattle.wast_operands.specs.OperandTree.{Modifiers, OnSwitch}
 use Rattle.wast_vector_operands.specs.VectorSyntax.{integer_starts, lane}
+use Rattle.wast_vector_operands.proofs.VectorLaws.{lane_laws}
 use Rattle.wast_operands.specs.OperandSyntax.{u64_number, alignment, ordering_word, orderings, id_starts, index_starts, ordering_starts, offset_starts, align_starts, type_starts, handle_starts, lane_starts, is_bare, two_indices, u32_operand, index_count, label_table, optional_index, optional_indices, one_or_two, ordering, optional_ordering, ordered, array_target, target, one_or_two_orderings, offset, align, modifiers, mem_arg, behind_integer, integer_first, behind_modifiers, untargeted_lane, mem_arg_lane, handled, handle_body, handle, handlers, resume, resume_throw}
 
 module _ {N P : Type 0} where

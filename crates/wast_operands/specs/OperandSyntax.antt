@@ -8,6 +8,7 @@ use Rattle.wast_parser.specs.Look.{Test, On, OneOf, Begun, Any, AnId, AnInteger,
 use Rattle.wast_parser.specs.Grammar.{Syntax, among, begun, word, nothing, next, seq, seen, only, maybe, many, either, group}
 use Rattle.wast_parser.specs.Integers.{number_in, unsigned}
 use Rattle.wast_parser.specs.Identifiers.{Reference, ByNumber, ByName, identifier, index, item_ref}
+use Rattle.wast_vector_operands.specs.VectorSyntax.{integer_starts, lane}
 use Rattle.wast_operands.specs.OperandTree.{Ordering, AcqRel, SeqCst, MemArgTarget, Memory, Array, Modifiers, MemArg, Handle, OnLabel, OnSwitch}
 
 -- NUMBERS IN WORDS, as in `offset=8`
