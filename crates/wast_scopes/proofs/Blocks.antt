@@ -1,5 +1,5 @@
 -- Open blocks and the levels of names.
-use Rattle.std.proofs.Common.{◌≡◌, ℕ, ◌+◌, ◌-◌, ◌<◌, ◌≤◌, suc, List, [], ◌∷◌, ◌++◌, Option, Some, None, Bool, true, false, cond, map, length, reverse, take, refl, sym, subst, ◌∙◌, ap, arith}
+use Rattle.std.proofs.Common.{◌≡◌, ℕ, ◌+◌, ◌-◌, ◌<◌, suc, List, [], ◌∷◌, ◌++◌, Option, Some, None, Bool, true, false, map, length, reverse, take, refl, sym, subst, ◌∙◌, ap, arith}
 use Rattle.std.specs.Prelude.{if◌then◌else◌, is_some, option_map, option_and_then, Result, Ok, Err, OnOk, OnErr}
 use Rattle.std.specs.BTreeMap.{BTreeMap}
 use Rattle.std.specs.List.{position_from}
@@ -14,7 +14,7 @@ use Rattle.wast_names.specs.Position.{bears, position}
 use Rattle.wast_names.specs.Space.{name_in}
 use Rattle.wast_names.proofs.Order.{alike_names}
 use Rattle.wast_scopes.specs.declared.block.OpenBlock.{OpenBlock}
-use Rattle.wast_scopes.specs.Open.{IsKept, KeepsOuter, labels_of, level, level_in}
+use Rattle.wast_scopes.specs.Open.{IsKept, labels_of, level, level_in}
 
 abbrev Labels : Type 0
 Labels = List (Option (Named Name ℕ))

@@ -1,5 +1,5 @@
 -- The index spaces of a module that stand in one arm.
-use Rattle.std.proofs.Common.{◌≡◌, ◌⊎◌, ℕ, Option, inl, inr, refl, sym, subst}
+use Rattle.std.proofs.Common.{◌≡◌, ◌⊎◌, inl, inr, refl, sym, subst}
 use Rattle.wast_grammar.specs.Tokens.{Name}
 use Rattle.wast_meaning.specs.Scope.{locals_or}
 use Rattle.wast_meaning.specs.Views.{space_view}

@@ -1,5 +1,5 @@
 -- What judges and tests answer of demands.
-use Rattle.std.proofs.Common.{◌≡◌, ◌⊎◌, ℕ, List, [], ◌∷◌, ◌++◌, Bool, true, false, None, Option, inl, inr, refl, sym, subst, ◌∙◌, ap, append-nil, Result, Ok, Err}
+use Rattle.std.proofs.Common.{◌≡◌, ◌⊎◌, ℕ, List, [], ◌∷◌, ◌++◌, true, false, None, inl, inr, sym, subst, ◌∙◌, ap, append-nil, Result, Ok, Err}
 use Rattle.std.specs.List.{flat_map}
 use Rattle.wast_grammar.specs.Tokens.{Name}
 use Rattle.wast_parser.specs.Problem.{Problem}
@@ -7,7 +7,7 @@ use Rattle.wast_parser.specs.Reading.{out_of_memory}
 use Rattle.wast_names.specs.Walk.{first_unmet}
 use Rattle.wast_names.specs.Demand.{Demand, is_met, told, Tells, Refuses, Answers}
 use Rattle.wast_names.proofs.Walk.{first_met, first_not_met, unmet_after}
-use Rattle.wast_names.proofs.Demands.{refuses_first, refuses_second}
+use Rattle.wast_names.proofs.Demands.{refuses_second}
 use Rattle.wast_mentions.specs.Judging.{Judged}
 use Rattle.wast_scopes.specs.Views.{Refused}
 

@@ -1,5 +1,5 @@
 -- What is known in a module is what its scope tells.
-use Rattle.std.proofs.Common.{◌≡◌, ℕ, zero, suc, List, [], ◌∷◌, ◌++◌, map, Option, Some, None, refl, sym, ◌∙◌, ap}
+use Rattle.std.proofs.Common.{◌≡◌, ℕ, zero, suc, List, [], ◌∷◌, ◌++◌, map, Option, Some, None, refl, ◌∙◌, ap}
 use Rattle.std.specs.Prelude.{option_map, option_and_then, slice_get}
 use Rattle.std.specs.List.{flat_map}
 use Rattle.wasm_encoder_base.specs.Table.{Labels, Locals, Functions, Types, Tables, Memories, Globals, Tags, Datas, Elems, Fields}
@@ -21,9 +21,9 @@ use Rattle.wast_meaning.proofs.Walked.{tells_so}
 use Rattle.wast_spaces.specs.Joins.{spaces_behind, type_fields}
 use Rattle.wast_spaces.specs.Views.{spaces_of, fields_of_types}
 use Rattle.wast_scopes.specs.declared.scope.Scope.{Scope}
-use Rattle.wast_scopes.specs.Numbered.{Look, NumberedSig, numbered_sig}
+use Rattle.wast_scopes.specs.Numbered.{Look, numbered_sig}
 use Rattle.wast_scopes.specs.Signatures.{func_type, signatures, sig_in}
-use Rattle.wast_scopes.specs.Known.{Known, known_in}
+use Rattle.wast_scopes.specs.Known.{known_in}
 use Rattle.wast_scopes.specs.Views.{module_look, look_in, known}
 
 got_map : {A B : Type 0} (f : A → B) (xs : List A) (i : ℕ) → slice_get (map f xs) i ≡ option_map f (slice_get xs i)

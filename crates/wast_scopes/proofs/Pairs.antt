@@ -1,5 +1,5 @@
 -- Two lists of types, one after the other.
-use Rattle.std.proofs.Common.{◌≡◌, ℕ, ◌+◌, ◌<◌, ◌≤◌, suc, List, [], ◌∷◌, Bool, true, false, Option, Some, None, map, length, drop, get_or, refl, sym, ◌∙◌, ap, arith, add-one, drop-cons, nat_eq, inl, inr}
+use Rattle.std.proofs.Common.{◌≡◌, ℕ, ◌+◌, ◌<◌, ◌≤◌, suc, List, [], ◌∷◌, Bool, true, false, Option, map, length, drop, get_or, refl, sym, ◌∙◌, ap, arith, add-one, drop-cons, nat_eq, inl, inr}
 use Rattle.std.specs.Prelude.{◌&&◌}
 use Rattle.std.specs.Cmp.Lexicographic.{pointwise}
 use Rattle.std.proofs.lemmas.Bool.{cases_lt}

@@ -1,5 +1,5 @@
 -- What is known with and without labels and locals, and what an instruction makes of labels.
-use Rattle.std.proofs.Common.{◌≡◌, ℕ, List, [], ◌∷◌, ◌++◌, map, drop, Option, Some, None, refl, sym, subst, ◌∙◌, ap, Result}
+use Rattle.std.proofs.Common.{◌≡◌, ℕ, [], ◌∷◌, map, drop, Option, Some, None, refl, subst, ◌∙◌, ap, Result}
 use Rattle.std.specs.Prelude.{option_to_list, OnOk}
 use Rattle.std.specs.List.{flat_map}
 use Rattle.wasm_encoder_base.specs.Table.{Labels, Locals, Functions, Types, Tables, Memories, Globals, Tags, Datas, Elems, Fields}
@@ -7,18 +7,17 @@ use Rattle.wasm_encoder_base.specs.Table as table
 use Rattle.wasm_encoder_base.specs.Balanced.{Turn, Opens, Closes, Stays}
 use Rattle.wast_grammar.specs.Tokens.{Name}
 use Rattle.wast_grammar.specs.Spelling.{same_name}
-use Rattle.wast_parser.specs.Identifiers.{Named, Reference}
+use Rattle.wast_parser.specs.Identifiers.{Named}
 use Rattle.wast_parser.specs.Problem.{Problem}
 use Rattle.wast_names.specs.Space as names
-use Rattle.wast_names.specs.Demand.{Demand, Answers}
+use Rattle.wast_names.specs.Demand.{Answers}
 use Rattle.wast_names.specs.Views.{space}
 use Rattle.wast_names.proofs.Positions.{numbers_of}
 use Rattle.wast_core_instr.specs.InstructionTree.{Instruction}
-use Rattle.wast_meaning.specs.Mentions.{Mention, Repeats, instr_mentions}
+use Rattle.wast_meaning.specs.Mentions.{Repeats, instr_mentions}
 use Rattle.wast_meaning.specs.Spaces.{space_word}
 use Rattle.wast_meaning.specs.Scope.{turn_of_head, own_label, locals_or, labels_or}
 use Rattle.wast_scopes.specs.declared.scope.Scope.{Scope}
-use Rattle.wast_scopes.specs.Numbered.{Look}
 use Rattle.wast_scopes.specs.Known.{Known, Labelled, look_among, with_labels, with_locals, turned, seen, after, mention_by, instr_by}
 use Rattle.wast_scopes.specs.Views.{known, module_look}
 

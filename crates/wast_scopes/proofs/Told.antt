@@ -1,5 +1,5 @@
 -- What is demanded by what a scope tells.
-use Rattle.std.proofs.Common.{◌≡◌, ℕ, zero, suc, Bool, true, false, List, [], ◌∷◌, ◌++◌, map, drop, Option, Some, None, refl, sym, ◌∙◌, ap, nat_eq}
+use Rattle.std.proofs.Common.{◌≡◌, ℕ, Bool, true, false, List, [], ◌∷◌, ◌++◌, map, Option, Some, None, refl, sym, ◌∙◌, ap, nat_eq}
 use Rattle.std.specs.Prelude.{◌&&◌, option_map, option_and_then, option_to_list, unwrap_or}
 use Rattle.std.specs.List.{flat_map}
 use Rattle.std.specs.Cmp.Lexicographic.{pointwise}
@@ -9,21 +9,20 @@ use Rattle.wast_grammar.specs.Tokens.{Name}
 use Rattle.wast_grammar.specs.Spelling.{same_name}
 use Rattle.wast_parser.specs.Identifiers.{Named, Reference, ByNumber, ByName}
 use Rattle.wast_value_types.specs.ValueTree.{HeapType, Abstract, Concrete, Exact, ValType, Number, Ref}
-use Rattle.wast_names.specs.Walk.{walked}
 use Rattle.wast_names.specs.Demand.{Demand, TypeMismatch}
 use Rattle.wast_names.specs.Space as names
-use Rattle.wast_core_types.specs.TypeTree.{Local, Sig, TypeUse}
+use Rattle.wast_core_types.specs.TypeTree.{Sig, TypeUse}
 use Rattle.wast_core_instr.specs.InstructionTree.{Instruction}
 use Rattle.wast_fields.specs.FieldTree.{Function}
 use Rattle.wast_meaning.specs.Mentions.{Mention, Refers, Member, Uses, UsesInBlock, Repeats, Part, Says, Constant, Body, use_mentions, local_mentions, instr_mentions}
 use Rattle.wast_meaning.specs.Spaces.{space_word}
-use Rattle.wast_meaning.specs.Implied.{no_sig, number_code, word_code, same_flag, same_option, same_heap, same_val, same_local, same_sig}
+use Rattle.wast_meaning.specs.Implied.{no_sig, number_code, same_flag, same_option, same_heap, same_val, same_local, same_sig}
 use Rattle.wast_meaning.specs.Scope as scopes
-use Rattle.wast_meaning.specs.Scope.{Scope, turn_of_head, own_label, labels_from, open_labels, labels_seen, labels_or, locals_or, label_space, scope_at, members, params_of_index, params_of, locals_of}
+use Rattle.wast_meaning.specs.Scope.{Scope, turn_of_head, own_label, open_labels, labels_seen, labels_or, locals_or, label_space, scope_at, members, params_of_index, params_of, locals_of}
 use Rattle.wast_meaning.specs.Demands.{same_numbered, agrees, agreement, agreements, place_of, says_demands, use_demands, mention_demands, instrs_demands, func_demands, part_demands}
 use Rattle.wast_meaning.proofs.Labels.{fewer, stacked, pushed}
-use Rattle.wast_scopes.specs.Numbered.{Look, number_by, NumberedValue, NumberedSig, numbered_heap, numbered_value, numbered_sig, same_numbered_value, same_numbered_sig, same_sig_by, params_in}
-use Rattle.wast_scopes.specs.Known.{Known, known_in, known_by, look_among, with_locals, with_labels, turned, seen, after, known_at, members_by, says_by, sig_by, agreement_by, agreements_by, use_by, mention_by, instr_by, instrs_by, params_of_index_by, params_by, locals_by, func_by, part_by}
+use Rattle.wast_scopes.specs.Numbered.{Look, number_by, NumberedValue, numbered_heap, numbered_value, numbered_sig, same_numbered_value, same_numbered_sig, same_sig_by, params_in}
+use Rattle.wast_scopes.specs.Known.{Known, known_in, known_by, look_among, with_locals, turned, seen, after, known_at, members_by, says_by, agreement_by, agreements_by, use_by, mention_by, instrs_by, params_of_index_by, params_by, locals_by, func_by, part_by}
 
 -- INDICES
 number_is : (s : names.Space Name) (i : Reference Name ℕ) → number_by s.look i ≡ names.number_of s i

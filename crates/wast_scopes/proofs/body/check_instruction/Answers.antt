@@ -1,6 +1,6 @@
 use Rattle.std.proofs.Common.{◌≡◌, ◌∷◌, ap, subst, sym, refl, append-nil}
 use Rattle.std.specs.Prelude.{option_map, OnOk}
-use Rattle.wasm_encoder_base.specs.Balanced.{Opens, Closes, Stays}
+use Rattle.wasm_encoder_base.specs.Balanced.{Opens, Closes}
 use Rattle.wasm_encoder_base.specs.Table.{table}
 use Rattle.wasm_encoder_base.specs.Leb.{uleb, leb, digits}
 use Rattle.wast_parser.specs.Identifiers.{identifier_tree}
@@ -10,7 +10,7 @@ use Rattle.wast_scopes.specs.Views.{known}
 use Rattle.wast_typed_operands.specs.declared.block.BlockType.{BlockType}
 use Rattle.wast_scopes.proofs.Ids.{on_always}
 use Rattle.wast_scopes.proofs.Judged.{answers_as}
-use Rattle.wast_scopes.proofs.Scopes.{opened, closed, stayed, heard_opened, heard_closed, heard_stayed, repeated}
+use Rattle.wast_scopes.proofs.Scopes.{opened, closed, stayed, heard_opened, heard_closed, heard_stayed}
 use Rattle.wast_well_formed.proofs.Turns.{block_opens, loop_opens, if_opens, try_opens, try_table_opens, end_closes, delegate_closes, other_turn}
 use Rattle.wast_scopes.proofs.body.check_instruction.Goals as goal
 

@@ -1,11 +1,8 @@
-use Rattle.std.proofs.Common.{◌≡◌, ◌-◌, ◌<◌, Option, Some, None, map, length, reverse, sym, ◌∙◌, ap, arith, rules}
+use Rattle.std.proofs.Common.{◌≡◌, ◌-◌, Some, None, length, reverse, sym, ◌∙◌, ap, arith, rules}
 use Rattle.std.specs.Prelude.{option_map}
 use Rattle.std.proofs.lemmas.List.{length-reverse}
 use Rattle.wast_grammar.specs.Tokens.{Name}
-use Rattle.wast_grammar.specs.Spelling.{same_name}
 use Rattle.wast_parser.specs.Identifiers.{identifier_tree}
-use Rattle.wast_names.specs.Position.{position}
-use Rattle.wast_names.specs.Space.{name_in}
 use Rattle.wast_scopes.specs.Open.{level_in}
 use Rattle.wast_scopes.proofs.Blocks.{kept_below, kept_position}
 use Rattle.wast_scopes.proofs.labels.Labels.get.Goals as goal

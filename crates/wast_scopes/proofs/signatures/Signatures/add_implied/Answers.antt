@@ -1,13 +1,9 @@
-use Rattle.std.proofs.Common.{◌≡◌, Some, [], ◌∷◌, ◌++◌, true, map}
+use Rattle.std.proofs.Common.{Some, [], ◌∷◌, true}
 use Rattle.std.specs.Prelude.{option_map}
-use Rattle.std.specs.List.{flat_map}
-use Rattle.wast_core_types.specs.TypeViews.{item_tree}
-use Rattle.wast_core.specs.ModuleViews.{field_tree}
-use Rattle.wast_meaning.specs.Implied.{func_sig, written_types}
 use Rattle.wast_implied.specs.Views.{implied_tree}
 use Rattle.wast_names.specs.Views.{space}
 use Rattle.wast_scopes.specs.Numbered.{numbered_sig}
-use Rattle.wast_scopes.specs.Signatures.{func_type, signatures}
+use Rattle.wast_scopes.specs.Signatures.{signatures}
 use Rattle.wast_scopes.proofs.Adds.{adds_more, adds_all, one_each}
 use Rattle.wast_scopes.proofs.signatures.Signatures.add_implied.Goals as goal
 
