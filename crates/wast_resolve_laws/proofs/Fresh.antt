@@ -33,7 +33,7 @@ not_true false e = refl
 not_false : (b : Bool) → b ≡ false → not b ≡ true
 not_false b e = ap not e
 
-same_self : (s : Space) → same_space s s ≡ true
+pub same_self : (s : Space) → same_space s s ≡ true
 same_self Labels = refl
 same_self Locals = refl
 same_self Functions = refl

@@ -7,9 +7,13 @@ pub mod Names
 pub mod Outlined
 pub mod NumberedKept
 pub mod Plain
+pub mod Renamed
+pub mod RenamedFields
 pub mod Resolved
 pub mod Sigs
 pub mod Taken
 pub mod Taking
 pub mod Unmet
+pub mod WalkedFields
+pub mod Walks
 pub mod WrittenDemands

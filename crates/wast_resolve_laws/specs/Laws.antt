@@ -1,21 +1,27 @@
 -- The statements of the crate's law functions.
-use Rattle.std.specs.Prelude.{◌≡◌, ℕ, true, not, List, [], Some, None}
-use Rattle.std.specs.List.{list_all}
+use Rattle.std.specs.Prelude.{◌≡◌, ◌↔◌, ℕ, true, not, List, [], map, Some, None, option_map}
+use Rattle.std.specs.List.{flat_map, list_all}
+use std.Equiv.{Iso}
 use Rattle.wasm_encoder_base.specs.Table.{Space}
 use Rattle.wast_grammar.specs.Tokens.{Name}
 use Rattle.wast_grammar.specs.Spelling.{same_name}
-use Rattle.wast_names.specs.Walk.{first_unmet}
+use Rattle.wast_names.specs.Walk.{reached, walked, threaded, first_unmet}
 use Rattle.wast_names.specs.Demand.{is_met}
+use Rattle.wast_names.specs.Space as names
 use Rattle.wast_core_types.specs.TypeTree.{Sig}
+use Rattle.wast_core_instr.specs.InstructionTree.{Instruction}
 use Rattle.wast_fields.specs.FieldTree.{Field}
 use Rattle.wast_meaning.specs.Written.{written_out}
-use Rattle.wast_meaning.specs.Spaces.{denotes, fields_at}
+use Rattle.wast_meaning.specs.Spaces.{Bound, space_word, denotes, fields_at, items, items_in, ids_in}
 use Rattle.wast_meaning.specs.Implied.{same_sig, same_written, implied, sig_at, type_taken}
-use Rattle.wast_meaning.specs.Scope.{scope_of}
-use Rattle.wast_meaning.specs.Demands.{demands, all_demands}
-use Rattle.wast_meaning.specs.Numbered.{expanded, resolved}
+use Rattle.wast_meaning.specs.Scope.{Scope, scope_of, scope_at, open_labels}
+use Rattle.wast_meaning.specs.Demands.{nearest, order_demand, order_demands, item_demand, spaces_after, item_demands, instrs_demands, demands, all_demands}
+use Rattle.wast_meaning.specs.Changed.{instr_changed, instrs_changed}
+use Rattle.wast_meaning.specs.Numbered.{numbering, expanded, numbered, resolved}
 use Rattle.wast_meaning.specs.Fresh.{taken_from, is_fresh}
 use Rattle.wast_meaning.specs.Settled.{are_settled}
+use Rattle.wast_resolve_laws.specs.Renamed.{fields_renamed, demand_renamed}
+use Rattle.wast_resolve_laws.specs.Walks.{tested, own_demands, labels_after, scope_among, demands_among}
 
 -- FIELDS THAT HAVE THEIR TYPES, with the implied types behind them
 -- A name means the same in each space,
@@ -82,3 +88,56 @@ ResolvedSettled = (fields : List (Field Name ℕ)) (naming : ℕ → Name) → f
 abbrev pub ResolvedAgain : Type 0
 ResolvedAgain = (fields : List (Field Name ℕ)) (naming other : ℕ → Name) → first_unmet is_met (all_demands same_name naming fields) ≡ None
     → resolved same_name other (resolved same_name naming fields) ≡ resolved same_name naming fields
+
+-- FIELDS THAT ARE RENAMED: each name and each place has its counterpart, one to one
+-- Their demands are those of the fields, renamed,
+pub record RenamedDemands : Type 0 where
+  pub asked : (renaming : Iso Name Name) (moving : Iso ℕ ℕ) (fields : List (Field Name ℕ))
+      → demands same_name (fields_renamed renaming moving fields) ≡ map (demand_renamed renaming.fun moving.fun) (demands same_name fields)
+  pub asked_of_all : (renaming : Iso Name Name) (moving : Iso ℕ ℕ) (fields : List (Field Name ℕ)) (naming : ℕ → Name)
+      → all_demands same_name (λ n. renaming.fun (naming n)) (fields_renamed renaming moving fields) ≡ map (demand_renamed renaming.fun moving.fun) (all_demands same_name naming fields)
+  -- so the same are met
+  pub met : (renaming : Iso Name Name) (moving : Iso ℕ ℕ) (fields : List (Field Name ℕ)) → map is_met (demands same_name (fields_renamed renaming moving fields)) ≡ map is_met (demands same_name fields)
+  -- and the first that isn't is its counterpart, whichever fresh names are made for the fields and for the renamed ones.
+  pub first : (renaming : Iso Name Name) (moving : Iso ℕ ℕ) (fields : List (Field Name ℕ)) (naming other : ℕ → Name)
+      → is_fresh same_name naming fields ≡ true → is_fresh same_name other (fields_renamed renaming moving fields) ≡ true
+      → first_unmet is_met (all_demands same_name other (fields_renamed renaming moving fields)) ≡ option_map (demand_renamed renaming.fun moving.fun) (first_unmet is_met (all_demands same_name naming fields))
+
+-- and the numbers are the same: a name means what its counterpart means, and numbered fields are renamed as they are.
+pub record RenamedNumbers : Type 0 where
+  pub number : (renaming : Iso Name Name) (moving : Iso ℕ ℕ) (fields : List (Field Name ℕ)) (space : Space) (name : Name)
+      → denotes same_name (fields_renamed renaming moving fields) space (renaming.fun name) ≡ denotes same_name fields space name
+  pub numbers : (renaming : Iso Name Name) (moving : Iso ℕ ℕ) (fields : List (Field Name ℕ))
+      → numbered same_name (fields_renamed renaming moving fields) ≡ fields_renamed renaming moving (numbered same_name fields)
+  pub all_numbers : (renaming : Iso Name Name) (moving : Iso ℕ ℕ) (fields : List (Field Name ℕ)) (naming : ℕ → Name)
+      → resolved same_name (λ n. renaming.fun (naming n)) (fields_renamed renaming moving fields) ≡ fields_renamed renaming moving (resolved same_name naming fields)
+
+-- WALKS IN TWO ORDERS
+-- One walk over all items gives each space what a walk over its own items gives it, and has all demands met where those have.
+pub record SpacesApart : Type 0 where
+  pub space : (fields : List (Field Name ℕ)) (space : Space)
+      → reached (spaces_after same_name) (λ s. names.empty) (flat_map items fields) space ≡ names.space_of same_name (space_word space) (ids_in space fields)
+  pub met : (fields : List (Field Name ℕ))
+      → (first_unmet is_met (item_demands same_name (flat_map items fields)) ≡ None) ↔ ((space : Space) → first_unmet is_met (own_demands same_name space (items_in space fields)) ≡ None)
+
+-- So it doesn't matter how fields of different spaces follow each other.
+pub record OrdersAgree : Type 0 where
+  pub number : (first second : List (Field Name ℕ)) → ((space : Space) → items_in space first ≡ items_in space second)
+      → (space : Space) (name : Name) → denotes same_name first space name ≡ denotes same_name second space name
+  pub met : (first second : List (Field Name ℕ)) → ((space : Space) → items_in space first ≡ items_in space second)
+      → (first_unmet is_met (item_demands same_name (flat_map items first)) ≡ None) ↔ (first_unmet is_met (item_demands same_name (flat_map items second)) ≡ None)
+
+-- Labels that are counted back from each instruction are those that are handed on from one to the next.
+pub record LabelsHandedOn : Type 0 where
+  pub asked : (scope : Scope Name ℕ) (before body : List (Instruction Name ℕ))
+      → instrs_demands same_name scope before body ≡ walked (demands_among same_name scope) labels_after (open_labels before) body
+  pub numbers : (scope : Scope Name ℕ) (before body : List (Instruction Name ℕ))
+      → instrs_changed (λ earlier i. numbering (scope_at same_name scope earlier i)) before body ≡ threaded (λ labels i. instr_changed (numbering (scope_among same_name scope labels i)) i) labels_after (open_labels before) body
+
+-- The first demand that isn't met is met with on the way, element by element.
+pub record TestedOnTheWay : Type 0 where
+  pub order : (fields : List (Field Name ℕ)) → first_unmet is_met (order_demands fields) ≡ tested (λ before field. first_unmet is_met (order_demand before field)) nearest None fields
+  pub bounds : (bounds : List (Bound Name ℕ))
+      → first_unmet is_met (item_demands same_name bounds) ≡ tested (λ spaces b. first_unmet is_met (item_demand same_name spaces b)) (spaces_after same_name) (λ s. names.empty) bounds
+  pub instructions : (scope : Scope Name ℕ) (body : List (Instruction Name ℕ))
+      → first_unmet is_met (instrs_demands same_name scope [] body) ≡ tested (λ labels i. first_unmet is_met (demands_among same_name scope labels i)) labels_after [] body

@@ -3,7 +3,7 @@
 //! Fields are *expanded* where each use of a type without an index has the number of the type that it takes, and the implied types stand
 //! behind all fields (WebAssembly Core Specification 3.0, 6.6.3: abbreviations).
 
-ghost use Rattle.wast_resolve_laws.specs.Laws.{DemandsKept, FieldsKept, NamingsAlike, NothingImplied, ResolvedAgain, ResolvedMet, ResolvedSettled, ScopeKept, SignaturesKept, SpacesKept, TypesTaken, WrittenDemands, WrittenNames, WrittenSignatures};
+ghost use Rattle.wast_resolve_laws.specs.Laws.{DemandsKept, FieldsKept, LabelsHandedOn, NamingsAlike, NothingImplied, OrdersAgree, RenamedDemands, RenamedNumbers, ResolvedAgain, ResolvedMet, ResolvedSettled, ScopeKept, SignaturesKept, SpacesApart, SpacesKept, TestedOnTheWay, TypesTaken, WrittenDemands, WrittenNames, WrittenSignatures};
 
 /// A name means the same item of a space before and after fields are expanded: the types behind them have no names.
 pub fn spaces_kept()
@@ -75,4 +75,39 @@ pub fn resolved_settled()
 /// Where fields keep to all demands on names, what they are resolved to is resolved to itself, whatever names are made.
 pub fn resolved_again()
     ensures { ResolvedAgain }
+{}
+
+/// Fields whose names and places are replaced, one to one, have the same demands, renamed: the same are met, and the first that isn't
+/// is the first that isn't of the fields, whatever fresh names are made.
+pub fn renamed_demands()
+    ensures { RenamedDemands }
+{}
+
+/// In them a name means the number that its counterpart means, and what they are numbered as, and resolved to, is renamed like them.
+pub fn renamed_numbers()
+    ensures { RenamedNumbers }
+{}
+
+/// A walk over all items, with all index spaces at hand, gives each space what a walk over its items alone gives it; all demands on
+/// items are met there exactly where they are in each space by itself.
+pub fn spaces_apart()
+    ensures { SpacesApart }
+{}
+
+/// Two lists of fields that have the same items in each space, in the same order there, give names the same numbers, and all demands on
+/// items are met in one exactly where they are in the other.
+pub fn orders_agree()
+    ensures { OrdersAgree }
+{}
+
+/// Looking back from each instruction for the labels of the blocks that are open comes to the same demands and numbers as keeping a
+/// stack of labels.
+pub fn labels_handed_on()
+    ensures { LabelsHandedOn }
+{}
+
+/// The first demand that isn't met, of imports after definitions, of items and of bodies, is the one that a walk meets with which tests
+/// the demands of each element before it goes on.
+pub fn tested_on_the_way()
+    ensures { TestedOnTheWay }
 {}
