@@ -7,6 +7,7 @@ ghost use Rattle.wast_parser.specs.State.{ahead};
 ghost use Rattle.wast_parser.specs.Reading.{Asks};
 ghost use Rattle.wast_parser.specs.Cursors.{stands};
 ghost use Rattle.wast_fields.specs.FieldTree as spec;
+ghost use Rattle.wast_fields.specs.FieldTree.{field_place};
 ghost use Rattle.wast_core.specs.ModuleSyntax.{defining_starts, describing_starts, field_starts, defining, describing, field};
 ghost use Rattle.wast_core.specs.ModuleViews.{field_tree};
 
@@ -17,7 +18,7 @@ use wast_customs::Custom;
 use wast_exports::{Export, InlineExport, InlineImport, keyword};
 use wast_fields::{Data, Elem, Func, Global, Memory, Table, Tag};
 use wast_imports::Imports;
-use wast_parser::{Cursor, Error, Item, Meaning, Parse, Parser, Peek};
+use wast_parser::{Cursor, Error, Item, Meaning, Parse, Parser, Peek, Span};
 use wast_value_types::{Group, or_peek};
 
 /// A field of a module (6.6.14).
@@ -37,6 +38,29 @@ pub enum ModuleField<'a> {
     Tag(Tag<'a>),
     /// An annotation that the parser has registered.
     Custom(Custom<'a>),
+}
+
+impl ModuleField<'_> {
+    /// Where the keyword stands; of an annotation, where it does.
+    pub fn span(&self) -> Span
+        ensures { result ≡ field_place (field_tree self.now) }
+    {
+        match self {
+            ModuleField::TypeItem(item) => item.span,
+            ModuleField::Rec(group) => group.span,
+            ModuleField::Import(imports) => imports.span,
+            ModuleField::Func(func) => func.span,
+            ModuleField::Table(table) => table.span,
+            ModuleField::Memory(memory) => memory.span,
+            ModuleField::Global(global) => global.span,
+            ModuleField::Export(export) => export.span,
+            ModuleField::Start(start) => start.span,
+            ModuleField::Elem(elem) => elem.span,
+            ModuleField::Data(data) => data.span,
+            ModuleField::Tag(tag) => tag.span,
+            ModuleField::Custom(custom) => custom.span(),
+        }
+    }
 }
 
 impl<'a> Meaning for ModuleField<'a> {

@@ -5,7 +5,6 @@ ghost use Rattle.wast_parser.specs.Lawful.{Lawful};
 ghost use Rattle.wast_parser.specs.State.{ahead, Keeps};
 ghost use Rattle.wast_parser.specs.Reading.{Gives};
 ghost use Rattle.wast_fields.specs.FieldTree as spec;
-ghost use Rattle.wast_fields.specs.FieldTree.{field_place};
 ghost use Rattle.wast_core.specs.ModuleSyntax.{bare_module, wat};
 ghost use Rattle.wast_core.specs.ModuleViews.{field_tree, module_tree};
 ghost use Rattle.wast_core.specs.FieldsAlone.{IsModuleOf, some};
@@ -14,7 +13,6 @@ use crate::field::ModuleField;
 use crate::keyword;
 use crate::module::{Module, ModuleKind, second_start};
 use std::alloc::{AllocError, Global};
-use wast_lexer::Span;
 use wast_parser::{Error, Item, Meaning, Parse, Parser, list_of};
 use wast_value_types::Group;
 
@@ -67,7 +65,7 @@ fn module_of<'a>(parser: &Parser<'a>, fields: Vec<ModuleField<'a>>) -> Result<Mo
     match second_start(&fields) {
         Some(span) => Err(parser.error_at(span, "a module has one start function at most")),
         None => Ok(Module {
-            span: span_of(&fields[0]),
+            span: fields[0].span(),
             id: None,
             name: None,
             kind: ModuleKind::Text(fields),
@@ -97,25 +95,4 @@ fn with_first<T: Drop>(alloc: Global, first: T, others: Vec<T>) -> Result<Vec<T>
         all.push(item)?;
     }
     Ok(all)
-}
-
-/// Where the keyword of a field stands.
-fn span_of(field: &ModuleField<'_>) -> Span
-    ensures { result ≡ field_place (field_tree field.now) }
-{
-    match field {
-        ModuleField::TypeItem(item) => item.span,
-        ModuleField::Rec(group) => group.span,
-        ModuleField::Import(imports) => imports.span,
-        ModuleField::Func(func) => func.span,
-        ModuleField::Table(table) => table.span,
-        ModuleField::Memory(memory) => memory.span,
-        ModuleField::Global(global) => global.span,
-        ModuleField::Export(export) => export.span,
-        ModuleField::Start(start) => start.span,
-        ModuleField::Elem(elem) => elem.span,
-        ModuleField::Data(data) => data.span,
-        ModuleField::Tag(tag) => tag.span,
-        ModuleField::Custom(custom) => custom.span(),
-    }
 }

@@ -58,7 +58,8 @@ impl<'a> Expression<'a> {
 
     /// An expression of one instruction.
     pub fn one(alloc: Global, instr: Instruction<'a>) -> Result<Self, AllocError>
-        ensures { IfOk result (λ e. expression_tree e ≡ expression_of ((None, instruction_tree instr.entry) ∷ [])) }
+        ensures tree { IfOk result (λ e. expression_tree e ≡ expression_of ((None, instruction_tree instr.entry) ∷ [])) }
+        ensures spans { IfOk result (λ e. e.instr_spans ≡ None) }
     {
         let mut instrs = Vec::new(alloc);
         instrs.push(instr)?;
@@ -80,6 +81,7 @@ impl<'a> Expression<'a> {
         ensures counted { (n : ℕ) × (steps.new ≡ steps.old + n) × Counts instruction instruction_heads instruction_made (ahead parser.old) result n }
         ensures taken { steps.new + parser.old.at ≤ steps.old + parser.new.at + 1 }
         ensures turns { steps.new ≤ steps.old + length (ahead parser.old) + 1 }
+        ensures spans { IfOk result (λ e. e.instr_spans ≡ None) }
     {
         match wast_expressions::parse_counted(parser, steps) {
             Ok(instructions) => Ok(Expression::from(instructions)),
@@ -92,6 +94,7 @@ impl<'a> Expression<'a> {
     pub fn parse_folded_instruction(parser: &mut Parser<'a>) -> Result<Self, Error>
         ensures read { Gives expression_tree result parser.new ((folded_instruction instruction instruction_heads instruction_made).reads (ahead parser.old)) }
         ensures keeps { Keeps parser.old parser.new }
+        ensures spans { IfOk result (λ e. e.instr_spans ≡ None) }
     {
         match wast_expressions::parse_folded_instruction(parser) {
             Ok(instructions) => Ok(Expression::from(instructions)),
@@ -104,6 +107,7 @@ impl<'a> Expression<'a> {
     pub fn parse_plain(parser: &mut Parser<'a>) -> Result<Self, Error>
         ensures read { Gives expression_tree result parser.new ((seen (without_hints instruction instruction_heads) (plain instruction instruction_heads)).reads (ahead parser.old)) }
         ensures keeps { Keeps parser.old parser.new }
+        ensures spans { IfOk result (λ e. e.instr_spans ≡ None) }
     {
         match wast_expressions::parse_plain(parser) {
             Ok(instructions) => Ok(Expression::from(instructions)),
@@ -115,6 +119,7 @@ impl<'a> Expression<'a> {
     pub fn parse_offset(parser: &mut Parser<'a>) -> Result<Self, Error>
         ensures read { Gives expression_tree result parser.new ((data_offset instruction instruction_heads instruction_made).reads (ahead parser.old)) }
         ensures keeps { Keeps parser.old parser.new }
+        ensures spans { IfOk result (λ e. e.instr_spans ≡ None) }
     {
         match wast_expressions::parse_offset(parser) {
             Ok(instructions) => Ok(Expression::from(instructions)),
@@ -125,7 +130,8 @@ impl<'a> Expression<'a> {
 
 impl<'a> From<Instructions<Instruction<'a>>> for Expression<'a> {
     fn from(instructions: Instructions<Instruction<'a>>) -> Self
-        ensures { expression_tree result ≡ instructions_tree instruction_tree instructions.entry }
+        ensures tree { expression_tree result ≡ instructions_tree instruction_tree instructions.entry }
+        ensures spans { result.instr_spans ≡ None }
     {
         Expression {
             instrs: instructions.instrs,
@@ -151,7 +157,11 @@ impl<'a> Meaning for Expression<'a> {
 }
 
 impl<'a> Parse<'a> for Expression<'a> {
-    fn parse(parser: &mut Parser<'a>) -> Result<Self, Error> {
+    fn parse(parser: &mut Parser<'a>) -> Result<Self, Error>
+        ensures read { Gives expression_tree result parser.new ((expression instruction instruction_heads instruction_made).reads (ahead parser.old)) }
+        ensures keeps { Keeps parser.old parser.new }
+        ensures spans { IfOk result (λ e. e.instr_spans ≡ None) }
+    {
         match wast_expressions::parse_items(parser) {
             Ok(instructions) => Ok(Expression::from(instructions)),
             Err(e) => Err(e),

@@ -6,7 +6,8 @@ use Rattle.wast_parser.specs.Grammar.{wide, seen, group}
 use Rattle.wast_parser.proofs.GrammarLaws.{Lawful, word_laws, seen_laws, seq_laws, maybe_laws, many_laws, either_laws, paren_laws, group_laws, wide_laws}
 use Rattle.wast_parser.proofs.RecursionLaws.{Steps, fix_laws, under_self, under_seen, under_group, under_either}
 use Rattle.wast_parser.proofs.IdentifierLaws.{identifier_laws, index_laws, name_annotation_laws, maybe_name_laws}
-use Rattle.wast_value_types.proofs.ValueLaws.{optional_laws, val_type_laws, field_type_laws}
+use Rattle.wast_value_types.proofs.WordLaws.{optional_laws}
+use Rattle.wast_value_types.proofs.ValueLaws.{val_type_laws, field_type_laws}
 use Rattle.wast_value_types.specs.ValueSyntax.{index_starts, field_starts}
 use Rattle.wast_core_types.specs.TypeSyntax.{id_starts, given_starts, shared_starts, comp_starts, type_starts, given_name, val_types, named_locals, locals, result, sig_groups, param, bare_param, sig, bare_sig, named_fields, fields, struct_type, inner_type, as_shared, unshared, comp_step, comp_type, index_of, described, sub_type, type_def, type_body, type_item, rec_body, rec_group, type_use, bare_use}
 

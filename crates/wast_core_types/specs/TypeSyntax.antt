@@ -6,7 +6,8 @@ use Rattle.wast_parser.specs.Grammar.{Syntax, word, seen, seq, maybe, many, eith
 use Rattle.wast_parser.specs.Recursion.{fix}
 use Rattle.wast_parser.specs.Identifiers.{Named, Reference, identifier, index, name_annotation}
 use Rattle.wast_value_types.specs.ValueTree.{ValType, FieldType}
-use Rattle.wast_value_types.specs.ValueSyntax.{optional, val_type, field_type, index_starts, val_starts, field_starts}
+use Rattle.wast_value_types.specs.WordSyntax.{optional}
+use Rattle.wast_value_types.specs.ValueSyntax.{val_type, field_type, index_starts, val_starts, field_starts}
 use Rattle.wast_core_types.specs.TypeTree.{Local, Sig, StructField, InnerType, FuncType, StructType, ArrayType, ContType, CompType, TypeDef, TypeItem, Rec, TypeUse}
 
 -- WHERE THEY BEGIN

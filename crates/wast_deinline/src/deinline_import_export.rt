@@ -43,6 +43,25 @@ pub fn run<'a>(
     Ok(out)
 }
 
+/// The same in the fields' place; refused, they may be gone.
+pub fn run_in_place<'a>(
+    alloc: Global,
+    fields: &mut Vec<ModuleField<'a>>,
+    gensym: &mut Gensym,
+) -> Result<(), AllocError>
+    requires { gensym.old + length fields.old.items < 2 ^ 32 }
+    ensures { OnOk result (map field_tree fields.new.items ≡ written_out (by_counter made gensym.old (map field_tree fields.old.items)) (map field_tree fields.old.items)) }
+{
+    let taken = std::mem::replace(fields, Vec::new(alloc));
+    match run(alloc, taken, gensym) {
+        Ok(out) => {
+            discard(std::mem::replace(fields, out));
+            Ok(())
+        }
+        Err(e) => Err(e),
+    }
+}
+
 /// Lets fields go. What drops fields is proved once, here: a crate that hands them over needs no proof of its own.
 pub fn discard(_fields: Vec<ModuleField<'_>>) {}
 

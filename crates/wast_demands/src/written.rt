@@ -1,16 +1,16 @@
 //! Fields with inline parts.
-ghost use Rattle.std.specs.Prelude.{◌≡◌, ◌+◌, ◌^◌, ◌<◌, map, length, OnOk};
+ghost use Rattle.std.specs.Prelude.{◌≡◌, ◌+◌, ◌^◌, ◌<◌, map, length};
 ghost use Rattle.wast_grammar.specs.Spelling.{same_name};
 ghost use Rattle.wast_core.specs.ModuleViews.{field_tree};
 ghost use Rattle.wast_names.specs.Demand.{Answers};
 ghost use Rattle.wast_meaning.specs.Demands.{all_demands};
-ghost use Rattle.wast_meaning.specs.Written.{by_counter, written_out};
+ghost use Rattle.wast_meaning.specs.Written.{by_counter};
 ghost use Rattle.wast_deinline.specs.Made.{made};
 
 use crate::names::check_names;
-use std::alloc::{AllocError, Global};
+use std::alloc::Global;
 use wast_core::ModuleField;
-use wast_deinline::deinline_import_export::{discard, run};
+use wast_deinline::deinline_import_export::run_in_place;
 use wast_parser::{Error, Gensym};
 
 /// Tests the demands of fields as they are written out, and leaves them so: inline parts are fields of their own, where a field that is
@@ -25,27 +25,8 @@ pub fn check_fields<'a>(
     requires { gensym.old + length fields.old.items < 2 ^ 32 }
     ensures { Answers result (all_demands same_name (by_counter made gensym.old (map field_tree fields.old.items)) (map field_tree fields.old.items)) }
 {
-    match write_out(alloc, fields, gensym) {
+    match run_in_place(alloc, fields, gensym) {
         Ok(()) => check_names(alloc, fields),
         Err(e) => Err(Error::from(e)),
-    }
-}
-
-/// Writes fields out.
-fn write_out<'a>(
-    alloc: Global,
-    fields: &mut Vec<ModuleField<'a>>,
-    gensym: &mut Gensym,
-) -> Result<(), AllocError>
-    requires { gensym.old + length fields.old.items < 2 ^ 32 }
-    ensures { OnOk result (map field_tree fields.new.items ≡ written_out (by_counter made gensym.old (map field_tree fields.old.items)) (map field_tree fields.old.items)) }
-{
-    let taken = std::mem::replace(fields, Vec::new(alloc));
-    match run(alloc, taken, gensym) {
-        Ok(out) => {
-            discard(std::mem::replace(fields, out));
-            Ok(())
-        }
-        Err(e) => Err(e),
     }
 }

@@ -13,7 +13,8 @@ use Rattle.wast_parser.proofs.IntegerLaws.{number_laws}
 use Rattle.wast_parser.proofs.IdentifierLaws.{index_laws}
 use Rattle.wast_value_types.specs.ValueTree.{RefType}
 use Rattle.wast_value_types.specs.ValueSyntax.{index_starts, ref_type, address_type}
-use Rattle.wast_value_types.proofs.ValueLaws.{optional_laws, u64_laws, ref_type_laws, global_type_laws, address_type_laws, limits_laws, table_type_laws, page_size_laws, memory_type_laws}
+use Rattle.wast_value_types.proofs.WordLaws.{optional_laws}
+use Rattle.wast_value_types.proofs.ValueLaws.{u64_laws, ref_type_laws, global_type_laws, address_type_laws, limits_laws, table_type_laws, page_size_laws, memory_type_laws}
 use Rattle.wast_core_types.proofs.TypeLaws.{locals_laws, type_use_laws}
 use Rattle.wast_exports.specs.Exports.{import_starts, inline_export, inline_import}
 use Rattle.wast_exports.proofs.ExportLaws.{inline_export_laws, inline_import_laws}

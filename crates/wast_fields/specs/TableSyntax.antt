@@ -3,7 +3,8 @@ use Rattle.std.specs.Prelude.{ℕ, Bool, true, false, List, [], ◌∷◌, Optio
 use Rattle.wast_parser.specs.Look.{Test, this_word, this_group, join}
 use Rattle.wast_parser.specs.Grammar.{Syntax, seen, next, seq, maybe, many, either, led, group}
 use Rattle.wast_value_types.specs.ValueTree.{Limits, RefType}
-use Rattle.wast_value_types.specs.ValueSyntax.{page_starts, as_limits, optional, u64, ref_starts, ref_type, address_type, limits, table_type, page_size, memory_type, as_memory}
+use Rattle.wast_value_types.specs.WordSyntax.{optional}
+use Rattle.wast_value_types.specs.ValueSyntax.{page_starts, as_limits, u64, ref_starts, ref_type, address_type, limits, table_type, page_size, memory_type, as_memory}
 use Rattle.wast_imports.specs.ImportTree.{OfTable, OfMemory}
 use Rattle.wast_data.specs.DataTree.{DataVal}
 use Rattle.wast_fields.specs.FieldTree.{Expr, Elements, Indices, Expressions, Defined, Table, TableOf, Memory, MemoryOf, Definition}

@@ -70,6 +70,19 @@ impl Error {
         }
     }
 
+    /// A copy, with the lines that show the place where a text was given. Fails only where no memory is found.
+    pub fn clone(&self, alloc: Global) -> Result<Error, AllocError>
+        ensures { IfOk result (λ copy. copy ≡ self.now) }
+    {
+        let reason = self.reason.clone(alloc)?;
+        let shown = self.shown.clone(alloc)?;
+        Ok(Error {
+            place: self.place,
+            reason,
+            shown,
+        })
+    }
+
     /// Where the error is.
     pub fn span(&self) -> Span
         ensures { result ≡ self.now.place }

@@ -1,4 +1,5 @@
 mod Equal
 mod Exponents
-pub mod JoinedLooks
 pub mod ValueLaws
+pub use Rattle.wast_words.proofs.JoinedLooks
+pub use Rattle.wast_words.proofs.WordLaws

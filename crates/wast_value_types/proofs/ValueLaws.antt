@@ -11,16 +11,13 @@ use Rattle.wast_parser.proofs.GrammarLaws.{Lawful, Leads, word_laws, among_laws,
 use Rattle.wast_parser.proofs.LeadLaws.{word_leads, paren_leads, seen_leads, among_leads, either_leads, group_leads}
 use Rattle.wast_parser.proofs.IdentifierLaws.{index_laws, index_leads}
 use Rattle.wast_parser.proofs.IntegerLaws.{number_laws}
+use Rattle.wast_words.specs.WordSyntax.{keywords, keyword, optional}
+use Rattle.wast_words.proofs.WordLaws.{keyword_laws, optional_laws, keyword_leads}
 use Rattle.wast_value_types.specs.ValueTree.{Abstract, Known, Packed, I8}
-use Rattle.wast_value_types.specs.ValueSyntax.{number_words, heap_words, short_words, packed_words, address_words, keywords, index_starts, heap_starts, ref_starts, val_starts, mut_starts, field_starts, page_starts, keyword, optional, alone, u32, u64, heap_type, as_ref, ref_body, ref_type, val_type, storage_type, field_type, shared_global, global_type, address_type, limits, table_type, power_of_two, page_size, memory_type}
+use Rattle.wast_words.specs.WordSyntax.{keywords, keyword, optional, alone}
+use Rattle.wast_value_types.specs.ValueSyntax.{number_words, heap_words, short_words, packed_words, address_words, index_starts, heap_starts, ref_starts, val_starts, mut_starts, field_starts, page_starts, u32, u64, heap_type, as_ref, ref_body, ref_type, val_type, storage_type, field_type, shared_global, global_type, address_type, limits, table_type, power_of_two, page_size, memory_type}
 
 module _ {N P : Type 0} where
-  pub keyword_laws : {A : Type 0} (entries : List (List ℕ × A)) → Lawful (keyword {N = N} {P = P} entries)
-  keyword_laws entries = seen_laws _ _ (among_laws (λ e. e.0) entries [])
-
-  pub optional_laws : (w : List ℕ) → Lawful (optional {N = N} {P = P} w)
-  optional_laws w = seen_laws _ _ (maybe_laws _ _ (word_laws w) refl refl refl)
-
   pub u32_laws : Lawful (u32 {N = N} {P = P})
   u32_laws = seen_laws _ _ (number_laws (2 ^ 32 - 1) None unsigned)
 
@@ -75,9 +72,6 @@ module _ {N P : Type 0} where
   memory_type_laws = seen_laws _ _ (seq_laws _ _ limits_laws (seq_laws _ _ (optional_laws (codes "shared")) page_size_laws refl) refl)
 
   -- WHERE THEY BEGIN
-  pub keyword_leads : {A : Type 0} (entries : List (List ℕ × A)) → Leads (keyword {N = N} {P = P} entries).spells (keywords entries)
-  keyword_leads entries = seen_leads _ _ (keywords entries) (among_leads (λ e. e.0) entries [])
-
   -- an index, of a type that has names
   abbrev an_index : N → P → Reference N P
   an_index n p = ByName (n, p)
@@ -113,13 +107,6 @@ module _ {N P : Type 0} where
 
   pub val_type_leads : P → Leads (val_type {N = N} {P = P}).spells val_starts
   val_type_leads p = either_leads _ _ (keywords number_words) ref_starts (seen_leads _ _ (keywords number_words) (keyword_leads number_words)) (seen_leads _ _ ref_starts (ref_type_leads p)) refl refl refl
-
-  -- a word in parentheses
-  pub alone_laws : (w : List ℕ) → Lawful (alone {N = N} {P = P} w)
-  alone_laws w = seen_laws _ _ (paren_laws _ (word_laws w) refl refl)
-
-  pub alone_leads : (w : List ℕ) → Leads (alone {N = N} {P = P} w).spells (this_group w ∷ [])
-  alone_leads w = seen_leads _ _ (this_group w ∷ []) (paren_leads (word w) (word_laws w) (this_word w ∷ []) (word_leads w) refl refl refl refl refl)
 
   storage_type_leads : P → Leads (storage_type {N = N} {P = P}).spells (join (keywords packed_words) val_starts)
   storage_type_leads p = either_leads _ _ (keywords packed_words) val_starts (seen_leads _ _ (keywords packed_words) (keyword_leads packed_words)) (seen_leads _ _ val_starts (val_type_leads p)) refl refl refl

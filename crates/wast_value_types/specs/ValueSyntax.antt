@@ -5,6 +5,7 @@ use Rattle.wast_parser.specs.Look.{Test, On, OneOf, Any, AnInteger, AnId, AWord,
 use Rattle.wast_parser.specs.Grammar.{Syntax, among, word, seen, only, seq, maybe, either, paren, group}
 use Rattle.wast_parser.specs.Integers.{number_in, unsigned}
 use Rattle.wast_parser.specs.Identifiers.{index}
+use Rattle.wast_words.specs.WordSyntax.{keywords, keyword, optional}
 use Rattle.wast_value_types.specs.ValueTree.{NumberType, I32, I64, F32, F64, V128, HeapWord, Known, Cont, NoCont, HeapType, Abstract, Concrete, Exact, RefType, ValType, Number, Ref, PackedType, I8, I16, StorageType, Packed, Value, FieldType, Limits, TableType, MemoryType, GlobalType}
 
 -- KEYWORDS, each with what it stands for
@@ -55,10 +56,6 @@ packed_words = (codes "i8", I8) ∷ (codes "i16", I16) ∷ []
 abbrev pub address_words : List (List ℕ × Bool)
 address_words = (codes "i32", false) ∷ (codes "i64", true) ∷ []
 
--- a look for one of these keywords
-abbrev pub keywords : {A : Type 0} → List (List ℕ × A) → List Test
-keywords entries = On false AWord (OneOf (map (λ e. e.0) entries) []) ∷ []
-
 -- PAGE SIZES
 -- the exponent below a bound to which 2 is this number, where there is one
 abbrev pub exponent_below : ℕ → ℕ → Option ℕ
@@ -99,18 +96,6 @@ abbrev pub as_memory : Limits × (Bool × Option ℕ) → MemoryType
 as_memory m = record { limits = m.0; shared = m.1.0; page = m.1.1 }
 
 module _ {N P : Type 0} where
-  -- a keyword of these, by what it stands for
-  abbrev pub keyword : {A : Type 0} → List (List ℕ × A) → Syntax N P A
-  keyword entries = seen (λ x. x.0.1) (among (λ e. e.0) entries [])
-
-  -- whether this word stands there
-  abbrev pub optional : List ℕ → Syntax N P Bool
-  optional w = seen is_some (maybe (this_word w ∷ []) (word w))
-
-  -- this word in parentheses
-  abbrev pub alone : List ℕ → Syntax N P (Unit {0})
-  alone w = seen (λ _. tt) (paren (word w))
-
   abbrev pub u32 : Syntax N P ℕ
   u32 = seen (λ n. n.0) (number_in (2 ^ 32 - 1) None unsigned)
 

@@ -6,11 +6,11 @@ ghost use Rattle.wast_value_types.specs.ValueTree as spec;
 ghost use Rattle.wast_value_types.specs.ValueSyntax.{shared_global, global_type};
 ghost use Rattle.wast_value_types.specs.ValueViews.{global_tree};
 
-use crate::group::{Group, group_of, optional};
 use crate::keyword::{Mut, Shared};
 use crate::val_type::ValType;
 use std::alloc::{AllocError, Global};
 use wast_parser::{Error, Meaning, Parse, Parser};
+use wast_words::{Group, group_of, optional};
 
 /// A global type (6.4.10); a shared one is that of a proposal.
 #[derive(Debug, Drop)]

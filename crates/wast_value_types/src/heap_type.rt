@@ -7,15 +7,14 @@ ghost use Rattle.wast_parser.specs.State.{ahead};
 ghost use Rattle.wast_parser.specs.Reading.{Asks};
 ghost use Rattle.wast_parser.specs.Cursors.{stands};
 ghost use Rattle.wast_value_types.specs.ValueTree as spec;
-ghost use Rattle.wast_value_types.specs.ValueSyntax.{heap_words, keyword, keywords, heap_type, heap_starts};
+ghost use Rattle.wast_words.specs.WordSyntax.{keyword, keywords};
+ghost use Rattle.wast_value_types.specs.ValueSyntax.{heap_words, heap_type, heap_starts};
 ghost use Rattle.wast_value_types.specs.ValueViews.{heap_word, heap_text, heap_tree};
 
-use crate::group::{Group, group_of};
 use crate::keyword::{Exact, Shared};
-use crate::look::or_peek;
-use crate::word::{Word, Words, Written, find};
 use std::alloc::{AllocError, Global};
 use wast_parser::{Cursor, Error, Index, Item, Meaning, Parse, Parser, Peek};
+use wast_words::{Group, Word, Words, Written, find, group_of, or_peek};
 
 /// An abstract heap type (6.4.2), or one of the stack switching proposal.
 #[derive(Clone, Copy, Debug, PartialEq, Eq, Hash)]

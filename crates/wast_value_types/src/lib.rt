@@ -6,8 +6,7 @@
 //! Two types are equal exactly where they are written alike, wherever their indices stand ([`laws::equal_types`]); equal ones
 //! hash alike.
 //!
-//! For the crates above, [`Words`] reads values that are one keyword each, [`group_of`] a value behind a word in parentheses,
-//! and [`Group`] and [`or_peek`] look ahead.
+//! What it hands on of `wast_words` reads keywords and looks for them.
 //!
 //! # What has to be believed
 //!
@@ -20,25 +19,20 @@
 #![tactic(auto)]
 
 mod global_type;
-mod group;
 mod heap_type;
 pub mod keyword;
 pub mod laws;
 mod limits;
-mod look;
 mod ref_type;
 mod storage_type;
 mod table_type;
 mod val_type;
-mod word;
 
 pub use global_type::GlobalType;
-pub use group::{Group, group_of, optional};
 pub use heap_type::{AbstractHeapType, HeapType};
 pub use limits::{Limits, address_type};
-pub use look::or_peek;
 pub use ref_type::RefType;
 pub use storage_type::{FieldType, StorageType};
 pub use table_type::{MemoryType, TableType, page_size};
 pub use val_type::ValType;
-pub use word::{Word, Words, Written, find};
+pub use wast_words::{Group, Word, Words, Written, find, group_of, optional, or_peek};

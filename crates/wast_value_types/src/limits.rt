@@ -8,8 +8,8 @@ ghost use Rattle.wast_value_types.specs.ValueTree as spec;
 ghost use Rattle.wast_value_types.specs.ValueSyntax.{address_words, address_type, limits};
 ghost use Rattle.wast_value_types.specs.ValueViews.{is_wide, address_text, limits_tree};
 
-use crate::word::{Word, Words, Written, find};
 use wast_parser::{Error, Meaning, Parse, Parser};
+use wast_words::{Word, Words, Written, find};
 
 /// The limits of a table in elements, or of a memory in pages, and whether its addresses have 64 bits (6.4.8). Equal ones
 /// hash alike.

@@ -12,13 +12,11 @@ ghost use Rattle.wast_value_types.specs.ValueTree as spec;
 ghost use Rattle.wast_value_types.specs.ValueSyntax.{short_words, nullable, ref_body, ref_type, ref_starts};
 ghost use Rattle.wast_value_types.specs.ValueViews.{heap_word, short_text, ref_tree};
 
-use crate::group::{Group, group_of, optional};
 use crate::heap_type::{AbstractHeapType, HeapType};
 use crate::keyword::{Null, Ref};
-use crate::look::or_peek;
-use crate::word::{Word, Words, Written, find};
 use std::alloc::{AllocError, Global};
 use wast_parser::{Cursor, Error, Item, Meaning, Parse, Parser, Peek};
+use wast_words::{Group, Word, Words, Written, find, group_of, optional, or_peek};
 
 /// A reference type (6.4.3). Indices are the same wherever they stand; equal reference types hash alike.
 #[derive(Debug, Drop)]

@@ -11,13 +11,11 @@ ghost use Rattle.wast_value_types.specs.ValueTree as spec;
 ghost use Rattle.wast_value_types.specs.ValueSyntax.{packed_words, field_starts, storage_type, field_type};
 ghost use Rattle.wast_value_types.specs.ValueViews.{packed_type, packed_text, storage_tree, field_tree};
 
-use crate::group::{Group, group_of};
 use crate::keyword::Mut;
-use crate::look::or_peek;
 use crate::val_type::ValType;
-use crate::word::{Word, Words, Written, find};
 use std::alloc::{AllocError, Global};
 use wast_parser::{Cursor, Error, Item, Meaning, Parse, Parser, Peek};
+use wast_words::{Group, Word, Words, Written, find, group_of, or_peek};
 
 /// A storage type (6.4.6): what a field holds.
 #[derive(Debug, Drop)]

@@ -8,12 +8,12 @@ ghost use Rattle.wast_value_types.specs.ValueTree as spec;
 ghost use Rattle.wast_value_types.specs.ValueSyntax.{table_type, memory_type, page_size, power_of_two, exponent};
 ghost use Rattle.wast_value_types.specs.ValueViews.{table_tree, memory_tree};
 
-use crate::group::{Group, group_of, optional};
 use crate::keyword::{PageSize, Shared};
 use crate::limits::Limits;
 use crate::ref_type::RefType;
 use std::alloc::{AllocError, Global};
 use wast_parser::{Error, Meaning, Parse, Parser};
+use wast_words::{Group, group_of, optional};
 
 /// A table type (6.4.12); a shared one is that of a proposal.
 #[derive(Debug, Drop)]

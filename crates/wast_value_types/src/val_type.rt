@@ -11,11 +11,10 @@ ghost use Rattle.wast_value_types.specs.ValueTree as spec;
 ghost use Rattle.wast_value_types.specs.ValueSyntax.{number_words, val_type, val_starts};
 ghost use Rattle.wast_value_types.specs.ValueViews.{number_type, number_text, val_tree};
 
-use crate::look::or_peek;
 use crate::ref_type::RefType;
-use crate::word::{Word, Words, Written, find};
 use std::alloc::{AllocError, Global};
 use wast_parser::{Cursor, Error, Item, Meaning, Parse, Parser, Peek};
+use wast_words::{Word, Words, Written, find, or_peek};
 
 /// A value type (6.4.4). Indices are the same wherever they stand; equal value types hash alike.
 #[derive(Debug, Drop)]

@@ -1,7 +1,7 @@
 //! Fields.
 ghost use Rattle.std.specs.Prelude.{◌≡◌, map, not, slice_get, ◌&&◌};
 ghost use Rattle.std.specs.List.{list_all};
-ghost use Rattle.wast_fields.specs.FieldTree.{field_place, is_start};
+ghost use Rattle.wast_fields.specs.FieldTree.{is_start};
 ghost use Rattle.wast_core.specs.ModuleViews.{field_tree, module_tree};
 ghost use Rattle.wast_meaning.specs.Mentions.{parts};
 ghost use Rattle.wast_meaning.specs.WellFormed as spec;
@@ -27,7 +27,7 @@ pub fn first_breach(fields: &[ModuleField<'_>]) -> Option<Span>
     let mut started = false;
     for field in fields {
         if !field_formed(field, started) {
-            return Some(span_of(field));
+            return Some(field.span());
         }
         started = started || is_start(field);
     }
@@ -62,25 +62,4 @@ fn is_start(field: &ModuleField<'_>) -> bool
     ensures { result ≡ is_start (field_tree field.now) }
 {
     matches!(field, ModuleField::Start(_))
-}
-
-/// Where the keyword of a field stands.
-fn span_of(field: &ModuleField<'_>) -> Span
-    ensures { result ≡ field_place (field_tree field.now) }
-{
-    match field {
-        ModuleField::TypeItem(item) => item.span,
-        ModuleField::Rec(group) => group.span,
-        ModuleField::Import(imports) => imports.span,
-        ModuleField::Func(func) => func.span,
-        ModuleField::Table(table) => table.span,
-        ModuleField::Memory(memory) => memory.span,
-        ModuleField::Global(global) => global.span,
-        ModuleField::Export(export) => export.span,
-        ModuleField::Start(start) => start.span,
-        ModuleField::Elem(elem) => elem.span,
-        ModuleField::Data(data) => data.span,
-        ModuleField::Tag(tag) => tag.span,
-        ModuleField::Custom(custom) => custom.span(),
-    }
 }

@@ -14,10 +14,10 @@ pub returns-then-is_64 : goal.returns-then-is_64
 returns-then-is_64 c =
     rw c.if-is_64.true
     (IfOk-weaker c.one.result (λ e. expression_tree e ≡ expression_of ((None, instruction_tree (instructions.I64Const (pos 0))) ∷ []))
-    (λ e. expression_tree e ≡ zero_offset {N = Name} {P = ℕ} true) (λ e h. h ∙ wide) c.one.ensures)
+    (λ e. expression_tree e ≡ zero_offset {N = Name} {P = ℕ} true) (λ e h. h ∙ wide) c.one.ensures.tree)
 
 pub returns-else-is_64 : goal.returns-else-is_64
 returns-else-is_64 c =
     rw c.if-is_64.false
     (IfOk-weaker c.one-else-is_64.result (λ e. expression_tree e ≡ expression_of ((None, instruction_tree (instructions.I32Const (pos 0))) ∷ []))
-    (λ e. expression_tree e ≡ zero_offset {N = Name} {P = ℕ} false) (λ e h. h ∙ narrow) c.one-else-is_64.ensures)
+    (λ e. expression_tree e ≡ zero_offset {N = Name} {P = ℕ} false) (λ e h. h ∙ narrow) c.one-else-is_64.ensures.tree)

@@ -7,7 +7,7 @@ ghost use Rattle.wast_parser.specs.Lawful.{Lawful, Leads};
 ghost use Rattle.wast_parser.specs.State.{ahead, Keeps};
 ghost use Rattle.wast_parser.specs.Reading.{Asks, Gives};
 ghost use Rattle.wast_parser.specs.Cursors.{stands};
-ghost use Rattle.wast_value_types.specs.ValueSyntax.{alone, optional};
+ghost use Rattle.wast_words.specs.WordSyntax.{alone, optional};
 
 use std::marker::PhantomData;
 use wast_parser::{

@@ -1,7 +1,7 @@
 use Rattle.wast_parser.specs.State.{ahead}
 use Rattle.wast_parser.specs.Cursors.{stands}
-use Rattle.wast_value_types.proofs.JoinedLooks.{first_asked, second_asked, none_asked}
-use Rattle.wast_value_types.proofs.look.or_peek.Goals as goal
+use Rattle.wast_words.proofs.JoinedLooks.{first_asked, second_asked, none_asked}
+use Rattle.wast_words.proofs.look.or_peek.Goals as goal
 
 pub returns-in-Ok-true : goal.returns-in-Ok-true
 returns-in-Ok-true g c tests sure a =

@@ -7,7 +7,7 @@ ghost use Rattle.wast_parser.specs.Lawful.{Lawful, Leads};
 ghost use Rattle.wast_parser.specs.State.{ahead};
 ghost use Rattle.wast_parser.specs.Reading.{Asks};
 ghost use Rattle.wast_parser.specs.Cursors.{stands};
-ghost use Rattle.wast_value_types.specs.ValueSyntax.{keyword, keywords};
+ghost use Rattle.wast_words.specs.WordSyntax.{keyword, keywords};
 
 use wast_parser::{Cursor, Error, Item, Meaning, Parse, Parser, Peek, WordSet};
 

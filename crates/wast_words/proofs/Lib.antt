@@ -1,0 +1,2 @@
+pub mod JoinedLooks
+pub mod WordLaws
