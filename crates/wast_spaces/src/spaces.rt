@@ -64,7 +64,7 @@ enum Kind {
 
 impl<'a> Spaces<'a> {
     /// Spaces without items.
-    fn new(alloc: Global) -> Self
+    pub fn new(alloc: Global) -> Self
         ensures spaces { spaces_of result ≡ (λ s. names.empty) }
         ensures fields { fields_of_types result ≡ [] }
     {

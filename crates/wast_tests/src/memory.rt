@@ -22,6 +22,16 @@ fn ample_set_text(rt: HostRuntime) -> Result<(), Fail> {
 }
 
 #[test]
+fn ample_clone_of_an_error(rt: HostRuntime) -> Result<(), Fail> {
+    let mut error = Error::new(Span::from_offset(3), String::from_str(rt.alloc(), "no")?);
+    error.set_text("func")?;
+    let copy = error.clone(rt.alloc())?;
+    assert_eq!(rt; copy.message(rt.alloc())?.as_str(), "no");
+    assert_eq!(rt; copy.span().offset(), 3);
+    Ok(())
+}
+
+#[test]
 fn ample_push_place(rt: HostRuntime) -> Result<(), Fail> {
     let mut lines = String::new(rt.alloc());
     push_place(rt.alloc(), &mut lines, "a", 1)?;
