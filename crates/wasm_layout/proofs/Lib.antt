@@ -1,0 +1,7 @@
+pub mod Examples
+pub mod HadBack
+pub mod HintPlaces
+pub mod Pieces
+pub mod Readings
+pub mod UniqueHints
+pub mod UniqueNames
