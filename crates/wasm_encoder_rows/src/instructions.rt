@@ -10,12 +10,18 @@ use wasm_encoder_code::{
     VectorOp, VectorWideOp,
 };
 
-/// A row for each instruction.
-fn print_all(rt: &(impl Print + AllocGlobal), instructions: &[Instruction]) -> io::Result<()> {
-    for instruction in instructions {
-        print_instruction(rt, instruction)?;
-    }
-    Ok(())
+/// All of them.
+pub fn print(rt: &(impl Print + AllocGlobal)) -> io::Result<()> {
+    print_control(rt)?;
+    print_legacy_exceptions(rt)?;
+    print_parametric_and_variable(rt)?;
+    print_constants(rt)?;
+    print_families(rt)?;
+    print_gc(rt)?;
+    print_bulk(rt)?;
+    print_lanes(rt)?;
+    print_vector_memory(rt)?;
+    print_memory_arguments(rt)
 }
 
 /// A row of the instruction.
@@ -26,35 +32,43 @@ fn print_instruction(rt: &(impl Print + AllocGlobal), instruction: &Instruction)
     println!(rt; "{instruction:?}{}", spelled(rt, instruction))
 }
 
-pub fn print_control(rt: &(impl Print + AllocGlobal)) -> io::Result<()> {
-    let instructions = [
-        Instruction::Unreachable,
-        Instruction::Nop,
-        Instruction::Block(BlockType::Empty),
-        Instruction::Loop(BlockType::Result(ValType::I32)),
-        Instruction::If(BlockType::FunctionType(64)),
-        Instruction::Block(BlockType::Result(ValType::Ref(RefType::EXNREF))),
-        Instruction::Else,
-        Instruction::Throw(5),
-        Instruction::ThrowRef,
-        Instruction::End,
-        Instruction::Br(5),
-        Instruction::BrIf(5),
-        Instruction::BrTable(Items::borrowed(&[1, 2]), 3),
-        Instruction::Return,
-        Instruction::Call(5),
-        Instruction::CallIndirect {
+fn print_control(rt: &(impl Print + AllocGlobal)) -> io::Result<()> {
+    for row in 0..21 {
+        print_instruction(rt, &control(row))?;
+    }
+    Ok(())
+}
+
+/// One of them.
+fn control(row: u32) -> Instruction<'static> {
+    match row {
+        0 => Instruction::Unreachable,
+        1 => Instruction::Nop,
+        2 => Instruction::Block(BlockType::Empty),
+        3 => Instruction::Loop(BlockType::Result(ValType::I32)),
+        4 => Instruction::If(BlockType::FunctionType(64)),
+        5 => Instruction::Block(BlockType::Result(ValType::Ref(RefType::EXNREF))),
+        6 => Instruction::Else,
+        7 => Instruction::Throw(5),
+        8 => Instruction::ThrowRef,
+        9 => Instruction::End,
+        10 => Instruction::Br(5),
+        11 => Instruction::BrIf(5),
+        12 => Instruction::BrTable(Items::borrowed(&[1, 2]), 3),
+        13 => Instruction::Return,
+        14 => Instruction::Call(5),
+        15 => Instruction::CallIndirect {
             type_index: 1,
             table_index: 2,
         },
-        Instruction::ReturnCall(5),
-        Instruction::ReturnCallIndirect {
+        16 => Instruction::ReturnCall(5),
+        17 => Instruction::ReturnCallIndirect {
             type_index: 1,
             table_index: 2,
         },
-        Instruction::CallRef(5),
-        Instruction::ReturnCallRef(5),
-        Instruction::TryTable(
+        18 => Instruction::CallRef(5),
+        19 => Instruction::ReturnCallRef(5),
+        _ => Instruction::TryTable(
             BlockType::FunctionType(7),
             Items::borrowed(&[
                 Catch::One { tag: 1, label: 2 },
@@ -63,72 +77,99 @@ pub fn print_control(rt: &(impl Print + AllocGlobal)) -> io::Result<()> {
                 Catch::AllRef { label: 6 },
             ]),
         ),
-    ];
-    print_all(rt, &instructions)
+    }
 }
 
 /// The exception instructions of the earlier proposal.
-pub fn print_legacy_exceptions(rt: &(impl Print + AllocGlobal)) -> io::Result<()> {
-    let instructions = [
-        Instruction::Try(BlockType::Empty),
-        Instruction::Catch(5),
-        Instruction::Rethrow(5),
-        Instruction::Delegate(5),
-        Instruction::CatchAll,
-    ];
-    print_all(rt, &instructions)
+fn print_legacy_exceptions(rt: &(impl Print + AllocGlobal)) -> io::Result<()> {
+    for row in 0..5 {
+        print_instruction(rt, &legacy_exception(row))?;
+    }
+    Ok(())
 }
 
-pub fn print_parametric_and_variable(rt: &(impl Print + AllocGlobal)) -> io::Result<()> {
-    let instructions = [
-        Instruction::Drop,
-        Instruction::Select,
-        Instruction::TypedSelect(ValType::I32),
-        Instruction::TypedSelectMulti(Items::borrowed(&[
+/// One of them.
+fn legacy_exception(row: u32) -> Instruction<'static> {
+    match row {
+        0 => Instruction::Try(BlockType::Empty),
+        1 => Instruction::Catch(5),
+        2 => Instruction::Rethrow(5),
+        3 => Instruction::Delegate(5),
+        _ => Instruction::CatchAll,
+    }
+}
+
+fn print_parametric_and_variable(rt: &(impl Print + AllocGlobal)) -> io::Result<()> {
+    for row in 0..13 {
+        print_instruction(rt, &parametric_or_variable(row))?;
+    }
+    Ok(())
+}
+
+/// One of them.
+fn parametric_or_variable(row: u32) -> Instruction<'static> {
+    match row {
+        0 => Instruction::Drop,
+        1 => Instruction::Select,
+        2 => Instruction::TypedSelect(ValType::I32),
+        3 => Instruction::TypedSelectMulti(Items::borrowed(&[
             ValType::I64,
             ValType::Ref(RefType::FUNCREF),
         ])),
-        Instruction::LocalGet(5),
-        Instruction::LocalSet(5),
-        Instruction::LocalTee(5),
-        Instruction::GlobalGet(5),
-        Instruction::GlobalSet(5),
-        Instruction::TableGet(5),
-        Instruction::TableSet(5),
-        Instruction::MemorySize(5),
-        Instruction::MemoryGrow(5),
-    ];
-    print_all(rt, &instructions)
+        4 => Instruction::LocalGet(5),
+        5 => Instruction::LocalSet(5),
+        6 => Instruction::LocalTee(5),
+        7 => Instruction::GlobalGet(5),
+        8 => Instruction::GlobalSet(5),
+        9 => Instruction::TableGet(5),
+        10 => Instruction::TableSet(5),
+        11 => Instruction::MemorySize(5),
+        _ => Instruction::MemoryGrow(5),
+    }
 }
 
-pub fn print_constants(rt: &(impl Print + AllocGlobal)) -> io::Result<()> {
-    let instructions = [
-        Instruction::I32Const(-1),
-        Instruction::I64Const(64),
-        Instruction::F32Const(Ieee32::new(0x3f800001)),
-        Instruction::F64Const(Ieee64::new(0x3ff0000000000002)),
-    ];
-    print_all(rt, &instructions)
+fn print_constants(rt: &(impl Print + AllocGlobal)) -> io::Result<()> {
+    for row in 0..4 {
+        print_instruction(rt, &constant(row))?;
+    }
+    Ok(())
+}
+
+/// One of them.
+fn constant(row: u32) -> Instruction<'static> {
+    match row {
+        0 => Instruction::I32Const(-1),
+        1 => Instruction::I64Const(64),
+        2 => Instruction::F32Const(Ieee32::new(0x3f800001)),
+        _ => Instruction::F64Const(Ieee64::new(0x3ff0000000000002)),
+    }
 }
 
 /// One instruction of each family.
-pub fn print_families(rt: &(impl Print + AllocGlobal)) -> io::Result<()> {
-    let instructions = [
-        Instruction::Compare(CompareOp::F64Ge),
-        Instruction::Numeric(NumericOp::F32Abs),
-        Instruction::Convert(ConvertOp::I64MulWideU),
-        Instruction::Vector(VectorOp::V128AnyTrue),
-        Instruction::VectorNarrow(VectorNarrowOp::I16x8Abs),
-        Instruction::VectorWide(VectorWideOp::I64x2Sub),
-        Instruction::VectorFloat(VectorFloatOp::I8x16RelaxedSwizzle),
-        Instruction::Bulk(BulkOp::DataDrop(5)),
-        Instruction::Gc(GcOp::RefI31),
-        Instruction::VectorArg(VectorArgOp::I8x16ExtractLaneS(3)),
-    ];
-    print_all(rt, &instructions)
+fn print_families(rt: &(impl Print + AllocGlobal)) -> io::Result<()> {
+    for row in 0..10 {
+        print_instruction(rt, &family_member(row))?;
+    }
+    Ok(())
 }
 
-pub fn print_gc(rt: &(impl Print + AllocGlobal)) -> io::Result<()> {
+/// One of them.
+fn family_member(row: u32) -> Instruction<'static> {
+    match row {
+        0 => Instruction::Compare(CompareOp::F64Ge),
+        1 => Instruction::Numeric(NumericOp::F32Abs),
+        2 => Instruction::Convert(ConvertOp::I64MulWideU),
+        3 => Instruction::Vector(VectorOp::V128AnyTrue),
+        4 => Instruction::VectorNarrow(VectorNarrowOp::I16x8Abs),
+        5 => Instruction::VectorWide(VectorWideOp::I64x2Sub),
+        6 => Instruction::VectorFloat(VectorFloatOp::I8x16RelaxedSwizzle),
+        7 => Instruction::Bulk(BulkOp::DataDrop(5)),
+        8 => Instruction::Gc(GcOp::RefI31),
+        _ => Instruction::VectorArg(VectorArgOp::I8x16ExtractLaneS(3)),
+    }
+}
+
+fn print_gc(rt: &(impl Print + AllocGlobal)) -> io::Result<()> {
     let any = HeapType::Abstract(AbstractHeapType::Any);
     let equal = HeapType::Abstract(AbstractHeapType::Eq);
     let operations = [
@@ -224,7 +265,7 @@ pub fn print_gc(rt: &(impl Print + AllocGlobal)) -> io::Result<()> {
     print_values(rt, &operations)
 }
 
-pub fn print_bulk(rt: &(impl Print + AllocGlobal)) -> io::Result<()> {
+fn print_bulk(rt: &(impl Print + AllocGlobal)) -> io::Result<()> {
     let operations = [
         BulkOp::MemoryInit {
             mem: 1,
@@ -252,7 +293,7 @@ pub fn print_bulk(rt: &(impl Print + AllocGlobal)) -> io::Result<()> {
     print_values(rt, &operations)
 }
 
-pub fn print_lanes(rt: &(impl Print + AllocGlobal)) -> io::Result<()> {
+fn print_lanes(rt: &(impl Print + AllocGlobal)) -> io::Result<()> {
     let operations = [
         VectorArgOp::V128Const(-2),
         VectorArgOp::V128Const(0x0100000000000000000000000000ff02),
@@ -275,7 +316,7 @@ pub fn print_lanes(rt: &(impl Print + AllocGlobal)) -> io::Result<()> {
     print_values(rt, &operations)
 }
 
-pub fn print_vector_memory(rt: &(impl Print + AllocGlobal)) -> io::Result<()> {
+fn print_vector_memory(rt: &(impl Print + AllocGlobal)) -> io::Result<()> {
     let memarg = MemArg {
         offset: 8,
         align: 2,
@@ -305,30 +346,42 @@ pub fn print_vector_memory(rt: &(impl Print + AllocGlobal)) -> io::Result<()> {
         VectorArgOp::V128Load32Zero(memarg),
         VectorArgOp::V128Load64Zero(memarg),
     ];
+    print_vectors(rt, &operations)
+}
+
+/// A row for each of them.
+fn print_vectors(rt: &(impl Print + AllocGlobal), operations: &[VectorArgOp]) -> io::Result<()> {
     for operation in operations {
-        print_instruction(rt, &Instruction::VectorArg(operation))?;
+        print_instruction(rt, &Instruction::VectorArg(*operation))?;
     }
     Ok(())
 }
 
 /// Memory 1, memory 0, and an alignment that can't be encoded.
-pub fn print_memory_arguments(rt: &(impl Print + AllocGlobal)) -> io::Result<()> {
+fn print_memory_arguments(rt: &(impl Print + AllocGlobal)) -> io::Result<()> {
+    for row in 0..10 {
+        print_instruction(rt, &with_memory_argument(row))?;
+    }
+    Ok(())
+}
+
+/// One of them.
+fn with_memory_argument(row: u32) -> Instruction<'static> {
     let memarg = |align, memory| MemArg {
         offset: 128,
         align,
         target: MemArgTarget::Memory(memory),
     };
-    let instructions = [
-        Instruction::Access(AccessOp::I32Load, memarg(2, 1)),
-        Instruction::Access(AccessOp::I32Load, memarg(15, 0)),
-        Instruction::Access(AccessOp::I32Load, memarg(16, 0)),
-        Instruction::Atomic(AtomicOp::I32AtomicLoad, memarg(2, 1)),
-        Instruction::Atomic(AtomicOp::I32AtomicLoad, memarg(16, 0)),
-        Instruction::AtomicRmw(AtomicRmwOp::I64AtomicRmw32CmpxchgU, memarg(2, 0)),
-        Instruction::AtomicRmw(AtomicRmwOp::I64AtomicRmw32CmpxchgU, memarg(16, 0)),
-        Instruction::VectorArg(VectorArgOp::V128Load(memarg(15, 0))),
-        Instruction::VectorArg(VectorArgOp::V128Load(memarg(16, 0))),
-        Instruction::AtomicFence,
-    ];
-    print_all(rt, &instructions)
+    match row {
+        0 => Instruction::Access(AccessOp::I32Load, memarg(2, 1)),
+        1 => Instruction::Access(AccessOp::I32Load, memarg(15, 0)),
+        2 => Instruction::Access(AccessOp::I32Load, memarg(16, 0)),
+        3 => Instruction::Atomic(AtomicOp::I32AtomicLoad, memarg(2, 1)),
+        4 => Instruction::Atomic(AtomicOp::I32AtomicLoad, memarg(16, 0)),
+        5 => Instruction::AtomicRmw(AtomicRmwOp::I64AtomicRmw32CmpxchgU, memarg(2, 0)),
+        6 => Instruction::AtomicRmw(AtomicRmwOp::I64AtomicRmw32CmpxchgU, memarg(16, 0)),
+        7 => Instruction::VectorArg(VectorArgOp::V128Load(memarg(15, 0))),
+        8 => Instruction::VectorArg(VectorArgOp::V128Load(memarg(16, 0))),
+        _ => Instruction::AtomicFence,
+    }
 }

@@ -9,7 +9,21 @@ use wasm_encoder_code::{
     VectorNarrowOp, VectorOp, VectorWideOp,
 };
 
-pub fn print_compare(rt: &(impl Print + AllocGlobal)) -> io::Result<()> {
+/// All of them.
+pub fn print(rt: &(impl Print + AllocGlobal)) -> io::Result<()> {
+    print_compare(rt)?;
+    print_numeric(rt)?;
+    print_convert(rt)?;
+    print_vector(rt)?;
+    print_vector_narrow(rt)?;
+    print_vector_wide(rt)?;
+    print_vector_float(rt)?;
+    print_access(rt)?;
+    print_atomic(rt)?;
+    print_atomic_rmw(rt)
+}
+
+fn print_compare(rt: &(impl Print + AllocGlobal)) -> io::Result<()> {
     let operations = [
         CompareOp::I32Eqz,
         CompareOp::I32Eq,
@@ -49,7 +63,7 @@ pub fn print_compare(rt: &(impl Print + AllocGlobal)) -> io::Result<()> {
     print_values(rt, &operations)
 }
 
-pub fn print_numeric(rt: &(impl Print + AllocGlobal)) -> io::Result<()> {
+fn print_numeric(rt: &(impl Print + AllocGlobal)) -> io::Result<()> {
     let operations = [
         NumericOp::I32Clz,
         NumericOp::I32Ctz,
@@ -119,7 +133,7 @@ pub fn print_numeric(rt: &(impl Print + AllocGlobal)) -> io::Result<()> {
     print_values(rt, &operations)
 }
 
-pub fn print_convert(rt: &(impl Print + AllocGlobal)) -> io::Result<()> {
+fn print_convert(rt: &(impl Print + AllocGlobal)) -> io::Result<()> {
     let operations = [
         ConvertOp::I32WrapI64,
         ConvertOp::I32TruncF32S,
@@ -167,7 +181,7 @@ pub fn print_convert(rt: &(impl Print + AllocGlobal)) -> io::Result<()> {
     print_values(rt, &operations)
 }
 
-pub fn print_vector(rt: &(impl Print + AllocGlobal)) -> io::Result<()> {
+fn print_vector(rt: &(impl Print + AllocGlobal)) -> io::Result<()> {
     let operations = [
         VectorOp::I8x16Swizzle,
         VectorOp::I8x16Splat,
@@ -231,7 +245,7 @@ pub fn print_vector(rt: &(impl Print + AllocGlobal)) -> io::Result<()> {
     print_values(rt, &operations)
 }
 
-pub fn print_vector_narrow(rt: &(impl Print + AllocGlobal)) -> io::Result<()> {
+fn print_vector_narrow(rt: &(impl Print + AllocGlobal)) -> io::Result<()> {
     let operations = [
         VectorNarrowOp::I8x16Abs,
         VectorNarrowOp::I8x16Neg,
@@ -300,7 +314,7 @@ pub fn print_vector_narrow(rt: &(impl Print + AllocGlobal)) -> io::Result<()> {
     print_values(rt, &operations)
 }
 
-pub fn print_vector_wide(rt: &(impl Print + AllocGlobal)) -> io::Result<()> {
+fn print_vector_wide(rt: &(impl Print + AllocGlobal)) -> io::Result<()> {
     let operations = [
         VectorWideOp::I32x4Abs,
         VectorWideOp::I32x4Neg,
@@ -353,7 +367,7 @@ pub fn print_vector_wide(rt: &(impl Print + AllocGlobal)) -> io::Result<()> {
     print_values(rt, &operations)
 }
 
-pub fn print_vector_float(rt: &(impl Print + AllocGlobal)) -> io::Result<()> {
+fn print_vector_float(rt: &(impl Print + AllocGlobal)) -> io::Result<()> {
     let operations = [
         VectorFloatOp::F32x4Abs,
         VectorFloatOp::F32x4Neg,
@@ -409,7 +423,7 @@ pub fn print_vector_float(rt: &(impl Print + AllocGlobal)) -> io::Result<()> {
     print_values(rt, &operations)
 }
 
-pub fn print_access(rt: &(impl Print + AllocGlobal)) -> io::Result<()> {
+fn print_access(rt: &(impl Print + AllocGlobal)) -> io::Result<()> {
     let operations = [
         AccessOp::I32Load,
         AccessOp::I64Load,
@@ -438,7 +452,7 @@ pub fn print_access(rt: &(impl Print + AllocGlobal)) -> io::Result<()> {
     print_values(rt, &operations)
 }
 
-pub fn print_atomic(rt: &(impl Print + AllocGlobal)) -> io::Result<()> {
+fn print_atomic(rt: &(impl Print + AllocGlobal)) -> io::Result<()> {
     let operations = [
         AtomicOp::MemoryAtomicNotify,
         AtomicOp::MemoryAtomicWait32,
@@ -461,7 +475,7 @@ pub fn print_atomic(rt: &(impl Print + AllocGlobal)) -> io::Result<()> {
     print_values(rt, &operations)
 }
 
-pub fn print_atomic_rmw(rt: &(impl Print + AllocGlobal)) -> io::Result<()> {
+fn print_atomic_rmw(rt: &(impl Print + AllocGlobal)) -> io::Result<()> {
     let operations = [
         AtomicRmwOp::I32AtomicRmwAdd,
         AtomicRmwOp::I64AtomicRmwAdd,

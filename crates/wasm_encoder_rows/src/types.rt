@@ -9,7 +9,21 @@ use wasm_encoder_base::{
 };
 use wasm_encoder_code::{Handle, MemArgOrdering, Ordering};
 
-pub fn print_abstract_heap_types(rt: &(impl Print + AllocGlobal)) -> io::Result<()> {
+/// All of them.
+pub fn print(rt: &(impl Print + AllocGlobal)) -> io::Result<()> {
+    print_abstract_heap_types(rt)?;
+    print_heap_types(rt)?;
+    print_reference_types(rt)?;
+    print_arrays(rt)?;
+    print_composite_types(rt)?;
+    print_sub_types(rt)?;
+    print_sections(rt)?;
+    print_errors(rt)?;
+    print_orderings(rt)?;
+    print_handles(rt)
+}
+
+fn print_abstract_heap_types(rt: &(impl Print + AllocGlobal)) -> io::Result<()> {
     let types = [
         AbstractHeapType::Func,
         AbstractHeapType::Extern,
@@ -27,7 +41,7 @@ pub fn print_abstract_heap_types(rt: &(impl Print + AllocGlobal)) -> io::Result<
     print_values(rt, &types)
 }
 
-pub fn print_heap_types(rt: &(impl Print + AllocGlobal)) -> io::Result<()> {
+fn print_heap_types(rt: &(impl Print + AllocGlobal)) -> io::Result<()> {
     let types = [
         HeapType::Abstract(AbstractHeapType::Any),
         HeapType::Concrete(5),
@@ -37,7 +51,7 @@ pub fn print_heap_types(rt: &(impl Print + AllocGlobal)) -> io::Result<()> {
 }
 
 /// The short forms last.
-pub fn print_reference_types(rt: &(impl Print + AllocGlobal)) -> io::Result<()> {
+fn print_reference_types(rt: &(impl Print + AllocGlobal)) -> io::Result<()> {
     let types = [
         RefType {
             nullable: true,
@@ -62,7 +76,7 @@ pub fn print_reference_types(rt: &(impl Print + AllocGlobal)) -> io::Result<()> 
     print_values(rt, &types)
 }
 
-pub fn print_arrays(rt: &(impl Print + AllocGlobal)) -> io::Result<()> {
+fn print_arrays(rt: &(impl Print + AllocGlobal)) -> io::Result<()> {
     let array = |element_type| ArrayType(FieldType {
         element_type,
         mutable: true,
@@ -92,7 +106,7 @@ fn structure(alloc: Global) -> Result<StructType, AllocError> {
     })
 }
 
-pub fn print_composite_types(rt: &(impl Print + AllocGlobal)) -> io::Result<()> {
+fn print_composite_types(rt: &(impl Print + AllocGlobal)) -> io::Result<()> {
     let alloc = rt.alloc();
     let func = FuncType::new(alloc, &[ValType::I32, ValType::I64], &[ValType::F32])?;
     let types = [
@@ -103,7 +117,7 @@ pub fn print_composite_types(rt: &(impl Print + AllocGlobal)) -> io::Result<()> 
     print_values(rt, &types)
 }
 
-pub fn print_sub_types(rt: &(impl Print + AllocGlobal)) -> io::Result<()> {
+fn print_sub_types(rt: &(impl Print + AllocGlobal)) -> io::Result<()> {
     let alloc = rt.alloc();
     for (is_final, supertype_idx) in [
         (true, None),
@@ -121,7 +135,7 @@ pub fn print_sub_types(rt: &(impl Print + AllocGlobal)) -> io::Result<()> {
     Ok(())
 }
 
-pub fn print_sections(rt: &(impl Print + AllocGlobal)) -> io::Result<()> {
+fn print_sections(rt: &(impl Print + AllocGlobal)) -> io::Result<()> {
     let sections = [
         SectionId::Custom,
         SectionId::TypeItem,
@@ -144,14 +158,14 @@ pub fn print_sections(rt: &(impl Print + AllocGlobal)) -> io::Result<()> {
     Ok(())
 }
 
-pub fn print_errors(rt: &(impl Print + AllocGlobal)) -> io::Result<()> {
+fn print_errors(rt: &(impl Print + AllocGlobal)) -> io::Result<()> {
     for error in [EncodeError::Memory, EncodeError::TooLarge] {
         println!(rt; "{error:?} {}: {error}", error as u8)?;
     }
     Ok(())
 }
 
-pub fn print_orderings(rt: &(impl Print + AllocGlobal)) -> io::Result<()> {
+fn print_orderings(rt: &(impl Print + AllocGlobal)) -> io::Result<()> {
     print_values(rt, &[Ordering::SeqCst, Ordering::AcqRel])?;
     let orderings = [
         MemArgOrdering::Op(Ordering::SeqCst),
@@ -162,7 +176,7 @@ pub fn print_orderings(rt: &(impl Print + AllocGlobal)) -> io::Result<()> {
     print_values(rt, &orderings)
 }
 
-pub fn print_handles(rt: &(impl Print + AllocGlobal)) -> io::Result<()> {
+fn print_handles(rt: &(impl Print + AllocGlobal)) -> io::Result<()> {
     let handles = [
         Handle::OnLabel { tag: 1, label: 2 },
         Handle::OnSwitch { tag: 3 },
