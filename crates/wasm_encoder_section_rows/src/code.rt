@@ -1,5 +1,6 @@
 //! Bodies, the start function and the count of data segments.
 
+use crate::calls::Calls;
 use crate::{encoded, print_row};
 use std::alloc::Global;
 use std::io;
@@ -20,16 +21,32 @@ pub fn print_rows(rt: &HostRuntime) -> io::Result<()> {
         rt,
         "data count",
         encoded(alloc, &DataCountSection { count: 3 }),
-    )
+    )?;
+    print_row(rt, "a raw instruction", raw_instruction(alloc))
 }
 
 fn code(alloc: Global) -> Result<Vec<u8>, EncodeError> {
+    match body(alloc) {
+        Ok(function) => code_of(alloc, &function),
+        Err(error) => Err(error),
+    }
+}
+
+fn body(alloc: Global) -> Result<Function, EncodeError> {
     let mut function = Function::new(alloc, &[])?;
     function.instructions().nop()?.end()?;
+    Ok(function)
+}
+
+/// This body, and a raw one.
+fn code_of(alloc: Global, function: &Function) -> Result<Vec<u8>, EncodeError> {
+    let mut calls = Calls::new();
     let mut section = CodeSection::new(alloc);
-    section.function(&function)?;
-    section.raw(&[0x00, 0x0B])?;
-    encoded(alloc, &section)
+    calls.note(section.function(function));
+    calls.note(section.raw(&[0x00, 0x0B]));
+    calls.note_copy(function.clone());
+    calls.note_copy(section.clone());
+    calls.encoded(alloc, section)
 }
 
 /// How many bytes a section has after a raw body of two.
@@ -37,4 +54,12 @@ fn raw_length(alloc: Global) -> Result<usize, EncodeError> {
     let mut section = CodeSection::new(alloc);
     section.raw(&[0x00, 0x0B])?;
     Ok(section.byte_len())
+}
+
+/// The bytes of a body without locals, behind which `nop` was added as a byte.
+fn raw_instruction(alloc: Global) -> Result<Vec<u8>, EncodeError> {
+    let mut function = Function::new(alloc, &[])?;
+    let mut calls = Calls::new();
+    calls.note(function.raw(&[0x01]));
+    calls.with(function.into_raw_body())
 }

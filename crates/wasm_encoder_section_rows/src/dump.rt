@@ -1,62 +1,70 @@
 //! Core dumps.
 
-use crate::{encoded, print_row};
+use crate::calls::Calls;
+use crate::print_row;
 use std::alloc::Global;
 use std::io;
 use wasm_encoder_base::{EncodeError, Ieee32, Ieee64};
 use wasm_encoder_custom::{
     CoreDumpInstancesSection, CoreDumpModulesSection, CoreDumpSection, CoreDumpStackSection,
-    CoreDumpValue,
+    CoreDumpValue, CustomSection,
 };
 
 pub fn print_rows(rt: &HostRuntime) -> io::Result<()> {
     let alloc = rt.alloc();
     print_row(rt, "process", process(alloc))?;
-    print_row(rt, "modules", modules(alloc))?;
-    print_row(rt, "modules as custom", modules_as_custom(alloc))?;
-    print_row(rt, "instances", instances(alloc))?;
-    print_row(rt, "instances as custom", instances_as_custom(alloc))?;
+    print_row(rt, "modules", modules(alloc, false))?;
+    print_row(rt, "modules as custom", modules(alloc, true))?;
+    print_row(rt, "instances", instances(alloc, false))?;
+    print_row(rt, "instances as custom", instances(alloc, true))?;
     print_row(rt, "stack", stack(alloc))?;
     print_row(rt, "stack as custom", stack_as_custom(alloc))?;
     print_row(rt, "values", values(alloc))
 }
 
+/// The custom section that a section is made.
+fn encoded_custom(
+    alloc: Global,
+    custom: Result<CustomSection<'static>, EncodeError>,
+) -> Result<Vec<u8>, EncodeError> {
+    match custom {
+        Ok(section) => Calls::new().encoded(alloc, section),
+        Err(error) => Err(error),
+    }
+}
+
 fn process(alloc: Global) -> Result<Vec<u8>, EncodeError> {
-    let section = CoreDumpSection::new(alloc, "test")?;
-    encoded(alloc, &section)
+    let mut calls = Calls::new();
+    match CoreDumpSection::new(alloc, "test") {
+        Ok(section) => {
+            calls.note_copy(section.clone());
+            calls.encoded(alloc, section)
+        }
+        Err(error) => Err(EncodeError::from(error)),
+    }
 }
 
-fn two_modules(alloc: Global) -> Result<CoreDumpModulesSection, EncodeError> {
+fn modules(alloc: Global, as_custom: bool) -> Result<Vec<u8>, EncodeError> {
+    let mut calls = Calls::new();
     let mut section = CoreDumpModulesSection::new(alloc);
-    section.module("mod1")?;
-    section.module("mod2")?;
-    Ok(section)
+    calls.note(section.module("mod1"));
+    calls.note(section.module("mod2"));
+    if as_custom {
+        encoded_custom(alloc, section.as_custom())
+    } else {
+        calls.encoded(alloc, section)
+    }
 }
 
-fn modules(alloc: Global) -> Result<Vec<u8>, EncodeError> {
-    let section = two_modules(alloc)?;
-    encoded(alloc, &section)
-}
-
-fn modules_as_custom(alloc: Global) -> Result<Vec<u8>, EncodeError> {
-    let section = two_modules(alloc)?;
-    encoded(alloc, &section.as_custom()?)
-}
-
-fn one_instance(alloc: Global) -> Result<CoreDumpInstancesSection, EncodeError> {
+fn instances(alloc: Global, as_custom: bool) -> Result<Vec<u8>, EncodeError> {
+    let mut calls = Calls::new();
     let mut section = CoreDumpInstancesSection::new(alloc);
-    section.instance(0, &[42], &[17])?;
-    Ok(section)
-}
-
-fn instances(alloc: Global) -> Result<Vec<u8>, EncodeError> {
-    let section = one_instance(alloc)?;
-    encoded(alloc, &section)
-}
-
-fn instances_as_custom(alloc: Global) -> Result<Vec<u8>, EncodeError> {
-    let section = one_instance(alloc)?;
-    encoded(alloc, &section.as_custom()?)
+    calls.note(section.instance(0, &[42], &[17]));
+    if as_custom {
+        encoded_custom(alloc, section.as_custom())
+    } else {
+        calls.encoded(alloc, section)
+    }
 }
 
 /// A stack with a frame of one local and one operand.
@@ -70,20 +78,37 @@ fn one_frame(
     Ok(section)
 }
 
+fn encoded_stack(
+    alloc: Global,
+    stack: Result<CoreDumpStackSection, EncodeError>,
+) -> Result<Vec<u8>, EncodeError> {
+    let mut calls = Calls::new();
+    match stack {
+        Ok(section) => {
+            calls.note_copy(section.clone());
+            calls.encoded(alloc, section)
+        }
+        Err(error) => Err(error),
+    }
+}
+
 fn stack(alloc: Global) -> Result<Vec<u8>, EncodeError> {
-    let section = one_frame(alloc, CoreDumpValue::I32(1), CoreDumpValue::I32(2))?;
-    encoded(alloc, &section)
+    encoded_stack(
+        alloc,
+        one_frame(alloc, CoreDumpValue::I32(1), CoreDumpValue::I32(2)),
+    )
 }
 
 fn stack_as_custom(alloc: Global) -> Result<Vec<u8>, EncodeError> {
-    let section = one_frame(alloc, CoreDumpValue::Missing, CoreDumpValue::I64(-65))?;
-    encoded(alloc, &section.as_custom()?)
+    match one_frame(alloc, CoreDumpValue::Missing, CoreDumpValue::I64(-65)) {
+        Ok(section) => encoded_custom(alloc, section.as_custom()),
+        Err(error) => Err(error),
+    }
 }
 
-/// A stack whose local and operand are the float 1, of 32 and of 64 bits.
+/// A stack whose local and operand are the float 1, of 32 and of 64 bits; each is copied too.
 fn values(alloc: Global) -> Result<Vec<u8>, EncodeError> {
-    let single = CoreDumpValue::F32(Ieee32::new(0x3F80_0000));
-    let double = CoreDumpValue::F64(Ieee64::new(0x3FF0_0000_0000_0000));
-    let section = one_frame(alloc, single, double)?;
-    encoded(alloc, &section)
+    let single = CoreDumpValue::F32(Ieee32::new(0x3F80_0000)).clone()?;
+    let double = CoreDumpValue::F64(Ieee64::new(0x3FF0_0000_0000_0000)).clone()?;
+    encoded_stack(alloc, one_frame(alloc, single, double))
 }

@@ -1,6 +1,7 @@
 //! Imports, groups of them, and exports.
 
-use crate::{encoded, print_row};
+use crate::calls::Calls;
+use crate::print_row;
 use std::alloc::Global;
 use std::io;
 use wasm_encoder::{
@@ -17,13 +18,15 @@ pub fn print_rows(rt: &HostRuntime) -> io::Result<()> {
 }
 
 fn imports(alloc: Global) -> Result<Vec<u8>, EncodeError> {
+    let mut calls = Calls::new();
     let mut section = ImportSection::new(alloc);
-    section.import("m", "f", EntityType::Function(0))?;
-    section.import("m", "t", TABLE)?;
-    section.import("m", "e", MEMORY)?;
-    section.import("m", "g", global(true))?;
-    section.import("m", "x", TAG)?;
-    encoded(alloc, &section)
+    calls.note(section.import("m", "f", EntityType::Function(0)));
+    calls.note(section.import("m", "t", TABLE));
+    calls.note(section.import("m", "e", MEMORY));
+    calls.note(section.import("m", "g", global(true)));
+    calls.note(section.import("m", "x", TAG));
+    calls.note_copy(section.clone());
+    calls.encoded(alloc, section)
 }
 
 const TABLE: TableType = TableType {
@@ -55,6 +58,7 @@ fn global(mutable: bool) -> GlobalType {
     }
 }
 
+/// Of a list that is borrowed; one that is owned is copied.
 fn group(alloc: Global) -> Result<Vec<u8>, EncodeError> {
     let items = [
         ImportCompact {
@@ -66,35 +70,61 @@ fn group(alloc: Global) -> Result<Vec<u8>, EncodeError> {
             ty: global(false).into(),
         },
     ];
+    let mut calls = Calls::new();
     let mut section = ImportSection::new(alloc);
-    section.imports(Imports::Compact1 {
-        module: "m",
-        items: Items::borrowed(&items),
-    })?;
-    encoded(alloc, &section)
+    calls.note(section.imports(compact(Items::borrowed(&items))));
+    note_copies(&mut calls, owned_items(alloc));
+    calls.encoded(alloc, section)
 }
 
+fn compact<'a>(items: Items<'a, ImportCompact<'a>>) -> Imports<'a> {
+    Imports::Compact1 { module: "m", items }
+}
+
+fn owned_items(alloc: Global) -> Result<Vec<ImportCompact<'static>>, EncodeError> {
+    let mut items = Vec::new(alloc);
+    items.push(ImportCompact {
+        name: "a",
+        ty: EntityType::Function(0),
+    })?;
+    Ok(items)
+}
+
+/// Copies a group that owns its list, and an import alone.
+fn note_copies(calls: &mut Calls, items: Result<Vec<ImportCompact<'static>>, EncodeError>) {
+    match items {
+        Ok(items) => calls.note_copy(compact(Items::owned(items)).clone()),
+        Err(error) => calls.note::<()>(Err(error)),
+    }
+    calls.note_copy(Imports::Single(FUNCTION).clone());
+}
+
+const FUNCTION: Import<'static> = Import {
+    module: "m",
+    name: "f",
+    ty: EntityType::Function(0),
+};
+
 fn typed_group(alloc: Global) -> Result<Vec<u8>, EncodeError> {
+    let mut calls = Calls::new();
     let mut section = ImportSection::new(alloc);
-    section.imports(Imports::Compact2 {
+    calls.note(section.imports(Imports::Compact2 {
         module: "m",
         ty: global(false).into(),
         names: Items::borrowed(&["a", "b"]),
-    })?;
-    section.imports(Imports::Single(Import {
-        module: "m",
-        name: "f",
-        ty: EntityType::Function(0),
-    }))?;
-    encoded(alloc, &section)
+    }));
+    calls.note(section.imports(Imports::Single(FUNCTION)));
+    calls.encoded(alloc, section)
 }
 
 fn exports(alloc: Global) -> Result<Vec<u8>, EncodeError> {
+    let mut calls = Calls::new();
     let mut section = ExportSection::new(alloc);
-    section.export("f", ExportKind::Func, 0)?;
-    section.export("t", ExportKind::Table, 1)?;
-    section.export("m", ExportKind::Memory, 2)?;
-    section.export("g", ExportKind::Global, 3)?;
-    section.export("x", ExportKind::Tag, 4)?;
-    encoded(alloc, &section)
+    calls.note(section.export("f", ExportKind::Func, 0));
+    calls.note(section.export("t", ExportKind::Table, 1));
+    calls.note(section.export("m", ExportKind::Memory, 2));
+    calls.note(section.export("g", ExportKind::Global, 3));
+    calls.note(section.export("x", ExportKind::Tag, 4));
+    calls.note_copy(section.clone());
+    calls.encoded(alloc, section)
 }

@@ -1,10 +1,16 @@
-//! Modules and sections, custom ones too, that are built by calls: the name of each row, and its bytes in hexadecimal.
+//! Modules and sections, custom ones too, that are built by calls: the name of each row, and its bytes in hexadecimal. Then how
+//! many items sections have, and the bytes of each call that adds an instruction.
+//!
+//! What can be copied is copied too; where a copy or another call finds no memory, its row says so in place of the bytes.
 #![tactic(auto)]
 
+mod calls;
 mod code;
+mod counts;
 mod dump;
 mod entities;
 mod imports;
+mod instructions;
 mod names;
 mod segments;
 mod tools;
@@ -24,7 +30,9 @@ fn main(rt: HostRuntime) -> io::Result<()> {
     code::print_rows(&rt)?;
     names::print_rows(&rt)?;
     tools::print_rows(&rt)?;
-    dump::print_rows(&rt)
+    dump::print_rows(&rt)?;
+    counts::print_rows(&rt)?;
+    instructions::print_rows(&rt)
 }
 
 /// Prints a row: its name, then the bytes, or why there are none.

@@ -1,6 +1,7 @@
 //! Custom sections as they are given, and name sections.
 
-use crate::{encoded, print_row};
+use crate::calls::Calls;
+use crate::print_row;
 use std::alloc::Global;
 use std::borrow::CowStr;
 use std::io;
@@ -10,11 +11,7 @@ use wasm_encoder_custom::{CustomSection, IndirectNameMap, NameMap, NameSection, 
 pub fn print_rows(rt: &HostRuntime) -> io::Result<()> {
     let alloc = rt.alloc();
     print_row(rt, "custom", custom(alloc))?;
-    print_row(
-        rt,
-        "raw custom",
-        encoded(alloc, &RawCustomSection(&[3, 1, 0x61, 7])),
-    )?;
+    print_row(rt, "raw custom", raw_custom(alloc))?;
     print_row(rt, "function names", function_names(alloc))?;
     print_row(rt, "names by an index", names_by_an_index(alloc))?;
     print_row(rt, "names by two indices", names_by_two_indices(alloc))?;
@@ -26,67 +23,93 @@ fn custom(alloc: Global) -> Result<Vec<u8>, EncodeError> {
         name: CowStr::Borrowed("test"),
         bytes: Bytes::borrowed(&[11, 22, 33, 44]),
     };
-    encoded(alloc, &section)
+    let mut calls = Calls::new();
+    calls.note_copy(section.clone());
+    calls.encoded(alloc, section)
+}
+
+fn raw_custom(alloc: Global) -> Result<Vec<u8>, EncodeError> {
+    let section = RawCustomSection(&[3, 1, 0x61, 7]);
+    let mut calls = Calls::new();
+    calls.note_copy(section.clone());
+    calls.encoded(alloc, section)
 }
 
 fn function_names(alloc: Global) -> Result<Vec<u8>, EncodeError> {
+    let mut calls = Calls::new();
     let mut names = NameMap::new(alloc);
-    names.append(0, "f")?;
+    calls.note(names.append(0, "f"));
     let mut section = NameSection::new(alloc);
-    section.functions(&names)?;
-    encoded(alloc, &section)
+    calls.note(section.functions(&names));
+    calls.encoded(alloc, section)
 }
 
 fn names_by_an_index(alloc: Global) -> Result<Vec<u8>, EncodeError> {
+    let mut calls = Calls::new();
     let mut names = NameMap::new(alloc);
-    names.append(0, "a")?;
+    calls.note(names.append(0, "a"));
+    calls.note_copy(names.clone());
     let mut section = NameSection::new(alloc);
-    add_names(&mut section, &names)?;
-    add_more_names(&mut section, &names)?;
-    encoded(alloc, &section.as_custom())
+    add_names(&mut section, &mut calls, &names);
+    add_more_names(&mut section, &mut calls, &names);
+    calls.encoded(alloc, section.as_custom())
 }
 
 /// The name `m` of the module, and these names of functions, types, tables and memories.
-fn add_names(section: &mut NameSection, names: &NameMap) -> Result<(), EncodeError> {
-    section.module("m")?;
-    section.functions(names)?;
-    section.types(names)?;
-    section.tables(names)?;
-    section.memories(names)?;
-    Ok(())
+fn add_names(section: &mut NameSection, calls: &mut Calls, names: &NameMap) {
+    calls.note(section.module("m"));
+    calls.note(section.functions(names));
+    calls.note(section.types(names));
+    calls.note(section.tables(names));
+    calls.note(section.memories(names));
 }
 
 /// These names of globals, segments and tags.
-fn add_more_names(section: &mut NameSection, names: &NameMap) -> Result<(), EncodeError> {
-    section.globals(names)?;
-    section.elements(names)?;
-    section.data(names)?;
-    section.tag(names)?.target.tags(names)?;
-    Ok(())
+fn add_more_names(section: &mut NameSection, calls: &mut Calls, names: &NameMap) {
+    calls.note(section.globals(names));
+    calls.note(section.elements(names));
+    calls.note(section.data(names));
+    calls.note(section.tag(names));
+    calls.note(section.tags(names));
 }
 
 fn names_by_two_indices(alloc: Global) -> Result<Vec<u8>, EncodeError> {
+    match two_names(alloc) {
+        Ok(names) => with_inner_names(alloc, &names),
+        Err(error) => Err(error),
+    }
+}
+
+fn two_names(alloc: Global) -> Result<NameMap, EncodeError> {
     let mut names = NameMap::new(alloc);
     names.append(0, "p")?.target.append(1, "q")?;
+    Ok(names)
+}
+
+/// These names by the first index 2.
+fn with_inner_names(alloc: Global, names: &NameMap) -> Result<Vec<u8>, EncodeError> {
+    let mut calls = Calls::new();
     let mut inner_names = IndirectNameMap::new(alloc);
-    inner_names.append(2, &names)?;
+    calls.note(inner_names.append(2, names));
     let mut section = NameSection::new(alloc);
-    add_inner_names(&mut section, &inner_names)?;
-    encoded(alloc, &section)
+    add_inner_names(&mut section, &mut calls, &inner_names);
+    calls.note_copy(inner_names.clone());
+    calls.note_copy(section.clone());
+    calls.encoded(alloc, section)
 }
 
 /// These names wherever two indices give a name.
-fn add_inner_names(section: &mut NameSection, names: &IndirectNameMap) -> Result<(), EncodeError> {
-    section.locals(names)?;
-    section.labels(names)?;
-    section.fields(names)?;
-    section.parameters(names)?;
-    section.tag_parameters(names)?;
-    Ok(())
+fn add_inner_names(section: &mut NameSection, calls: &mut Calls, names: &IndirectNameMap) {
+    calls.note(section.locals(names));
+    calls.note(section.labels(names));
+    calls.note(section.fields(names));
+    calls.note(section.parameters(names));
+    calls.note(section.tag_parameters(names));
 }
 
 fn raw_subsection(alloc: Global) -> Result<Vec<u8>, EncodeError> {
+    let mut calls = Calls::new();
     let mut section = NameSection::new(alloc);
-    section.raw(20, &[1, 2, 3])?;
-    encoded(alloc, &section)
+    calls.note(section.raw(20, &[1, 2, 3]));
+    calls.encoded(alloc, section)
 }

@@ -1,6 +1,7 @@
 //! Producers, linking, branch hints.
 
-use crate::{encoded, print_bytes, print_row};
+use crate::calls::Calls;
+use crate::{print_bytes, print_row};
 use std::alloc::Global;
 use std::io;
 use wasm_encoder_base::EncodeError;
@@ -32,57 +33,76 @@ const FLAGS: [u8; 7] = [
 ];
 
 fn producers(alloc: Global) -> Result<Vec<u8>, EncodeError> {
+    let mut calls = Calls::new();
     let mut field = ProducersField::new(alloc);
-    field.value("clang", "14.0.4")?;
-    field.value("rustc", "1.66.1")?;
+    calls.note(field.value("clang", "14.0.4"));
+    calls.note(field.value("rustc", "1.66.1"));
+    calls.note_copy(field.clone());
     let mut section = ProducersSection::new(alloc);
-    section.field("processed-by", &field)?;
-    encoded(alloc, &section)
+    calls.note(section.field("processed-by", &field));
+    calls.note_copy(section.clone());
+    calls.encoded(alloc, section)
 }
 
 fn linking(alloc: Global) -> Result<Vec<u8>, EncodeError> {
+    let mut calls = Calls::new();
     let mut symbols = SymbolTable::new(alloc);
-    symbols.function(0x22, 42, Some("my_exported_func"))?;
-    let mut section = LinkingSection::new(alloc)?;
-    section.symbol_table(&symbols)?;
-    encoded(alloc, &section)
+    calls.note(symbols.function(0x22, 42, Some("my_exported_func")));
+    linked(alloc, calls, &symbols)
 }
 
 fn symbols(alloc: Global) -> Result<Vec<u8>, EncodeError> {
+    let mut calls = Calls::new();
     let mut symbols = SymbolTable::new(alloc);
-    add_symbols(&mut symbols)?;
-    let mut section = LinkingSection::new(alloc)?;
-    section.symbol_table(&symbols)?;
-    encoded(alloc, &section)
+    add_symbols(&mut symbols, &mut calls);
+    calls.note_copy(symbols.clone());
+    linked(alloc, calls, &symbols)
 }
 
 /// A function, a global and a table, and data that is defined here and that isn't.
-fn add_symbols(symbols: &mut SymbolTable) -> Result<(), EncodeError> {
+fn add_symbols(symbols: &mut SymbolTable, calls: &mut Calls) {
     let place = DataSymbolDefinition {
         index: 4,
         offset: 5,
         size: 6,
     };
-    symbols.data(1, "d", Some(place))?;
-    symbols.data(16, "u", None)?;
-    symbols.function(16, 1, None)?;
-    symbols.global(0, 200, Some("g"))?;
-    symbols.table(128, 3, Some("t"))?;
-    Ok(())
+    calls.note(symbols.data(1, "d", Some(place)));
+    calls.note(symbols.data(16, "u", None));
+    calls.note(symbols.function(16, 1, None));
+    calls.note(symbols.global(0, 200, Some("g")));
+    calls.note(symbols.table(128, 3, Some("t")));
+}
+
+/// A section with these symbols.
+fn linked(alloc: Global, mut calls: Calls, symbols: &SymbolTable) -> Result<Vec<u8>, EncodeError> {
+    match LinkingSection::new(alloc) {
+        Ok(mut section) => {
+            calls.note(section.symbol_table(symbols));
+            calls.encoded(alloc, section)
+        }
+        Err(error) => Err(EncodeError::from(error)),
+    }
 }
 
 fn architecture(alloc: Global) -> Result<Vec<u8>, EncodeError> {
-    let mut section = LinkingSection::new(alloc)?;
-    section.target_arch("wasm32")?;
-    encoded(alloc, &section)
+    match LinkingSection::new(alloc) {
+        Ok(mut section) => {
+            let mut calls = Calls::new();
+            calls.note(section.target_arch("wasm32"));
+            calls.note_copy(section.clone());
+            calls.encoded(alloc, section)
+        }
+        Err(error) => Err(EncodeError::from(error)),
+    }
 }
 
 fn hints(alloc: Global) -> Result<Vec<u8>, EncodeError> {
+    let mut calls = Calls::new();
     let mut section = BranchHints::new(alloc);
     let hint = BranchHint {
         branch_func_offset: 3,
         branch_hint_value: 1,
     };
-    section.function_hints(0, &[hint])?;
-    encoded(alloc, &section)
+    calls.note(section.function_hints(0, &[hint]));
+    calls.encoded(alloc, section)
 }

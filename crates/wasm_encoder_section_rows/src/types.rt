@@ -1,11 +1,12 @@
 //! Types.
 
-use crate::{encoded, print_row};
+use crate::calls::Calls;
+use crate::print_row;
 use std::alloc::Global;
 use std::io;
 use wasm_encoder::{
-    ArrayType, CompositeType, CoreTypeEncoder, EncodeError, FieldType, FuncType, OwnedItems,
-    StorageType, StructType, SubType, TypeSection, ValType,
+    ArrayType, CompositeType, EncodeError, FieldType, FuncType, OwnedItems, StorageType,
+    StructType, SubType, TypeSection, ValType,
 };
 
 pub fn print_rows(rt: &HostRuntime) -> io::Result<()> {
@@ -14,17 +15,26 @@ pub fn print_rows(rt: &HostRuntime) -> io::Result<()> {
 }
 
 fn types(alloc: Global) -> Result<Vec<u8>, EncodeError> {
-    let mut section = TypeSection::new(alloc);
-    section.ty().function(&[ValType::I32], &[ValType::I64])?;
-    section
-        .ty()
-        .func_type(&FuncType::new(alloc, &[ValType::F32], &[])?)?;
-    section.ty().array(&StorageType::I8, true)?;
-    section.ty().struct_(&[
+    match FuncType::new(alloc, &[ValType::F32], &[]) {
+        Ok(func_type) => types_with(alloc, &func_type),
+        Err(error) => Err(EncodeError::from(error)),
+    }
+}
+
+/// The second is this one.
+fn types_with(alloc: Global, func_type: &FuncType) -> Result<Vec<u8>, EncodeError> {
+    let fields = [
         field(StorageType::I16, false),
         field(StorageType::Val(ValType::F64), true),
-    ])?;
-    encoded(alloc, &section)
+    ];
+    let mut calls = Calls::new();
+    let mut section = TypeSection::new(alloc);
+    calls.note(section.ty().function(&[ValType::I32], &[ValType::I64]));
+    calls.note(section.ty().func_type(func_type));
+    calls.note(section.ty().array(&StorageType::I8, true));
+    calls.note(section.ty().struct_(&fields));
+    calls.note_copy(section.clone());
+    calls.encoded(alloc, section)
 }
 
 fn field(element_type: StorageType, mutable: bool) -> FieldType {
@@ -36,25 +46,23 @@ fn field(element_type: StorageType, mutable: bool) -> FieldType {
 
 /// A type below another, a final one, and a group of two.
 fn groups(alloc: Global) -> Result<Vec<u8>, EncodeError> {
+    let mut calls = Calls::new();
     let mut section = TypeSection::new(alloc);
-    section.ty().subtype(&SubType {
+    add_type(&mut section, &mut calls, Ok(structure(alloc)));
+    add_type(&mut section, &mut calls, function_type(alloc, true));
+    add_group(&mut section, &mut calls, function_type(alloc, false));
+    calls.encoded(alloc, section)
+}
+
+/// A structure without fields, below the type 3.
+fn structure(alloc: Global) -> SubType {
+    SubType {
         is_final: false,
         supertype_idx: Some(3),
         composite_type: CompositeType::Struct(StructType {
             fields: OwnedItems::new(Vec::new(alloc)),
         }),
-    })?;
-    section.ty().subtype(&function_type(alloc, true)?)?;
-    let array = ArrayType(field(StorageType::Val(ValType::I32), false));
-    section.ty().rec(&[
-        SubType {
-            is_final: true,
-            supertype_idx: Some(0),
-            composite_type: CompositeType::Array(array),
-        },
-        function_type(alloc, false)?,
-    ])?;
-    encoded(alloc, &section)
+    }
 }
 
 /// The type of functions without parameters and results.
@@ -64,4 +72,35 @@ fn function_type(alloc: Global, is_final: bool) -> Result<SubType, EncodeError> 
         supertype_idx: None,
         composite_type: CompositeType::Func(FuncType::new(alloc, &[], &[])?),
     })
+}
+
+/// A final array type below the type 0.
+fn array_type() -> SubType {
+    SubType {
+        is_final: true,
+        supertype_idx: Some(0),
+        composite_type: CompositeType::Array(ArrayType(field(
+            StorageType::Val(ValType::I32),
+            false,
+        ))),
+    }
+}
+
+/// A type by itself, which is copied too.
+fn add_type(section: &mut TypeSection, calls: &mut Calls, made: Result<SubType, EncodeError>) {
+    match made {
+        Ok(sub_type) => {
+            calls.note(section.ty().subtype(&sub_type));
+            calls.note_copy(sub_type.clone());
+        }
+        Err(error) => calls.note::<()>(Err(error)),
+    }
+}
+
+/// An array type and this type in a group.
+fn add_group(section: &mut TypeSection, calls: &mut Calls, made: Result<SubType, EncodeError>) {
+    match made {
+        Ok(sub_type) => calls.note(section.ty().rec(&[array_type(), sub_type])),
+        Err(error) => calls.note::<()>(Err(error)),
+    }
 }

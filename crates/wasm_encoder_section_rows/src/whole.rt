@@ -1,5 +1,6 @@
 //! Whole modules.
 
+use crate::calls::Calls;
 use crate::print_row;
 use std::alloc::Global;
 use std::borrow::CowStr;
@@ -23,96 +24,126 @@ fn no_sections(alloc: Global) -> Result<Vec<u8>, EncodeError> {
 
 /// A module with each kind of section, in their order.
 fn every_section(alloc: Global) -> Result<Vec<u8>, EncodeError> {
+    match ConstExpr::i32_const(alloc, 0) {
+        Ok(zero) => every_section_with(alloc, &zero),
+        Err(error) => Err(error),
+    }
+}
+
+/// Globals and segments hold this value.
+fn every_section_with(alloc: Global, zero: &ConstExpr) -> Result<Vec<u8>, EncodeError> {
     let mut module = Module::new(alloc)?;
-    add_functions(alloc, &mut module)?;
-    add_stores(alloc, &mut module)?;
-    add_uses(alloc, &mut module)?;
-    add_contents(alloc, &mut module)?;
-    Ok(module.finish())
+    let mut calls = Calls::new();
+    add_types(alloc, &mut module, &mut calls);
+    add_imports(alloc, &mut module, &mut calls);
+    add_functions(alloc, &mut module, &mut calls);
+    add_tables(alloc, &mut module, &mut calls);
+    add_memories(alloc, &mut module, &mut calls);
+    add_tags(alloc, &mut module, &mut calls);
+    add_globals(alloc, &mut module, &mut calls, zero);
+    add_exports(alloc, &mut module, &mut calls);
+    add_elements(alloc, &mut module, &mut calls, zero);
+    add_code(alloc, &mut module, &mut calls);
+    add_data(alloc, &mut module, &mut calls, zero);
+    add_custom(&mut module, &mut calls);
+    calls.note_copy(module.clone());
+    calls.with(module.finish())
 }
 
-/// A type, an imported function and one of its own.
-fn add_functions(alloc: Global, module: &mut Module) -> Result<(), EncodeError> {
-    let mut types = TypeSection::new(alloc);
-    types.ty().function(&[], &[])?;
-    let mut imports = ImportSection::new(alloc);
-    imports.import("m", "f", EntityType::Function(0))?;
-    let mut functions = FunctionSection::new(alloc);
-    functions.function(0)?;
-    module.section(&types)?;
-    module.section(&imports)?;
-    module.section(&functions)?;
-    Ok(())
+fn add_types(alloc: Global, module: &mut Module, calls: &mut Calls) {
+    let mut section = TypeSection::new(alloc);
+    calls.note(section.ty().function(&[], &[]));
+    calls.note(module.section(&section));
 }
 
-/// A table, a memory, a tag and a global.
-fn add_stores(alloc: Global, module: &mut Module) -> Result<(), EncodeError> {
-    let mut tables = TableSection::new(alloc);
-    tables.table(TableType {
+fn add_imports(alloc: Global, module: &mut Module, calls: &mut Calls) {
+    let mut section = ImportSection::new(alloc);
+    calls.note(section.import("m", "f", EntityType::Function(0)));
+    calls.note(module.section(&section));
+}
+
+fn add_functions(alloc: Global, module: &mut Module, calls: &mut Calls) {
+    let mut section = FunctionSection::new(alloc);
+    calls.note(section.function(0));
+    calls.note(module.section(&section));
+}
+
+fn add_tables(alloc: Global, module: &mut Module, calls: &mut Calls) {
+    let mut section = TableSection::new(alloc);
+    calls.note(section.table(TableType {
         element_type: RefType::FUNCREF,
         table64: false,
         minimum: 1,
         maximum: None,
         shared: false,
-    })?;
-    let mut memories = MemorySection::new(alloc);
-    memories.memory(MemoryType {
+    }));
+    calls.note(module.section(&section));
+}
+
+fn add_memories(alloc: Global, module: &mut Module, calls: &mut Calls) {
+    let mut section = MemorySection::new(alloc);
+    calls.note(section.memory(MemoryType {
         minimum: 1,
         maximum: None,
         memory64: false,
         shared: false,
         page_size_log2: None,
-    })?;
-    let mut tags = TagSection::new(alloc);
-    tags.tag(TagType {
-        kind: TagKind::Exception,
-        func_type_idx: 0,
-    })?;
-    module.section(&tables)?;
-    module.section(&memories)?;
-    module.section(&tags)?;
-    add_global(alloc, module)
+    }));
+    calls.note(module.section(&section));
 }
 
-fn add_global(alloc: Global, module: &mut Module) -> Result<(), EncodeError> {
-    let zero = ConstExpr::i32_const(alloc, 0)?;
-    let mut globals = GlobalSection::new(alloc);
+fn add_tags(alloc: Global, module: &mut Module, calls: &mut Calls) {
+    let mut section = TagSection::new(alloc);
+    calls.note(section.tag(TagType {
+        kind: TagKind::Exception,
+        func_type_idx: 0,
+    }));
+    calls.note(module.section(&section));
+}
+
+fn add_globals(alloc: Global, module: &mut Module, calls: &mut Calls, zero: &ConstExpr) {
+    let mut section = GlobalSection::new(alloc);
     let global_type = GlobalType {
         val_type: ValType::I32,
         mutable: false,
         shared: false,
     };
-    globals.global(global_type, &zero)?;
-    module.section(&globals)?;
-    Ok(())
+    calls.note(section.global(global_type, zero));
+    calls.note(module.section(&section));
 }
 
-/// An export, the start function and an element segment.
-fn add_uses(alloc: Global, module: &mut Module) -> Result<(), EncodeError> {
-    let zero = ConstExpr::i32_const(alloc, 0)?;
-    let mut exports = ExportSection::new(alloc);
-    exports.export("g", ExportKind::Func, 1)?;
-    let mut elements = ElementSection::new(alloc);
-    elements.active(None, &zero, Elements::Functions(Items::borrowed(&[1])))?;
-    module.section(&exports)?;
-    module.section(&StartSection { function_index: 1 })?;
-    module.section(&elements)?;
-    Ok(())
+/// Behind exports stands the start function.
+fn add_exports(alloc: Global, module: &mut Module, calls: &mut Calls) {
+    let mut section = ExportSection::new(alloc);
+    calls.note(section.export("g", ExportKind::Func, 1));
+    calls.note(module.section(&section));
+    calls.note(module.section(&StartSection { function_index: 1 }));
 }
 
-/// The count of data segments, a body, a data segment and a custom section.
-fn add_contents(alloc: Global, module: &mut Module) -> Result<(), EncodeError> {
-    let zero = ConstExpr::i32_const(alloc, 0)?;
-    let mut codes = CodeSection::new(alloc);
-    codes.raw(&[0x00, 0x0B])?;
-    let mut data = DataSection::new(alloc);
-    data.active(0, &zero, b"a")?;
-    module.section(&DataCountSection { count: 1 })?;
-    module.section(&codes)?;
-    module.section(&data)?;
-    module.section(&CustomSection {
+/// Behind element segments stands the count of data segments.
+fn add_elements(alloc: Global, module: &mut Module, calls: &mut Calls, zero: &ConstExpr) {
+    let mut section = ElementSection::new(alloc);
+    let functions = Elements::Functions(Items::borrowed(&[1]));
+    calls.note(section.active(None, zero, functions));
+    calls.note(module.section(&section));
+    calls.note(module.section(&DataCountSection { count: 1 }));
+}
+
+fn add_code(alloc: Global, module: &mut Module, calls: &mut Calls) {
+    let mut section = CodeSection::new(alloc);
+    calls.note(section.raw(&[0x00, 0x0B]));
+    calls.note(module.section(&section));
+}
+
+fn add_data(alloc: Global, module: &mut Module, calls: &mut Calls, zero: &ConstExpr) {
+    let mut section = DataSection::new(alloc);
+    calls.note(section.active(0, zero, b"a"));
+    calls.note(module.section(&section));
+}
+
+fn add_custom(module: &mut Module, calls: &mut Calls) {
+    calls.note(module.section(&CustomSection {
         name: CowStr::Borrowed("x"),
         bytes: Bytes::borrowed(&[]),
-    })?;
-    Ok(())
+    }));
 }

@@ -2,8 +2,8 @@
 
 use std::borrow::CowStr;
 use std::test::Fail;
-use wasm_encoder_base::{Bytes, Encode};
-use wasm_encoder_custom::{CustomSection, RawCustomSection};
+use wasm_encoder_base::Bytes;
+use wasm_encoder_custom::CustomSection;
 
 /// A section `a` of one byte.
 fn section(byte: &[u8; 1]) -> CustomSection<'_> {
@@ -14,19 +14,10 @@ fn section(byte: &[u8; 1]) -> CustomSection<'_> {
 }
 
 #[test]
-fn ample_encode(rt: HostRuntime) -> Result<(), Fail> {
-    let mut sink = Vec::new(rt.alloc());
-    section(&[7]).encode(&mut sink)?;
-    RawCustomSection(&[1, 0]).encode(&mut sink)?;
-    Ok(())
-}
-
-#[test]
-fn ample_clone(rt: HostRuntime) -> Result<(), Fail> {
+fn copies_are_equal(rt: HostRuntime) -> Result<(), Fail> {
     let one = section(&[7]);
     let copy = one.clone()?;
     assert!(rt; copy == one);
     assert!(rt; copy != section(&[8]));
-    RawCustomSection(&[]).clone()?;
     Ok(())
 }

@@ -1,40 +1,8 @@
 //! `encode`.
 
-use std::alloc::Global;
 use std::test::Fail;
 use wasm_encoder_base::{Encode, EncodeError, EncodedList, Items};
-use wasm_encoder_code::{ConstExpr, Function, Instruction, VectorFloatOp};
-
-/// Whether the value is encoded.
-fn is_encoded<T: Encode>(alloc: Global, value: &T) -> bool
-    requires { T.can_encode value.now }
-{
-    let mut sink = Vec::new(alloc);
-    value.encode(&mut sink).is_ok()
-}
-
-#[test]
-fn ample_encode(rt: HostRuntime) {
-    let numbers = [1u32, 2];
-    assert!(rt; is_encoded(rt.alloc(), &numbers.as_slice()));
-}
-
-#[test]
-fn ample_encode_of_instructions(rt: HostRuntime) {
-    assert!(rt; is_encoded(rt.alloc(), &Instruction::Nop));
-}
-
-#[test]
-fn ample_encode_of_expressions(rt: HostRuntime) {
-    assert!(rt; is_encoded(rt.alloc(), &ConstExpr::empty(rt.alloc())));
-}
-
-#[test]
-fn ample_encode_of_bodies(rt: HostRuntime) -> Result<(), Fail> {
-    let function = Function::new(rt.alloc(), &[])?;
-    assert!(rt; is_encoded(rt.alloc(), &function));
-    Ok(())
-}
+use wasm_encoder_code::{Instruction, VectorFloatOp};
 
 #[test]
 fn ample_clone_of_instructions(rt: HostRuntime) {
