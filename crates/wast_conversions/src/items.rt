@@ -1,0 +1,90 @@
+//! Types of tables, memories and globals, what is imported, and kinds of exports.
+ghost use Rattle.std.specs.Prelude.{◌≡◌, []};
+ghost use Rattle.wasm_encoder_items.specs.Views.{table_view, memory_view, global_view, entity_view, export_kind_view};
+ghost use Rattle.wast_value_types.specs.ValueViews.{table_tree, memory_tree, global_tree};
+ghost use Rattle.wast_imports.specs.ImportViews.{extern_tree};
+ghost use Rattle.wast_exports.specs.ExportViews.{kind_view};
+ghost use Rattle.wast_conversions.specs.Types.{table_meant, memory_meant, global_meant, extern_meant, export_kind_meant};
+ghost use Rattle.wast_conversions.specs.Resolved.{RefResolved, ValResolved, ExternResolved};
+ghost use Rattle.wast_conversions.specs.Covered.{table_forms, global_forms, extern_forms};
+
+use crate::types::{ref_type, type_index, val_type};
+use wasm_encoder_items::{EntityType, TagKind};
+use wast_exports::ExportKind;
+use wast_imports::{ItemKind, TagType};
+use wast_value_types::{GlobalType, MemoryType, TableType};
+
+/// A table type (6.4.12).
+#[tactic(auto, using(crate::proofs::Empty::back))]
+pub fn table_type(ty: &TableType<'_>) -> wasm_encoder_items::TableType
+    requires resolved { RefResolved (table_tree ty.now).element }
+    requires covered { table_forms (table_tree ty.now) ≡ [] }
+    ensures { table_view result ≡ table_meant (table_tree ty.now) }
+{
+    wasm_encoder_items::TableType {
+        element_type: ref_type(&ty.elem),
+        table64: ty.limits.is64,
+        minimum: ty.limits.min,
+        maximum: ty.limits.max,
+        shared: ty.shared,
+    }
+}
+
+/// A memory type (6.4.11).
+pub fn memory_type(ty: &MemoryType) -> wasm_encoder_items::MemoryType
+    ensures { memory_view result ≡ memory_meant (memory_tree ty.now) }
+{
+    wasm_encoder_items::MemoryType {
+        minimum: ty.limits.min,
+        maximum: ty.limits.max,
+        memory64: ty.limits.is64,
+        shared: ty.shared,
+        page_size_log2: ty.page_size_log2,
+    }
+}
+
+/// A global type (6.4.10).
+#[tactic(auto, using(crate::proofs::Empty::back))]
+pub fn global_type(ty: &GlobalType<'_>) -> wasm_encoder_items::GlobalType
+    requires resolved { ValResolved (global_tree ty.now).val_type }
+    requires covered { global_forms (global_tree ty.now) ≡ [] }
+    ensures { global_view result ≡ global_meant (global_tree ty.now) }
+{
+    wasm_encoder_items::GlobalType {
+        val_type: val_type(&ty.ty),
+        mutable: ty.mutable,
+        shared: ty.shared,
+    }
+}
+
+/// What is imported (6.4.13).
+pub fn entity_type(kind: &ItemKind<'_>) -> EntityType
+    requires resolved { ExternResolved (extern_tree kind.now) }
+    requires covered { extern_forms (extern_tree kind.now) ≡ [] }
+    ensures { entity_view result ≡ extern_meant (extern_tree kind.now) }
+{
+    match kind {
+        ItemKind::Func(ty) => EntityType::Function(type_index(ty)),
+        ItemKind::FuncExact(_) => unreachable!(),
+        ItemKind::Table(ty) => EntityType::Table(table_type(ty)),
+        ItemKind::Memory(ty) => EntityType::Memory(memory_type(ty)),
+        ItemKind::Global(ty) => EntityType::Global(global_type(ty)),
+        ItemKind::Tag(TagType::Exception(ty)) => EntityType::Tag(wasm_encoder_items::TagType {
+            kind: TagKind::Exception,
+            func_type_idx: type_index(ty),
+        }),
+    }
+}
+
+/// The kind of an export (6.6.10).
+pub fn export_kind(kind: ExportKind) -> wasm_encoder_items::ExportKind
+    ensures { export_kind_view result ≡ export_kind_meant (kind_view kind) }
+{
+    match kind {
+        ExportKind::Func => wasm_encoder_items::ExportKind::Func,
+        ExportKind::Table => wasm_encoder_items::ExportKind::Table,
+        ExportKind::Memory => wasm_encoder_items::ExportKind::Memory,
+        ExportKind::Global => wasm_encoder_items::ExportKind::Global,
+        ExportKind::Tag => wasm_encoder_items::ExportKind::Tag,
+    }
+}

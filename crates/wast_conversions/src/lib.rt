@@ -1,0 +1,42 @@
+//! From trees of the text format to the values of the encoder (WebAssembly Core Specification 3.0, 6.4 to 6.6 and 5.3 to 5.5).
+//!
+//! Each function takes a tree that is resolved, in which each index is a number and each use of a type has its index, and that is
+//! covered, in which no form stands that has no bytes here. It answers the encoder's value, or the number, that the tree stands for:
+//! [`val_type`] the type of values of `(ref null 3)`, [`table_arg`] 0 where no table is written, [`instruction`] `i32.const -1` of
+//! `i32.const 0xffffffff`. What makes lists takes an allocator, and is refused only for want of memory.
+//!
+//! An alignment becomes its logarithm. It can be encoded where it is a power of two below 65536.
+//!
+//! # What has to be believed
+//!
+//! | File of `specs/` | Says |
+//! |---|---|
+//! | `Types` | the types of a binary that types stand for, and those of imports and exports |
+//! | `Operands` | the operands of a binary's instruction that operands stand for; which alignments are well formed |
+//! | `Instructions` | the instructions of a binary that instructions stand for |
+//! | `Resolved` | trees in which each index is a number |
+//! | `Covered` | the forms in trees that have no bytes here, and what they are called |
+//!
+//! `Rows` serves private contracts: what the table says of a word's operands, and which of two entries an instruction is of.
+#![tactic(auto)]
+
+mod bulk;
+mod gc;
+mod indices;
+mod instructions;
+mod items;
+mod operands;
+mod types;
+mod vector_arg;
+
+pub use indices::index;
+pub use instructions::instruction;
+pub use items::{entity_type, export_kind, global_type, memory_type, table_type};
+pub use operands::{
+    array_fill, block_type, catch, lane_arg, mem_arg, memory_arg, ordering, shuffle, table_arg,
+    v128_const,
+};
+pub use types::{
+    array_type, field_type, func_type, heap_type, ref_type, storage_type, struct_type, sub_type,
+    val_type,
+};

@@ -1,0 +1,189 @@
+//! Operands.
+ghost use Rattle.std.specs.Prelude.{◌≡◌, ◌<◌, [], map, option_map, unwrap_or};
+ghost use Rattle.std.specs.List.{flat_map};
+ghost use Rattle.std.specs.Int.{w128, cast_unsigned};
+ghost use Rattle.wasm_encoder_base.specs.Instr as binary;
+ghost use Rattle.wasm_encoder_instr.specs.Block.{block_view};
+ghost use Rattle.wasm_encoder_instr.specs.Catch.{catch_view};
+ghost use Rattle.wasm_encoder_instr.specs.MemArg.{memory_view, mem_arg_view};
+ghost use Rattle.wasm_encoder_instr.specs.Ordering.{ordering_bytes};
+ghost use Rattle.wast_parser.specs.Identifiers.{index_tree};
+ghost use Rattle.wast_core_types.specs.TypeViews.{sig_tree, use_tree};
+ghost use Rattle.wast_value_types.specs.ValueViews.{val_tree};
+ghost use Rattle.wast_vector_operands.specs.VectorViews.{vector_tree};
+ghost use Rattle.wast_operands.specs.OperandViews.{table_arg_tree, memory_arg_tree, mem_arg_tree, target_tree, ordering_tree};
+ghost use Rattle.wast_typed_operands.specs.TypedViews.{block_tree, catch_tree};
+ghost use Rattle.wast_conversions.specs.Types.{number_of, use_meant};
+ghost use Rattle.wast_conversions.specs.Operands.{IsPower, logarithm, vector_meant, optional_meant, results_meant, inline_meant, block_meant, catch_meant, target_meant, mem_arg_meant, ordering_meant};
+ghost use Rattle.wast_conversions.specs.Resolved.{IsNumber, IfThere, ResultsResolved, ShortResolved, BlockResolved, CatchResolved, TargetResolved, MemArgResolved};
+ghost use Rattle.wast_conversions.specs.Covered.{val_forms, inline_forms, use_forms, vector_forms, target_forms, mem_arg_forms};
+
+use crate::indices::{index, optional_index};
+use crate::types::val_type;
+use wasm_encoder_instr::Lane;
+use wast_core_types::FunctionType;
+use wast_operands::{
+    ArrayFill, I8x16Shuffle, LaneArg, MemArg, MemArgTarget, MemoryArg, Ordering, TableArg,
+    V128Const,
+};
+use wast_typed_operands::{BlockType, TryTableCatch, TryTableCatchKind};
+use wast_value_types::ValType;
+
+/// The number of a table that may be left out, and is 0 then (6.5.5).
+pub fn table_arg(arg: &TableArg<'_>) -> u32
+    requires { IfThere IsNumber (table_arg_tree arg.now) }
+    ensures { result ≡ optional_meant (table_arg_tree arg.now) }
+{
+    optional_index(&arg.dst)
+}
+
+/// The number of a memory that may be left out, and is 0 then (6.5.6).
+pub fn memory_arg(arg: &MemoryArg<'_>) -> u32
+    requires { IfThere IsNumber (memory_arg_tree arg.now) }
+    ensures { result ≡ optional_meant (memory_arg_tree arg.now) }
+{
+    optional_index(&arg.mem)
+}
+
+/// The number of the array type that is filled (6.5.7).
+pub fn array_fill(fill: &ArrayFill<'_>) -> u32
+    requires { IsNumber (index_tree fill.now.array) }
+    ensures { result ≡ number_of (index_tree fill.now.array) }
+{
+    index(&fill.array)
+}
+
+/// The number of a lane (6.5.10).
+pub fn lane_arg(arg: LaneArg) -> Lane
+    ensures { result ≡ arg.lane }
+{
+    arg.lane
+}
+
+/// The lanes of a shuffle (6.5.10).
+pub fn shuffle(lanes: &I8x16Shuffle) -> [Lane; 16]
+    ensures { result ≡ lanes.now.lanes }
+{
+    lanes.lanes
+}
+
+/// A constant of 128 bits (6.5.10), whose lanes are integers: its lanes' bytes are its own, the low one first.
+pub fn v128_const(value: &V128Const<'_>) -> i128
+    requires { vector_forms (vector_tree value.now) ≡ [] }
+    ensures { cast_unsigned w128 result ≡ vector_meant (vector_tree value.now) }
+{
+    match value.to_le_bytes() {
+        Some(bytes) => u128::from_le_bytes(bytes).cast_signed(),
+        None => unreachable!(),
+    }
+}
+
+/// An ordering of an atomic instruction.
+pub fn ordering(ordering: Ordering) -> wasm_encoder_instr::Ordering
+    ensures { ordering_bytes result ≡ ordering_meant (ordering_tree ordering) }
+{
+    match ordering {
+        Ordering::SeqCst => wasm_encoder_instr::Ordering::SeqCst,
+        Ordering::AcqRel => wasm_encoder_instr::Ordering::AcqRel,
+    }
+}
+
+/// A memory argument (6.5.6). It can be encoded where its alignment, in bytes, is a power of two below 65536.
+#[tactic(auto, using(crate::proofs::Empty::front, crate::proofs::Logarithms::logarithm_below))]
+pub fn mem_arg(arg: &MemArg<'_>) -> wasm_encoder_instr::MemArg
+    requires resolved { MemArgResolved (mem_arg_tree arg.now) }
+    requires covered { mem_arg_forms (mem_arg_tree arg.now) ≡ [] }
+    ensures same { mem_arg_view result ≡ mem_arg_meant (mem_arg_tree arg.now) }
+    ensures aligned { IsPower arg.now.align → result.align < 16 }
+{
+    wasm_encoder_instr::MemArg {
+        offset: arg.offset,
+        align: alignment_logarithm(arg.align),
+        target: mem_arg_target(&arg.target),
+    }
+}
+
+/// The logarithm of an alignment.
+#[tactic(auto, unfolding(crate::specs::Operands::logarithm))]
+fn alignment_logarithm(align: u64) -> u32
+    ensures { result ≡ logarithm align }
+{
+    align.trailing_zeros()
+}
+
+/// The memory that a memory argument is of, 0 where none is written.
+fn mem_arg_target(target: &Option<MemArgTarget<'_>>) -> wasm_encoder_instr::MemArgTarget
+    requires resolved { IfThere TargetResolved (option_map target_tree target.now) }
+    requires covered { target_forms (option_map target_tree target.now) ≡ [] }
+    ensures { memory_view result ≡ unwrap_or (option_map target_meant (option_map target_tree target.now)) 0 }
+{
+    match target {
+        None => wasm_encoder_instr::MemArgTarget::Memory(0),
+        Some(MemArgTarget::Memory(memory)) => wasm_encoder_instr::MemArgTarget::Memory(index(
+            memory,
+        )),
+        Some(MemArgTarget::Array(_)) => unreachable!(),
+    }
+}
+
+/// The type of a block (6.5.2): the number of one, where it is written or several values stand in it, else no result or one.
+pub fn block_type(ty: &BlockType<'_>) -> wasm_encoder_instr::BlockType
+    requires resolved { BlockResolved (block_tree ty.now).type_use }
+    requires covered { use_forms (block_tree ty.now).type_use ≡ [] }
+    ensures { block_view result ≡ block_meant (block_tree ty.now).type_use }
+{
+    match &ty.ty.index {
+        Some(number) => wasm_encoder_instr::BlockType::FunctionType(index(number)),
+        None => short_block(&ty.ty.inline),
+    }
+}
+
+/// The type of a block without parameters and with one result at most.
+#[tactic(auto, using(crate::proofs::Empty::front, crate::proofs::Empty::back))]
+fn short_block(inline: &Option<FunctionType<'_>>) -> wasm_encoder_instr::BlockType
+    requires resolved { ShortResolved (option_map sig_tree inline.now) }
+    requires covered { inline_forms (option_map sig_tree inline.now) ≡ [] }
+    ensures { block_view result ≡ inline_meant (option_map sig_tree inline.now) }
+{
+    match inline {
+        Some(ty) => results_type(&ty.results),
+        None => wasm_encoder_instr::BlockType::Empty,
+    }
+}
+
+/// The type of a block with no result or one.
+#[tactic(auto, using(crate::proofs::Empty::front))]
+fn results_type(results: &[ValType<'_>]) -> wasm_encoder_instr::BlockType
+    requires resolved { ResultsResolved (map val_tree results.now) }
+    requires covered { flat_map val_forms (map val_tree results.now) ≡ [] }
+    ensures { block_view result ≡ results_meant (map val_tree results.now) }
+{
+    match results {
+        [ty, ..] => wasm_encoder_instr::BlockType::Result(val_type(ty)),
+        [] => wasm_encoder_instr::BlockType::Empty,
+    }
+}
+
+/// A clause of a `try_table` (6.5.2).
+pub fn catch(clause: &TryTableCatch<'_>) -> wasm_encoder_instr::Catch
+    requires { CatchResolved (catch_tree clause.now) }
+    ensures { catch_view result ≡ catch_meant (catch_tree clause.now) }
+{
+    let label = &clause.label;
+    match &clause.kind {
+        TryTableCatchKind::Catch(tag) => wasm_encoder_instr::Catch::One {
+            tag: index(tag),
+            label: index(label),
+        },
+        TryTableCatchKind::CatchRef(tag) => wasm_encoder_instr::Catch::OneRef {
+            tag: index(tag),
+            label: index(label),
+        },
+        TryTableCatchKind::CatchAll => wasm_encoder_instr::Catch::All {
+            label: index(label),
+        },
+        TryTableCatchKind::CatchAllRef => wasm_encoder_instr::Catch::AllRef {
+            label: index(label),
+        },
+    }
+}
