@@ -13,6 +13,12 @@
 //! | `Lays` | which bytes are the binary of a module, and which modules a reader finds; a module without its names |
 //! | `Laws` | the statements of the law functions |
 //! | `Examples` | modules and bytes by hand |
+//!
+//! Of the lemmas in `proofs/`, what encodes modules may use:
+//!
+//! | File of `proofs/` | Says |
+//! |---|---|
+//! | `Spelled` | segments, tables and globals are spelled alike where their expressions are instructions and where they are the bytes of these |
 #![tactic(auto)]
 
 pub mod laws;
