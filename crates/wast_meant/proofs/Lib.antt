@@ -1,0 +1,4 @@
+pub mod Computed
+pub mod OneMeaning
+pub mod Renamed
+pub mod Stands

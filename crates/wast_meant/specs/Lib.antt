@@ -1,0 +1,14 @@
+pub mod Binary
+pub mod Covered
+pub mod CustomsMeant
+pub mod ExampleTrees
+pub mod Examples
+pub mod FieldsMeant
+pub mod InstructionExamples
+pub mod Laws
+pub mod Meaning
+pub mod Means
+pub mod NamesMeant
+pub mod OperandsFit
+pub mod Plain
+pub mod SegmentExamples

@@ -1,0 +1,47 @@
+-- What a text is worth, given which trees it spells: the module that its tree stands for, in which identifiers are bytes; or, of a binary in
+-- pieces, these.
+use Rattle.std.specs.Prelude.{ℕ, ◌≡◌, Bool, not, nat_eq, List}
+use Rattle.std.specs.List.{flat_map}
+use Rattle.wast_grammar.specs.Tokens.{Name}
+use Rattle.wast_grammar.specs.Spelling.{same_name}
+use Rattle.wast_fields.specs.FieldTree as fields
+use Rattle.wast_fields.specs.FieldTree.{Module}
+use Rattle.wast_meaning.specs.Modules.{content_fields}
+use Rattle.wast_meaning.specs.Written.{by_counter}
+use Rattle.wast_deinline.specs.Made.{made}
+use Rattle.wasm_layout.specs.AbstractModule.{AbstractModule}
+use Rattle.wast_meant.specs.NamesMeant.{GivenName}
+use Rattle.wast_meant.specs.Meaning.{Meaning}
+use Rattle.wast_meant.specs.Binary.{in_bytes}
+
+-- names that are made up have a generation
+abbrev pub is_made : Name → Bool
+is_made n = not (nat_eq n.1 0)
+
+-- the names that a new counter makes for a tree
+abbrev pub naming_of : Module Name ℕ → ℕ → Name
+naming_of t = by_counter made 0 (content_fields t.content)
+
+-- the text spells a tree, and that stands for m
+pub record Means {T : Type 0} (Spells : T → Module Name ℕ → Type 0) (text : T) (m : AbstractModule (List ℕ)) : Type 0 where
+  pub tree : Module Name ℕ
+  pub spelled : Spells text tree
+  pub module_meant : AbstractModule (GivenName Name)
+  pub is_meant : Meaning same_name is_made (naming_of tree) tree module_meant
+  pub named : m ≡ in_bytes module_meant
+
+-- the text spells a binary in pieces, which these are when they are joined
+pub record SpellsPieces {T : Type 0} (Spells : T → Module Name ℕ → Type 0) (text : T) (bytes : List ℕ) : Type 0 where
+  pub tree : Module Name ℕ
+  pub spelled : Spells text tree
+  pub pieces : List (List ℕ)
+  pub are_content : tree.content ≡ fields.Pieces pieces
+  pub joined : bytes ≡ flat_map (λ piece. piece) pieces
+
+pub data Worth : Type 0 where
+  Stands : AbstractModule (List ℕ) → Worth
+  Pieces : List ℕ → Worth
+
+abbrev pub IsWorth : {T : Type 0} → (T → Module Name ℕ → Type 0) → T → Worth → Type 0
+IsWorth Spells text (Stands m) = Means Spells text m
+IsWorth Spells text (Pieces bytes) = SpellsPieces Spells text bytes
