@@ -1,0 +1,154 @@
+//! Instructions, each where it stands.
+ghost use Rattle.std.specs.Prelude.{◌≡◌, [], IfOk, OnOk, map, option_map, length};
+ghost use Rattle.wast_grammar.specs.Spelling.{same_name};
+ghost use Rattle.wast_parser.specs.Identifiers.{identifier_tree};
+ghost use Rattle.wast_core_instr.specs.InstructionViews.{instruction_tree};
+ghost use Rattle.wast_core_instr.specs.ExpressionViews.{expression_tree};
+ghost use Rattle.wast_names.specs.Views.{space};
+ghost use Rattle.wast_meaning.specs.Changed.{instr_changed, instrs_changed};
+ghost use Rattle.wast_meaning.specs.Numbered.{numbering};
+ghost use Rattle.wast_meaning.specs.Spaces.{listed};
+ghost use Rattle.wast_well_formed.specs.Views.{turn_view};
+ghost use Rattle.wast_resolve.specs.Rewritten.{expr_changed};
+ghost use Rattle.wast_resolve.specs.Place.{by_place, here};
+ghost use Rattle.wast_resolve.specs.Steps.{behind, seen, step_of, step_view};
+
+use crate::place::Place;
+use crate::step::{Step, steps_of};
+use std::alloc::{AllocError, Global};
+use wast_changed::change_instruction;
+use wast_core_instr::{Expression, Instruction};
+use wast_names::Namespace;
+use wast_scopes::Labels;
+use wast_spaces::Spaces;
+use wast_well_formed::Turn;
+
+/// An expression in which these locals are known. Fails only for want of memory.
+pub(crate) fn number_expression<'a>(
+    alloc: Global,
+    spaces: &Spaces<'a>,
+    locals: &Namespace<'a>,
+    expression: Expression<'a>,
+) -> Result<Expression<'a>, AllocError>
+    ensures { IfOk result (λ new. expression_tree new ≡ expr_changed (by_place spaces.now (space locals.now)) (expression_tree expression.entry)) }
+{
+    let (instrs, branch_hints, instr_spans) = expression.into_parts();
+    match number_instructions(alloc, spaces, locals, instrs) {
+        Ok(instrs) => Ok(Expression {
+            instrs,
+            branch_hints,
+            instr_spans,
+        }),
+        Err(e) => Err(e),
+    }
+}
+
+/// Instructions, each behind those before it.
+fn number_instructions<'a>(
+    alloc: Global,
+    spaces: &Spaces<'a>,
+    locals: &Namespace<'a>,
+    instrs: Vec<Instruction<'a>>,
+) -> Result<Vec<Instruction<'a>>, AllocError>
+    ensures { IfOk result (λ new. map instruction_tree new.items ≡ instrs_changed (by_place spaces.now (space locals.now)) [] (map instruction_tree instrs.entry.items)) }
+{
+    match steps_of(alloc, &instrs) {
+        Ok(steps) => number_by(alloc, spaces, locals, &steps, instrs),
+        Err(e) => Err(e),
+    }
+}
+
+/// The same by what each does to the labels.
+fn number_by<'a>(
+    alloc: Global,
+    spaces: &Spaces<'a>,
+    locals: &Namespace<'a>,
+    steps: &[Step<'a>],
+    instrs: Vec<Instruction<'a>>,
+) -> Result<Vec<Instruction<'a>>, AllocError>
+    requires { map step_view steps.now ≡ map step_of (map instruction_tree instrs.items) }
+    ensures { IfOk result (λ new. map instruction_tree new.items ≡ instrs_changed (by_place spaces.now (space locals.now)) [] (map instruction_tree instrs.entry.items)) }
+{
+    let mut new = Vec::new(alloc);
+    let mut labels = Labels::new(alloc);
+    let mut at = 0;
+    for instr in instrs {
+        match number_next(alloc, spaces, locals, &steps[at], &mut labels, instr) {
+            Ok(instr) => new.push(instr)?,
+            Err(e) => return Err(e),
+        }
+        at += 1;
+    }
+    Ok(new)
+}
+
+/// The next instruction, with what it does to the labels.
+fn number_next<'a>(
+    alloc: Global,
+    spaces: &Spaces<'a>,
+    locals: &Namespace<'a>,
+    step: &Step<'a>,
+    labels: &mut Labels<'a>,
+    instr: Instruction<'a>,
+) -> Result<Instruction<'a>, AllocError>
+    ensures tree { IfOk result (λ new. instruction_tree new ≡ instr_changed (numbering (here spaces.now (space locals.now) (listed same_name (seen (turn_view step.now.turn) labels.old)))) (instruction_tree instr.entry)) }
+    ensures labels { OnOk result (labels.new ≡ behind (turn_view step.now.turn) (option_map identifier_tree step.now.label) (seen (turn_view step.now.turn) labels.old)) }
+{
+    see(step, labels);
+    match number_one(alloc, spaces, locals, labels, instr) {
+        Ok(instr) => and_pass(step, labels, instr),
+        Err(e) => Err(e),
+    }
+}
+
+/// Goes behind an instruction, and answers a value that it is given.
+fn and_pass<'a, T: Drop>(
+    step: &Step<'a>,
+    labels: &mut Labels<'a>,
+    value: T,
+) -> Result<T, AllocError>
+    ensures same { IfOk result (λ same. same ≡ value) }
+    ensures labels { OnOk result (labels.new ≡ behind (turn_view step.now.turn) (option_map identifier_tree step.now.label) labels.old) }
+{
+    match pass(step, labels) {
+        Ok(()) => Ok(value),
+        Err(e) => Err(e),
+    }
+}
+
+/// An instruction where these locals and labels are known.
+fn number_one<'a>(
+    alloc: Global,
+    spaces: &Spaces<'a>,
+    locals: &Namespace<'a>,
+    labels: &Labels<'a>,
+    instr: Instruction<'a>,
+) -> Result<Instruction<'a>, AllocError>
+    ensures { IfOk result (λ new. instruction_tree new ≡ instr_changed (numbering (here spaces.now (space locals.now) (listed same_name labels.now))) (instruction_tree instr.entry)) }
+{
+    let place = Place {
+        spaces,
+        locals,
+        labels,
+    };
+    change_instruction(alloc, &place, instr)
+}
+
+/// Goes to where an instruction sees labels: one that closes a block, outside that.
+fn see<'a>(step: &Step<'a>, labels: &mut Labels<'a>)
+    ensures { labels.new ≡ seen (turn_view step.now.turn) labels.old }
+{
+    if step.turn == Turn::Closes {
+        labels.close();
+    }
+}
+
+/// Goes behind an instruction: one that opens a block, into that. Fails only where no memory is found, or 4294967295 blocks are open.
+fn pass<'a>(step: &Step<'a>, labels: &mut Labels<'a>) -> Result<(), AllocError>
+    ensures { OnOk result (labels.new ≡ behind (turn_view step.now.turn) (option_map identifier_tree step.now.label) labels.old) }
+{
+    match step.turn {
+        Turn::Opens => labels.open(&step.label),
+        Turn::Closes | Turn::Stays => Ok(()),
+    }
+}

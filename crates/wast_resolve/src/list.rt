@@ -1,0 +1,55 @@
+//! Lists, and outcomes of which both are needed.
+ghost use Rattle.std.specs.Prelude.{◌≡◌, [], ◌∷◌, ◌++◌, Ok, IfOk, OnOk, map};
+
+use std::alloc::{AllocError, Global};
+
+/// What becomes of each item of a list.
+pub(crate) trait Each<T: Drop> {
+    /// What contracts see of an item.
+    ghost Tree: { Type 0 };
+
+    ghost tree: { T → Tree };
+
+    /// What becomes of it.
+    ghost turned: { Self → Tree → Tree };
+
+    /// Makes of an item what becomes of it. Fails only for want of memory.
+    fn turn(&self, alloc: Global, item: T) -> Result<T, AllocError>
+        ensures { IfOk result (λ new. tree new ≡ turned self.now (tree item)) };
+}
+
+/// A list, item by item. Fails only for want of memory.
+pub(crate) fn turn_list<T: Drop, E: Each<T>>(
+    alloc: Global,
+    each: &E,
+    items: Vec<T>,
+) -> Result<Vec<T>, AllocError>
+    ensures { IfOk result (λ new. map E.tree new.items ≡ map (E.turned each.now) (map E.tree items.items)) }
+{
+    let mut new = Vec::with_capacity(alloc, items.len())?;
+    for item in items {
+        new.push(each.turn(alloc, item)?)?;
+    }
+    Ok(new)
+}
+
+/// Appends an item. Fails only for want of memory.
+pub(crate) fn push_item<T: Drop>(items: &mut Vec<T>, item: T) -> Result<(), AllocError>
+    ensures { OnOk result (items.new.items ≡ items.old.items ++ item ∷ []) }
+{
+    items.push(item)?;
+    Ok(())
+}
+
+/// Both, where neither is refused.
+pub(crate) fn both<A: Drop, B: Drop>(
+    first: Result<A, AllocError>,
+    second: Result<B, AllocError>,
+) -> Result<(A, B), AllocError>
+    ensures first { IfOk result (λ pair. first ≡ Ok pair.0) }
+    ensures second { IfOk result (λ pair. second ≡ Ok pair.1) }
+{
+    let first = first?;
+    let second = second?;
+    Ok((first, second))
+}

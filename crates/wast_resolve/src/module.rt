@@ -1,0 +1,110 @@
+//! Modules, resolved.
+ghost use Rattle.std.specs.Prelude.{◌≡◌, ◌⊎◌, ℕ, ◌+◌, ◌^◌, ◌<◌, [], None, Some, length, IfErr, IfOk, OnOk};
+ghost use Rattle.wast_grammar.specs.Tokens.{Name};
+ghost use Rattle.wast_parser.specs.Problem.{Problem};
+ghost use Rattle.wast_parser.specs.Reading.{out_of_memory};
+ghost use Rattle.wast_core.specs.ModuleViews.{content_tree, module_tree};
+ghost use Rattle.wast_fields.specs.FieldTree as spec;
+ghost use Rattle.wast_names.specs.Demand.{Answers};
+ghost use Rattle.wast_meaning.specs.Modules.{content_fields};
+ghost use Rattle.wast_resolve.specs.Resolving.{Means};
+ghost use Rattle.wast_resolve.specs.Whole.{IsRefused, content_by, demands_by, module_by, module_demands_by, names_spaces, written_by};
+
+use crate::names::Resolver;
+use crate::whole::{Names, resolve_in_place};
+use std::alloc::Global;
+use wast_core::{Module, ModuleKind};
+use wast_parser::{Error, Gensym};
+use wast_spaces::Spaces;
+
+/// A module whose names can be resolved.
+pub trait ResolveModule<'a> {
+    /// What contracts see of it.
+    ghost tree: { Self → spec.Module Name ℕ };
+
+    /// Writes the fields out, gives each use its type and makes each index the number that it means (6.1.3, 6.6.3), and answers what names
+    /// mean. Pieces of a binary stay as they are. A field that is referred to and has no name takes the next one of `gensym`, and there is
+    /// room for one a field.
+    ///
+    /// Refuses a module of which a demand of names isn't met, by the first, with its place and message; else only where no memory is found,
+    /// or there are more than 4294967295 items of a kind or blocks inside each other. The module then keeps why, and each later call is
+    /// refused by a copy of that, or for want of memory for the copy. The fields of a module that is refused may be gone.
+    fn resolve(&mut self, alloc: Global, gensym: &mut Gensym) -> Result<Names<'a>, Error>
+        requires { gensym.old + length (content_fields (tree self.old).content) < 2 ^ 32 }
+        ensures answers { (tree self.old).refusal ≡ None → Answers result (module_demands_by gensym.old (tree self.old)) }
+        ensures resolved { OnOk result (((tree self.old).refusal ≡ None) × (tree self.new ≡ module_by gensym.old (tree self.old))) }
+        ensures names { IfOk result (λ n. Means (names_spaces n) (written_by gensym.old (content_fields (tree self.old).content))) }
+        ensures refused { IfErr result (IsRefused (tree self.new)) }
+        ensures kept { (why : Problem) → (tree self.old).refusal ≡ Some why → tree self.new ≡ tree self.old };
+}
+
+impl<'a> ResolveModule<'a> for Module<'a> {
+    ghost tree = { module_tree };
+
+    fn resolve(&mut self, alloc: Global, gensym: &mut Gensym) -> Result<Names<'a>, Error> {
+        match &self.refusal {
+            Some(why) => Err(copy_of(alloc, why)),
+            None => resolve_first(alloc, self, gensym),
+        }
+    }
+}
+
+/// The same of a module that isn't refused.
+fn resolve_first<'a>(
+    alloc: Global,
+    module: &mut Module<'a>,
+    gensym: &mut Gensym,
+) -> Result<Names<'a>, Error>
+    requires { gensym.old + length (content_fields (content_tree «module».old.kind)) < 2 ^ 32 }
+    ensures answers { Answers result (module_demands_by gensym.old (module_tree «module».old)) }
+    ensures resolved { OnOk result (module_tree «module».new ≡ module_by gensym.old (module_tree «module».old)) }
+    ensures names { IfOk result (λ n. Means (names_spaces n) (written_by gensym.old (content_fields (content_tree «module».old.kind)))) }
+    ensures refused { IfErr result (IsRefused (module_tree «module».new)) }
+{
+    match resolve_content(alloc, &mut module.kind, gensym) {
+        Ok(names) => Ok(names),
+        Err(why) => {
+            let told = copy_of(alloc, &why);
+            module.refusal = Some(why);
+            Err(told)
+        }
+    }
+}
+
+/// The same of what a module holds; refused, its fields may be gone.
+fn resolve_content<'a>(
+    alloc: Global,
+    content: &mut ModuleKind<'a>,
+    gensym: &mut Gensym,
+) -> Result<Names<'a>, Error>
+    requires { gensym.old + length (content_fields (content_tree content.old)) < 2 ^ 32 }
+    ensures answers { Answers result (demands_by gensym.old (content_fields (content_tree content.old))) }
+    ensures resolved { OnOk result (content_tree content.new ≡ content_by gensym.old (content_tree content.old)) }
+    ensures names { IfOk result (λ n. Means (names_spaces n) (written_by gensym.old (content_fields (content_tree content.old)))) }
+{
+    match content {
+        ModuleKind::Text(fields) => resolve_in_place(alloc, fields, gensym),
+        ModuleKind::Binary(_) => Ok(no_names(alloc)),
+    }
+}
+
+/// What the names mean of a module without fields.
+fn no_names<'a>(alloc: Global) -> Names<'a>
+    ensures { Means (names_spaces result) [] }
+{
+    Names {
+        resolver: Resolver {
+            spaces: Spaces::new(alloc),
+        },
+    }
+}
+
+/// A copy of an error, or that there is no memory for one.
+fn copy_of(alloc: Global, why: &Error) -> Error
+    ensures { (result ≡ why.now) ⊎ (result ≡ out_of_memory) }
+{
+    match why.clone(alloc) {
+        Ok(copy) => copy,
+        Err(e) => Error::from(e),
+    }
+}

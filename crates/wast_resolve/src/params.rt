@@ -1,0 +1,70 @@
+//! How many parameters types have.
+ghost use Rattle.std.specs.Prelude.{◌≡◌, [], ◌∷◌, ◌++◌, false, true, IfOk, OnOk, map, length};
+ghost use Rattle.std.specs.List.{flat_map};
+ghost use Rattle.wast_core_types.specs.TypeViews.{inner_tree, item_tree};
+ghost use Rattle.wast_core.specs.ModuleViews.{field_tree};
+ghost use Rattle.wast_meaning.specs.Implied.{written_types};
+ghost use Rattle.wast_resolve.specs.Params.{inner_count, param_count};
+
+use std::alloc::{AllocError, Global};
+use wast_core::{ModuleField, TypeItem};
+use wast_core_types::InnerTypeKind;
+
+/// Those of the types that fields write, in order; one that is no function type has none. Fails only for want of memory.
+pub(crate) fn param_counts<'a>(
+    alloc: Global,
+    fields: &[ModuleField<'a>],
+) -> Result<Vec<usize>, AllocError>
+    ensures { IfOk result (λ counts. counts.items ≡ map param_count (flat_map written_types (map field_tree fields.now))) }
+{
+    let mut counts = Vec::new(alloc);
+    for field in fields {
+        match count_field(field, &mut counts) {
+            Ok(()) => {}
+            Err(e) => return Err(e),
+        }
+    }
+    Ok(counts)
+}
+
+/// Appends those of a field.
+fn count_field(field: &ModuleField<'_>, counts: &mut Vec<usize>) -> Result<(), AllocError>
+    ensures { OnOk result (counts.new.items ≡ counts.old.items ++ map param_count (written_types (field_tree field.now))) }
+{
+    match field {
+        ModuleField::TypeItem(item) => count_type(item, counts),
+        ModuleField::Rec(group) => count_types(&group.types, counts),
+        _ => Ok(()),
+    }
+}
+
+/// Appends those of types that stand in a group.
+fn count_types(items: &[TypeItem<'_>], counts: &mut Vec<usize>) -> Result<(), AllocError>
+    ensures { OnOk result (counts.new.items ≡ counts.old.items ++ map param_count (map (λ t. (t, true)) (map item_tree items.now))) }
+{
+    for item in items {
+        match count_type(item, counts) {
+            Ok(()) => {}
+            Err(e) => return Err(e),
+        }
+    }
+    Ok(())
+}
+
+/// Appends that of a type.
+fn count_type(item: &TypeItem<'_>, counts: &mut Vec<usize>) -> Result<(), AllocError>
+    ensures { OnOk result (counts.new.items ≡ counts.old.items ++ inner_count (item_tree item.now).definition.comp.inner ∷ []) }
+{
+    counts.push(params_of(&item.def.kind))?;
+    Ok(())
+}
+
+/// How many parameters a type has.
+fn params_of(kind: &InnerTypeKind<'_>) -> usize
+    ensures { result ≡ inner_count (inner_tree kind.now) }
+{
+    match kind {
+        InnerTypeKind::Func(signature) => signature.params.len(),
+        _ => 0,
+    }
+}
