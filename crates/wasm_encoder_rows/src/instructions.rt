@@ -39,7 +39,7 @@ fn print_control(rt: &(impl Print + AllocGlobal)) -> io::Result<()> {
     Ok(())
 }
 
-/// One of them.
+/// The instruction of a row of control.
 fn control(row: u32) -> Instruction<'static> {
     match row {
         0 => Instruction::Unreachable,
@@ -88,7 +88,7 @@ fn print_legacy_exceptions(rt: &(impl Print + AllocGlobal)) -> io::Result<()> {
     Ok(())
 }
 
-/// One of them.
+/// The exception instruction of a row.
 fn legacy_exception(row: u32) -> Instruction<'static> {
     match row {
         0 => Instruction::Try(BlockType::Empty),
@@ -106,7 +106,7 @@ fn print_parametric_and_variable(rt: &(impl Print + AllocGlobal)) -> io::Result<
     Ok(())
 }
 
-/// One of them.
+/// The instruction of a row that is parametric, or of variables, tables or memories.
 fn parametric_or_variable(row: u32) -> Instruction<'static> {
     match row {
         0 => Instruction::Drop,
@@ -135,7 +135,7 @@ fn print_constants(rt: &(impl Print + AllocGlobal)) -> io::Result<()> {
     Ok(())
 }
 
-/// One of them.
+/// The constant of a row.
 fn constant(row: u32) -> Instruction<'static> {
     match row {
         0 => Instruction::I32Const(-1),
@@ -153,7 +153,7 @@ fn print_families(rt: &(impl Print + AllocGlobal)) -> io::Result<()> {
     Ok(())
 }
 
-/// One of them.
+/// The instruction of a row, one a family.
 fn family_member(row: u32) -> Instruction<'static> {
     match row {
         0 => Instruction::Compare(CompareOp::F64Ge),
@@ -365,7 +365,7 @@ fn print_memory_arguments(rt: &(impl Print + AllocGlobal)) -> io::Result<()> {
     Ok(())
 }
 
-/// One of them.
+/// The instruction of a row with a memory argument.
 fn with_memory_argument(row: u32) -> Instruction<'static> {
     let memarg = |align, memory| MemArg {
         offset: 128,
