@@ -3,20 +3,20 @@ use Rattle.std.proofs.Common.{refl, arith}
 use Rattle.wasm_encoder_base.specs.Leb.{uleb, sleb, leb, digits}
 use Rattle.wasm_encoder_base.specs.Table.{entry_at, table}
 use Rattle.wasm_encoder_custom.specs.Names.{Space, Functions, Types, Tables, Memories, Globals, Elements, DataSegments, Tags}
-use Rattle.wasm_layout.specs.IsModule.{AreBytes, IsMap}
+use Rattle.wasm_layout.specs.IsModule.{IsMap}
 use Rattle.wasm_layout.specs.Examples.{called_f, hinted}
 use Rattle.wasm_layout.specs.Layout.{layout}
 use Rattle.wasm_layout.specs.Lays.{Reads}
 
-maps : (space : Space) → IsMap AreBytes (called_f space)
-maps Functions = record { indices = (omega arith, omega arith, tt); names = ((omega arith, tt), tt) }
-maps Types = record { indices = tt; names = tt }
-maps Tables = record { indices = tt; names = tt }
-maps Memories = record { indices = tt; names = tt }
-maps Globals = record { indices = tt; names = tt }
-maps Elements = record { indices = tt; names = tt }
-maps DataSegments = record { indices = tt; names = tt }
-maps Tags = record { indices = tt; names = tt }
+maps : (space : Space) → IsMap (called_f space)
+maps Functions = (omega arith, omega arith, tt)
+maps Types = tt
+maps Tables = tt
+maps Memories = tt
+maps Globals = tt
+maps Elements = tt
+maps DataSegments = tt
+maps Tags = tt
 
 pub read : Reads (layout hinted) hinted
 unfolding uleb sleb leb digits entry_at table
@@ -41,11 +41,10 @@ read = record {
       start = tt;
       elements = tt;
       datas = tt;
-      names = record { module_name = tt; items = maps; inner = λ space. record { indices = tt; each = tt } };
+      names = record { items = maps; inner = λ space. record { indices = tt; each = tt } };
       hint_functions = (omega arith, omega arith, tt);
       hints = (record { function = _; is_at = refl; is_some = omega arith; indices = (omega arith, omega arith, tt); each = (record { index = omega arith; value = omega arith }, tt) }, tt);
       gaps = refl;
-      customs = (tt, ((record { name = (omega arith, tt); contents = (omega arith, (omega arith, tt)) }, tt), (tt, (tt, (tt, (tt, tt))))));
     };
     fits = record { sizes = (omega arith, (omega arith, (omega arith, (omega arith, (omega arith, (omega arith, tt)))))); locals = (tt, tt) };
     bytes = refl;

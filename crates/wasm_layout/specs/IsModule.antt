@@ -9,17 +9,13 @@ use Rattle.wasm_encoder_items.specs.EntityTypes.{Limits, TableType, EntityType, 
 use Rattle.wasm_encoder_items.specs.Imports.{Imports, One, OfModule, OfType, Export}
 use Rattle.wasm_encoder_items.specs.Segments.{Table, WithoutInit, WithInit, Global, ElementSegment, ActiveFunctions, PassiveFunctions, ActiveTableFunctions, DeclaredFunctions, ActiveExpressions, PassiveExpressions, ActiveTableExpressions, DeclaredExpressions, DataSegment, ActiveData, PassiveData}
 use Rattle.wasm_encoder_items.specs.TypeEntries.{TypeEntry, OneType, TypeGroup}
-use Rattle.wasm_encoder_custom.specs.Custom.{Custom}
 use Rattle.wasm_encoder_custom.specs.Names.{Space, InnerSpace}
 use Rattle.wasm_layout.specs.Section.{order}
 use Rattle.wasm_layout.specs.AbstractModule.{Function, Naming, InnerNaming, NameMaps, Hint, FunctionHints, AbstractModule}
 use Rattle.wasm_layout.specs.Present.{is_present}
 use Rattle.wasm_layout.specs.Layout.{function_at}
 
--- bytes, and numbers of 32 and of 64 bits (5.2.1 and 5.2.2)
-abbrev pub AreBytes : List ℕ → Type 0
-AreBytes bytes = AllByRecursion (λ b. b < 256) bytes
-
+-- numbers of 32 and of 64 bits (5.2.2)
 abbrev pub IsU32 : ℕ → Type 0
 IsU32 n = n < 2 ^ 32
 
@@ -53,13 +49,12 @@ IsEntity (TagEntity index) = IsU32 index
 
 -- imports and exports (5.5.5 and 5.5.10)
 abbrev pub IsImport : Imports → Type 0
-IsImport (One i) = AreBytes i.module_name × AreBytes i.name × IsEntity i.type
-IsImport (OfModule from items) = AreBytes from × AllByRecursion (λ i. AreBytes i.name × IsEntity i.type) items
-IsImport (OfType from type names) = AreBytes from × IsEntity type × AllByRecursion AreBytes names
+IsImport (One i) = IsEntity i.type
+IsImport (OfModule from items) = AllByRecursion (λ i. IsEntity i.type) items
+IsImport (OfType from type names) = IsEntity type
 
-pub record IsExport (e : Export) : Type 0 where
-  pub name : AreBytes e.name
-  pub index : IsU32 e.index
+abbrev pub IsExport : Export → Type 0
+IsExport e = IsU32 e.index
 
 -- functions (5.5.6 and 5.5.13)
 pub record IsFunction (f : Function) : Type 0 where
@@ -87,12 +82,8 @@ IsElement (ActiveTableExpressions table offset type elements) = IsU32 table × I
 IsElement (DeclaredExpressions type elements) = IsHeapType type.heap_type × AllByRecursion IsExpression elements
 
 abbrev pub IsData : DataSegment (List Instr) → Type 0
-IsData (ActiveData memory offset bytes) = IsU32 memory × IsExpression offset × AreBytes bytes
-IsData (PassiveData bytes) = AreBytes bytes
-
-pub record IsCustom (c : Custom) : Type 0 where
-  pub name : AreBytes c.name
-  pub contents : AreBytes c.contents
+IsData (ActiveData memory offset bytes) = IsU32 memory × IsExpression offset
+IsData (PassiveData bytes) = Unit {0}
 
 -- numbers of 32 bits that rise, from one on
 abbrev pub Rise : ℕ → List ℕ → Type 0
@@ -100,11 +91,10 @@ Rise least [] = Unit {0}
 Rise least (n ∷ ns) = (least ≤ n) × IsU32 n × Rise (suc n) ns
 
 -- NAME MAPS: their indices rise, and no inner one is empty (appendix, Name Section)
-module _ {A : Type 0} (IsName : A → Type 0) where
-  pub record IsMap (ns : List (Naming A)) : Type 0 where
-    pub indices : Rise 0 (map (λ n. n.index) ns)
-    pub names : AllByRecursion (λ n. IsName n.name) ns
+abbrev pub IsMap : {A : Type 0} → List (Naming A) → Type 0
+IsMap ns = Rise 0 (map (λ n. n.index) ns)
 
+module _ {A : Type 0} where
   pub record IsInner (n : InnerNaming A) : Type 0 where
     pub is_some : 0 < length n.names
     pub is_map : IsMap n.names
@@ -114,7 +104,6 @@ module _ {A : Type 0} (IsName : A → Type 0) where
     pub each : AllByRecursion IsInner ns
 
   pub record AreNames (names : NameMaps A) : Type 0 where
-    pub module_name : IfThere IsName names.module_name
     pub items : (space : Space) → IsMap (names.items space)
     pub inner : (space : InnerSpace) → AreInner (names.inner space)
 
@@ -131,8 +120,8 @@ pub record AreHints {A : Type 0} (m : AbstractModule A) (g : FunctionHints) : Ty
   pub each : AllByRecursion (IsHint function) g.hints
 
 -- MODULES: numbers are in range, expressions close the blocks that they open, maps and hints rise, and each gap between sections that
--- are there has its custom sections. Names meet a condition.
-pub record IsModule {A : Type 0} (IsName : A → Type 0) (m : AbstractModule A) : Type 0 where
+-- are there has its custom sections. What is copied, as names and data, is bytes where the binary is.
+pub record IsModule {A : Type 0} (m : AbstractModule A) : Type 0 where
   pub types : AllByRecursion IsEntry m.types
   pub imports : AllByRecursion IsImport m.imports
   pub functions : AllByRecursion IsFunction m.functions
@@ -144,8 +133,7 @@ pub record IsModule {A : Type 0} (IsName : A → Type 0) (m : AbstractModule A) 
   pub start : IfThere IsU32 m.start
   pub elements : AllByRecursion IsElement m.elements
   pub datas : AllByRecursion IsData m.datas
-  pub names : AreNames IsName m.names
+  pub names : AreNames m.names
   pub hint_functions : Rise 0 (map (λ g. g.function) m.hints)
   pub hints : AllByRecursion (AreHints m) m.hints
   pub gaps : length m.customs ≡ length (filter (is_present m) order) + 1
-  pub customs : AllByRecursion (AllByRecursion IsCustom) m.customs

@@ -6,7 +6,7 @@ use Rattle.wasm_layout.specs.Section.{Names}
 use Rattle.wasm_layout.specs.AbstractModule.{NameMaps, AbstractModule}
 use Rattle.wasm_layout.specs.Present.{is_present, is_called}
 use Rattle.wasm_layout.specs.Layout.{contents, pieces, layout}
-use Rattle.wasm_layout.specs.IsModule.{AreBytes, IsU32, IsModule}
+use Rattle.wasm_layout.specs.IsModule.{IsU32, IsModule}
 
 -- The size of each section is a number of 32 bits, and with it each count and length inside; so is the count of locals of one type side
 -- by side, which takes no more bytes where it is larger.
@@ -16,7 +16,7 @@ pub record Fits (m : AbstractModule (List ℕ)) : Type 0 where
 
 -- b is the binary of m
 pub record Lays (b : List ℕ) (m : AbstractModule (List ℕ)) : Type 0 where
-  pub is_module : IsModule AreBytes m
+  pub is_module : IsModule m
   pub fits : Fits m
   pub bytes : b ≡ layout m
 

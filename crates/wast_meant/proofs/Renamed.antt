@@ -4,7 +4,7 @@ use Rattle.std.specs.List.{AllByRecursion, list_any}
 use Rattle.wasm_layout.specs.Section.{SectionKind, Types, Imports, Functions, Tables, Memories, Tags, Globals, Exports, Starts, Elements, DataCount, Hints, Codes, Datas, Names, order}
 use Rattle.wasm_layout.specs.AbstractModule.{Naming, InnerNaming, NameMaps, FunctionHints, AbstractModule}
 use Rattle.wasm_layout.specs.Present.{has_any, MapKind, OfModule, OfItems, Inner, map_order, has_map, is_called, is_present}
-use Rattle.wasm_layout.specs.IsModule.{IfThere, Rise, IsMap, IsInner, AreInner, AreHints, IsModule}
+use Rattle.wasm_layout.specs.IsModule.{Rise, IsMap, IsInner, AreInner, AreHints, IsModule}
 use Rattle.wast_meant.specs.Binary.{naming_with, inner_with, maps_with, module_with}
 
 any_of_map : {A B : Type 0} (f : A → B) (xs : List A) → has_any (map f xs) ≡ has_any xs
@@ -51,49 +51,38 @@ module _ {A B : Type 0} (f : A → B) where
   same_inner [] = refl
   same_inner (n ∷ ns) = ap (λ v. n.index ∷ v) (same_inner ns)
 
-  module _ (P : A → Type 0) (Q : B → Type 0) (goes : (a : A) → P a → Q (f a)) where
-    each_name : (ns : List (Naming A)) → AllByRecursion (λ n. P n.name) ns → AllByRecursion (λ n. Q n.name) (map (naming_with f) ns)
-    each_name [] h = tt
-    each_name (n ∷ ns) h = (goes n.name h.0, each_name ns h.1)
+  map_is : (ns : List (Naming A)) → IsMap ns → IsMap (map (naming_with f) ns)
+  map_is ns h = subst (Rise 0) (sym (same_indices ns)) h
 
-    map_is : (ns : List (Naming A)) → IsMap P ns → IsMap Q (map (naming_with f) ns)
-    map_is ns h = record { indices = subst (Rise 0) (sym (same_indices ns)) h.indices; names = each_name ns h.names }
+  each_inner : (ns : List (InnerNaming A)) → AllByRecursion IsInner ns → AllByRecursion IsInner (map (inner_with f) ns)
+  each_inner [] h = tt
+  each_inner (n ∷ ns) h = (record { is_some = subst (λ k. 0 < k) (sym (length_of_map (naming_with f) n.names)) h.0.is_some; is_map = map_is n.names h.0.is_map }, each_inner ns h.1)
 
-    each_inner : (ns : List (InnerNaming A)) → AllByRecursion (IsInner P) ns → AllByRecursion (IsInner Q) (map (inner_with f) ns)
-    each_inner [] h = tt
-    each_inner (n ∷ ns) h = (record { is_some = subst (λ k. 0 < k) (sym (length_of_map (naming_with f) n.names)) h.0.is_some; is_map = map_is n.names h.0.is_map }, each_inner ns h.1)
+  inner_is : (ns : List (InnerNaming A)) → AreInner ns → AreInner (map (inner_with f) ns)
+  inner_is ns h = record { indices = subst (Rise 0) (sym (same_inner ns)) h.indices; each = each_inner ns h.each }
 
-    inner_is : (ns : List (InnerNaming A)) → AreInner P ns → AreInner Q (map (inner_with f) ns)
-    inner_is ns h = record { indices = subst (Rise 0) (sym (same_inner ns)) h.indices; each = each_inner ns h.each }
+  each_hint : (m : AbstractModule A) (gs : List FunctionHints) → AllByRecursion (AreHints m) gs → AllByRecursion (AreHints (module_with f m)) gs
+  each_hint m [] h = tt
+  each_hint m (g ∷ gs) h = (record { function = h.0.function; is_at = h.0.is_at; is_some = h.0.is_some; indices = h.0.indices; each = h.0.each }, each_hint m gs h.1)
 
-    module_name_is : (o : Option A) → IfThere P o → IfThere Q (option_map f o)
-    module_name_is None h = tt
-    module_name_is (Some a) h = goes a h
-
-    each_hint : (m : AbstractModule A) (gs : List FunctionHints) → AllByRecursion (AreHints m) gs → AllByRecursion (AreHints (module_with f m)) gs
-    each_hint m [] h = tt
-    each_hint m (g ∷ gs) h = (record { function = h.0.function; is_at = h.0.is_at; is_some = h.0.is_some; indices = h.0.indices; each = h.0.each }, each_hint m gs h.1)
-
-    pub renamed : (m : AbstractModule A) → IsModule P m → IsModule Q (module_with f m)
-    renamed m h = record {
-      types = h.types;
-      imports = h.imports;
-      functions = h.functions;
-      tables = h.tables;
-      memories = h.memories;
-      tags = h.tags;
-      globals = h.globals;
-      exports = h.exports;
-      start = h.start;
-      elements = h.elements;
-      datas = h.datas;
-      names = record {
-        module_name = module_name_is m.names.module_name h.names.module_name;
-        items = λ space. map_is (m.names.items space) (h.names.items space);
-        inner = λ space. inner_is (m.names.inner space) (h.names.inner space);
-      };
-      hint_functions = h.hint_functions;
-      hints = each_hint m m.hints h.hints;
-      gaps = h.gaps ∙ sym (λ i. length (filter (λ k. same_sections m k i) order) + 1);
-      customs = h.customs;
-    }
+  pub renamed : (m : AbstractModule A) → IsModule m → IsModule (module_with f m)
+  renamed m h = record {
+    types = h.types;
+    imports = h.imports;
+    functions = h.functions;
+    tables = h.tables;
+    memories = h.memories;
+    tags = h.tags;
+    globals = h.globals;
+    exports = h.exports;
+    start = h.start;
+    elements = h.elements;
+    datas = h.datas;
+    names = record {
+      items = λ space. map_is (m.names.items space) (h.names.items space);
+      inner = λ space. inner_is (m.names.inner space) (h.names.inner space);
+    };
+    hint_functions = h.hint_functions;
+    hints = each_hint m m.hints h.hints;
+    gaps = h.gaps ∙ sym (λ i. length (filter (λ k. same_sections m k i) order) + 1);
+  }

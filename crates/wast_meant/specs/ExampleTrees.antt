@@ -23,9 +23,9 @@ use Rattle.wast_meaning.specs.Demands.{all_demands}
 use Rattle.wast_meaning.specs.Numbered.{resolved}
 use Rattle.wast_meaning.specs.WellFormed.{breaches}
 use Rattle.wast_meaning.specs.Written.{by_counter}
-use Rattle.wast_deinline.specs.Made.{made}
+use Rattle.wast_meaning.specs.Made.{made}
 use Rattle.wasm_layout.specs.Layout.{layout}
-use Rattle.wast_meant.specs.Meaning.{fields_fit, meant}
+use Rattle.wast_meant.specs.Meaning.{meant}
 use Rattle.wast_meant.specs.Covered.{uncovered}
 use Rattle.wast_meant.specs.Binary.{in_bytes}
 use Rattle.wast_meant.specs.Means.{is_made}
@@ -133,7 +133,6 @@ pub record Assembles (fs : List Tree) (bytes : List ℕ) : Type 0 where
   pub is_formed : breaches same_name is_made fs ≡ []
   pub are_met : first_unmet is_met (all_demands same_name (fresh fs) fs) ≡ None
   pub is_covered : uncovered (fresh fs) fs ≡ None
-  pub operands_fit : fields_fit fs ≡ true
   pub binary : layout (in_bytes (meant same_name is_made None (resolved same_name (fresh fs) fs))) ≡ header ++ bytes
 
 abbrev pub IsUncovered : List Tree → ℕ → String → Type 0

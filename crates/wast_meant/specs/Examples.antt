@@ -14,6 +14,8 @@ use Rattle.wast_fields.specs.FieldTree as fields
 use Rattle.wast_fields.specs.FieldTree.{Indices, TableOf, MemoryOf, Tag, Table, ActiveElem, PassiveData, ActiveData, TypeField, RecField, ImportField, Define, ExportField, ElemField, DataField, CustomField}
 use Rattle.wast_grammar.specs.Spelling.{same_name}
 use Rattle.wast_meaning.specs.Numbered.{resolved}
+use Rattle.wasm_layout.specs.IsModule.{IsModule}
+use Rattle.wast_meant.specs.Binary.{in_bytes}
 use Rattle.wast_meant.specs.Meaning.{FieldsMean, meant}
 use Rattle.wast_meant.specs.Means.{is_made}
 use Rattle.wast_meant.specs.ExampleTrees.{Tree, fresh, id, says, num, i32, i64, ref, funcref, local, unnamed, sig, no_use, with_sig, definition, type_item, one_page, one_funcref, ins, plain, const, end, block, expr, define, func_of, func, typed, item, import, custom, Assembles, IsUncovered}
@@ -127,5 +129,6 @@ pub record MeaningExamples : Type 0 where
   pub continuation : IsUncovered (typed (with_sig (Ref (record { nullable = true; heap_type = Abstract false Cont }) ∷ []) []) ∷ []) 0 "cont type"
   -- a table of exact references that stand inline: the table comes before its segment
   pub inline_exact : IsUncovered (Define (record { place = 7; id = None; given = None; exports = []; defined = TableOf false (record { nullable = true; heap_type = Exact (num 0) }) (Indices []) }) ∷ []) 7 "exact type"
-  -- something stands for a module
+  -- something stands for a module, whose numbers are in range
   pub stands : FieldsMean same_name is_made (fresh only_f) None only_f (meant same_name is_made None (resolved same_name (fresh only_f) only_f))
+  pub is_module : IsModule (in_bytes (meant same_name is_made None (resolved same_name (fresh only_f) only_f)))

@@ -9,6 +9,5 @@ pub mod Laws
 pub mod Meaning
 pub mod Means
 pub mod NamesMeant
-pub mod OperandsFit
 pub mod Plain
 pub mod SegmentExamples

@@ -1,36 +1,19 @@
 -- The module that a tree stands for (WebAssembly 3.0, 6.6): what stands inline is written out, what is left out and the indices of names are
 -- numbers, identifiers are names of maps.
-use Rattle.std.specs.Prelude.{ℕ, ◌≡◌, Bool, true, List, [], ◌∷◌, map, slice_get, Option, None}
-use Rattle.std.specs.List.{flat_map, list_all}
+use Rattle.std.specs.Prelude.{ℕ, ◌≡◌, Bool, List, [], ◌∷◌, map, slice_get, Option, None}
+use Rattle.std.specs.List.{flat_map}
 use Rattle.wast_names.specs.Walk.{first_unmet}
 use Rattle.wast_names.specs.Demand.{is_met}
 use Rattle.wast_fields.specs.FieldTree.{Field, Content, Fields, Pieces, Module}
-use Rattle.wast_meaning.specs.Mentions.{Part, Says, Constant, Body, parts}
 use Rattle.wast_meaning.specs.Demands.{all_demands}
 use Rattle.wast_meaning.specs.Numbered.{resolved}
 use Rattle.wast_meaning.specs.WellFormed.{breaches}
 use Rattle.wasm_layout.specs.AbstractModule.{AbstractModule}
 use Rattle.wasm_layout.specs.Present.{is_present}
-use Rattle.wasm_layout.specs.IsModule.{AreBytes, IsModule}
-use Rattle.wast_meant.specs.OperandsFit.{instrs_fit}
 use Rattle.wast_meant.specs.FieldsMeant.{types_of, imports_of, defined_in, functions_of, tables_of, memories_of, tags_of, globals_of, exports_of, starts_of, elements_of, datas_of}
-use Rattle.wast_meant.specs.NamesMeant.{GivenName, Identifier, Bytes, given_name, names_of, bodies_in, hints_from}
+use Rattle.wast_meant.specs.NamesMeant.{GivenName, given_name, names_of, bodies_in, hints_from}
 use Rattle.wast_meant.specs.CustomsMeant.{custom_of, customs_in, gaps}
 use Rattle.wast_meant.specs.Covered.{uncovered}
-
--- what `@name` gives are bytes
-abbrev pub IsGiven : {N : Type 0} → GivenName N → Type 0
-IsGiven (Identifier n) = Unit {0}
-IsGiven (Bytes bytes) = AreBytes bytes
-
--- operands are those of their entries
-abbrev pub part_fits : {N P : Type 0} → Part N P → Bool
-part_fits (Says m) = true
-part_fits (Constant e) = instrs_fit e
-part_fits (Body f) = instrs_fit f.body
-
-abbrev pub fields_fit : {N P : Type 0} → List (Field N P) → Bool
-fields_fit fs = list_all (λ f. list_all part_fits (parts f)) fs
 
 module _ {N P : Type 0} (eq : N → N → Bool) (is_made : N → Bool) where
   -- a module of fields that are resolved, apart from its custom sections
@@ -60,13 +43,11 @@ module _ {N P : Type 0} (eq : N → N → Bool) (is_made : N → Bool) where
   meant name fs = with_customs fs (without_customs name fs)
 
   -- Fields stand for m, given the names that are made for them: they are well formed, meet all demands, are covered, and m is read off what
-  -- they are resolved to.
+  -- they are resolved to. That the numbers of m are in range is said with its binary (`Lays`).
   pub record FieldsMean (naming : ℕ → N) (name : Option (GivenName N)) (fs : List (Field N P)) (m : AbstractModule (GivenName N)) : Type 0 where
     pub is_formed : breaches eq is_made fs ≡ []
     pub are_met : first_unmet is_met (all_demands eq naming fs) ≡ None
     pub is_covered : uncovered naming fs ≡ None
-    pub operands_fit : fields_fit fs ≡ true
-    pub is_module : IsModule IsGiven m
     pub is_meant : m ≡ meant name (resolved eq naming fs)
 
   abbrev pub ContentMeans : (ℕ → N) → Option (GivenName N) → Content N P → AbstractModule (GivenName N) → Type 0

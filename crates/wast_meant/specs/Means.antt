@@ -8,7 +8,7 @@ use Rattle.wast_fields.specs.FieldTree as fields
 use Rattle.wast_fields.specs.FieldTree.{Module}
 use Rattle.wast_meaning.specs.Modules.{content_fields}
 use Rattle.wast_meaning.specs.Written.{by_counter}
-use Rattle.wast_deinline.specs.Made.{made}
+use Rattle.wast_meaning.specs.Made.{made}
 use Rattle.wasm_layout.specs.AbstractModule.{AbstractModule}
 use Rattle.wast_meant.specs.NamesMeant.{GivenName}
 use Rattle.wast_meant.specs.Meaning.{Meaning}

@@ -9,7 +9,6 @@
 //! | `NamesMeant` | identifiers and annotations as name maps, and branch hints |
 //! | `CustomsMeant` | custom fields as custom sections, and where these stand |
 //! | `Covered` | the forms of fields that have no binary, and the first of a module |
-//! | `OperandsFit` | operands that are those of the table's entry |
 //! | `Meaning` | the module that fields stand for, and what they have to keep to |
 //! | `Binary` | names as bytes |
 //! | `Means`, `Plain` | what a text is worth, and of which texts the binary is read as the module meant |
