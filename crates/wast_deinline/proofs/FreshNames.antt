@@ -12,7 +12,7 @@ use Rattle.wast_fields.specs.FieldTree.{Field}
 use Rattle.wast_meaning.specs.Written.{takes_name, by_counter}
 use Rattle.wast_meaning.specs.Fresh.{are_distinct, are_new, field_names, is_fresh, taken_from}
 use Rattle.wast_meaning.proofs.Counter.{next}
-use Rattle.wast_deinline.specs.Made.{made}
+use Rattle.wast_meaning.specs.Made.{made}
 
 both_false : (a b : Bool) → b ≡ false → (a && b) ≡ false
 both_false true b h = h

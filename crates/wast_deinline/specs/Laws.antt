@@ -6,7 +6,7 @@ use Rattle.wast_grammar.specs.Spelling.{same_name}
 use Rattle.wast_fields.specs.FieldTree.{Field}
 use Rattle.wast_meaning.specs.Written.{by_counter, written_out}
 use Rattle.wast_meaning.specs.Fresh.{field_names, is_fresh}
-use Rattle.wast_deinline.specs.Made.{made}
+use Rattle.wast_meaning.specs.Made.{made}
 
 -- The names that a counter makes are fresh, where no name of the fields has a generation above its count.
 abbrev pub FreshNames : Type 0

@@ -6,7 +6,7 @@ ghost use Rattle.wast_imports.specs.ImportViews.{head_tree};
 ghost use Rattle.wast_core.specs.ModuleViews.{field_tree};
 ghost use Rattle.wast_fields.specs.FieldTree.{Define};
 ghost use Rattle.wast_meaning.specs.Written.{by_counter, definition_out, export_of, field_of, field_out, has_segment, takes_name, written_out};
-ghost use Rattle.wast_deinline.specs.Made.{made};
+ghost use Rattle.wast_meaning.specs.Made.{made};
 ghost use Rattle.wast_deinline.specs.Definitions.{defined_view, definition_view, parts_out};
 
 use crate::definition::Definition;

@@ -18,10 +18,9 @@
 //!
 //! | File of `specs/` | Says |
 //! |---|---|
-//! | `Made` | the names that are made |
 //! | `Laws` | the statements of the law functions |
 //!
-//! The rest is in `wast_meaning`: `Written` says what fields are written out as, and `Fresh` when names are fresh.
+//! The rest is in `wast_meaning`: `Written` says what fields are written out as, `Made` which names are made, and `Fresh` when names are fresh.
 //!
 //! The laws: the names that are made are fresh, where none of the fields' has been made later ([`laws::fresh_names`]); what is written
 //! out is written out as itself ([`laws::written_again`]).

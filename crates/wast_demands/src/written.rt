@@ -5,7 +5,7 @@ ghost use Rattle.wast_core.specs.ModuleViews.{field_tree};
 ghost use Rattle.wast_names.specs.Demand.{Answers};
 ghost use Rattle.wast_meaning.specs.Demands.{all_demands};
 ghost use Rattle.wast_meaning.specs.Written.{by_counter};
-ghost use Rattle.wast_deinline.specs.Made.{made};
+ghost use Rattle.wast_meaning.specs.Made.{made};
 
 use crate::names::check_names;
 use std::alloc::Global;

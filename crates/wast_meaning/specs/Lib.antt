@@ -2,6 +2,7 @@ pub mod Changed
 pub mod Demands
 pub mod Fresh
 pub mod Implied
+pub mod Made
 pub mod Mentions
 pub mod Modules
 pub mod Numbered

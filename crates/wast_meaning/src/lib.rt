@@ -22,6 +22,7 @@
 //! | `WellFormed` | what trees must keep to beside names |
 //! | `Changed`, `Numbered` | fields whose uses have their types and whose indices are numbers |
 //! | `Settled` | fields that resolving leaves as they are, where nothing stands inline |
+//! | `Made` | the names that are made up |
 //! | `Fresh` | when names that are made up are fresh |
 //! | `Modules` | demands and breaches of whole modules, and what one is refused with |
 //! | `Room` | when index spaces have room for one more item |

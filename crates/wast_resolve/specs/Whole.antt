@@ -13,7 +13,7 @@ use Rattle.wast_meaning.specs.Demands.{all_demands}
 use Rattle.wast_meaning.specs.Modules.{content_fields}
 use Rattle.wast_meaning.specs.Numbered.{resolved}
 use Rattle.wast_meaning.specs.Written.{by_counter, written_out}
-use Rattle.wast_deinline.specs.Made.{made}
+use Rattle.wast_meaning.specs.Made.{made}
 use Rattle.wast_resolve.specs.Resolving.{Means, resolver_spaces}
 use Rattle.wast_resolve.specs.declared.whole.Names.{Names}
 

@@ -8,7 +8,7 @@ use Rattle.wast_fields.specs.FieldTree.{Field, Module}
 use Rattle.wast_meaning.specs.Modules.{content_fields}
 use Rattle.wast_meaning.specs.Demands.{all_demands}
 use Rattle.wast_meaning.specs.Written.{by_counter}
-use Rattle.wast_deinline.specs.Made.{made}
+use Rattle.wast_meaning.specs.Made.{made}
 
 module _ {P : Type 0} where
   -- A new counter makes them, one for each field that takes one, in order. No name that is read is such a name.

@@ -1,6 +1,6 @@
 use Rattle.std.proofs.Common.{map}
 use Rattle.wast_core.specs.ModuleViews.{field_tree}
-use Rattle.wast_deinline.specs.Made.{made}
+use Rattle.wast_meaning.specs.Made.{made}
 use Rattle.wast_deinline.proofs.Counting.{written_more, count_more}
 use Rattle.wast_deinline.proofs.deinline_import_export.run.Goals as goal
 

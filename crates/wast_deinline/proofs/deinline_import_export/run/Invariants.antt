@@ -2,7 +2,7 @@ use Rattle.std.proofs.Common.{◌≡◌, ◌+◌, map}
 use Rattle.std.specs.List.{count_by}
 use Rattle.wast_core.specs.ModuleViews.{field_tree}
 use Rattle.wast_meaning.specs.Written.{by_counter, takes_name, written_out}
-use Rattle.wast_deinline.specs.Made.{made}
+use Rattle.wast_meaning.specs.Made.{made}
 use Rattle.wast_deinline.proofs.deinline_import_export.run.Given as goal
 
 abbrev pub invariant-loop-field : goal.invariant-loop-field

@@ -3,7 +3,7 @@ use Rattle.std.specs.Prelude.{if◌then◌else◌}
 use Rattle.std.proofs.lemmas.Result.{on_ok_weaker}
 use Rattle.wast_parser.specs.Identifiers.{identifier_tree}
 use Rattle.wast_core.specs.ModuleViews.{field_tree}
-use Rattle.wast_deinline.specs.Made.{made}
+use Rattle.wast_meaning.specs.Made.{made}
 use Rattle.wast_deinline.specs.Definitions.{definition_view}
 use Rattle.wast_deinline.proofs.Parts.{said_parts, said_count, unsaid_count, unsaid_out, unsaid_segment, is_some_map}
 use Rattle.wast_deinline.proofs.deinline_import_export.write_definition.Goals as goal
