@@ -2,7 +2,7 @@
 use crate::fields::refused;
 use std::io;
 use wast_exports::{Export, InlineExport, InlineImport};
-use wast_parser::{Error, Index, ParseBuffer, Parser, parse};
+use wast_parser::{Index, Parse, ParseBuffer, Parser, parse};
 
 /// Prints an export.
 pub fn print<'a>(rt: &HostRuntime, buffer: &'a ParseBuffer<'a>) -> io::Result<()> {
@@ -21,38 +21,60 @@ fn print_export(rt: &HostRuntime, export: &Export) -> io::Result<()> {
     }
 }
 
-/// Prints inline exports, and the inline import behind them.
+/// Prints inline exports, and the inline import behind them. What is read is lent where it is read.
 pub fn print_inline<'a>(rt: &HostRuntime, buffer: &'a ParseBuffer<'a>) -> io::Result<()> {
-    match read_inline(buffer) {
-        Ok((exports, import)) => print_parts(rt, &exports, &import),
+    let mut parser = Parser::new(buffer);
+    match InlineExport::parse(&mut parser) {
+        Ok(exports) => print_behind(rt, &mut parser, &exports),
         Err(error) => refused(rt, &error),
     }
 }
 
-fn print_parts(
+fn print_behind(
     rt: &HostRuntime,
-    exports: &InlineExport,
-    import: &Option<InlineImport>,
+    parser: &mut Parser<'_>,
+    exports: &InlineExport<'_>,
 ) -> io::Result<()> {
-    for export in exports.names.as_slice() {
-        print!(rt; "{} ", export.name.as_str())?;
-    }
-    match import {
-        Some(import) => println!(rt; "from {} {}", import.module.as_str(), import.field.as_str()),
-        None => println!(rt; "alone"),
+    match parser.peek::<InlineImport>() {
+        Ok(true) => match InlineImport::parse(parser) {
+            Ok(import) => print_imported(rt, parser, exports, &import),
+            Err(error) => refused(rt, &error),
+        },
+        Ok(false) => print_alone(rt, parser, exports),
+        Err(error) => refused(rt, &error),
     }
 }
 
-fn read_inline<'a>(
-    buffer: &'a ParseBuffer<'a>,
-) -> Result<(InlineExport<'a>, Option<InlineImport<'a>>), Error> {
-    let mut parser = Parser::new(buffer);
-    let exports = parser.parse()?;
-    let import = if parser.peek::<InlineImport<'a>>()? {
-        Some(parser.parse()?)
-    } else {
-        None
-    };
-    parser.end()?;
-    Ok((exports, import))
+/// Nothing stands behind the exports.
+fn print_alone(
+    rt: &HostRuntime,
+    parser: &mut Parser<'_>,
+    exports: &InlineExport<'_>,
+) -> io::Result<()> {
+    if let Err(error) = parser.end() {
+        return refused(rt, &error);
+    }
+    print_names(rt, exports)?;
+    rt.println("alone")
+}
+
+/// Nothing stands behind the import.
+fn print_imported(
+    rt: &HostRuntime,
+    parser: &mut Parser<'_>,
+    exports: &InlineExport<'_>,
+    import: &InlineImport<'_>,
+) -> io::Result<()> {
+    if let Err(error) = parser.end() {
+        return refused(rt, &error);
+    }
+    print_names(rt, exports)?;
+    println!(rt; "from {} {}", import.module.as_str(), import.field.as_str())
+}
+
+fn print_names(rt: &HostRuntime, exports: &InlineExport<'_>) -> io::Result<()> {
+    for export in exports.names.as_slice() {
+        print!(rt; "{} ", export.name.as_str())?;
+    }
+    Ok(())
 }

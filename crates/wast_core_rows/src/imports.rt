@@ -1,9 +1,12 @@
 //! Imports, items, and types of exports.
-use crate::types::{Show, print_id, shown};
+use crate::types::{Show, print_head, shown};
 use crate::values::{print_global, print_memory, print_table};
 use std::io;
-use wast_imports::{ExportType, Head, ImportItems, Imports, ItemKind, ItemSig, TagType};
-use wast_parser::{Id, NameAnnotation, ParseBuffer};
+use wast_imports::{
+    ExportType, Head, ImportGroup1Item, ImportGroup2Item, ImportItems, Imports, ItemKind, ItemSig,
+    TagType,
+};
+use wast_parser::ParseBuffer;
 
 /// Prints what a text is, read as one of a production, whose name stands before it.
 pub fn read(rt: HostRuntime, words: &str) -> io::Result<()> {
@@ -36,7 +39,7 @@ fn read_value<'a>(rt: HostRuntime, kind: &str, buffer: &'a ParseBuffer<'a>) -> i
 impl<'a> Show for Head<'a> {
     fn show(&self, rt: HostRuntime) -> io::Result<()> {
         print_head(rt, &self.id, &self.name)?;
-        print!(rt; "head")
+        rt.print("head")
     }
 }
 
@@ -67,7 +70,7 @@ impl<'a> Show for Imports<'a> {
     fn show(&self, rt: HostRuntime) -> io::Result<()> {
         print!(rt; "{}: {} of ", self.span.offset(), self.num_items())?;
         print_items(rt, &self.items)?;
-        print!(rt; "; at")?;
+        rt.print("; at")?;
         for sig in self.item_sigs(rt.alloc())? {
             print!(rt; " {}", sig.span.offset())?;
         }
@@ -83,56 +86,50 @@ fn print_items(rt: HostRuntime, items: &ImportItems) -> io::Result<()> {
         }
         ImportItems::Group1 { module, items } => {
             print!(rt; "\"{}\", each:", module.as_str())?;
-            for item in items {
-                print!(rt; " \"{}\" ", item.name.as_str())?;
-                item.sig.show(rt)?;
-            }
-            Ok(())
+            print_each(rt, items.as_slice())
         }
         ImportItems::Group2 { module, sig, items } => {
             print!(rt; "\"{}\", all:", module.as_str())?;
-            for item in items {
-                print!(rt; " \"{}\"", item.name.as_str())?;
-            }
-            print!(rt; " ")?;
+            print_names(rt, items.as_slice())?;
             sig.show(rt)
         }
     }
 }
 
-fn print_head(rt: HostRuntime, id: &Option<Id>, name: &Option<NameAnnotation>) -> io::Result<()> {
-    print_id(rt, id)?;
-    if let Some(name) = name {
-        print!(rt; "(@name \"{}\") ", name.name.as_str())?;
+fn print_each(rt: HostRuntime, items: &[ImportGroup1Item]) -> io::Result<()> {
+    for item in items {
+        print!(rt; " \"{}\" ", item.name.as_str())?;
+        item.sig.show(rt)?;
     }
     Ok(())
 }
 
+fn print_names(rt: HostRuntime, items: &[ImportGroup2Item]) -> io::Result<()> {
+    for item in items {
+        print!(rt; " \"{}\"", item.name.as_str())?;
+    }
+    rt.print(" ")
+}
+
 fn print_kind(rt: HostRuntime, kind: &ItemKind) -> io::Result<()> {
+    rt.print(word_of(kind))?;
     match kind {
-        ItemKind::Func(ty) => {
-            print!(rt; "func ")?;
-            ty.show(rt)
-        }
-        ItemKind::FuncExact(ty) => {
-            print!(rt; "exact func ")?;
-            ty.show(rt)
-        }
-        ItemKind::Table(ty) => {
-            print!(rt; "table ")?;
-            print_table(rt, ty)
-        }
-        ItemKind::Memory(ty) => {
-            print!(rt; "memory ")?;
-            print_memory(rt, ty)
-        }
-        ItemKind::Global(ty) => {
-            print!(rt; "global ")?;
-            print_global(rt, ty)
-        }
-        ItemKind::Tag(ty) => {
-            print!(rt; "tag ")?;
-            ty.show(rt)
-        }
+        ItemKind::Func(ty) => ty.show(rt),
+        ItemKind::FuncExact(ty) => ty.show(rt),
+        ItemKind::Table(ty) => print_table(rt, ty),
+        ItemKind::Memory(ty) => print_memory(rt, ty),
+        ItemKind::Global(ty) => print_global(rt, ty),
+        ItemKind::Tag(ty) => ty.show(rt),
+    }
+}
+
+fn word_of(kind: &ItemKind) -> &'static str {
+    match kind {
+        ItemKind::Func(_) => "func ",
+        ItemKind::FuncExact(_) => "exact func ",
+        ItemKind::Table(_) => "table ",
+        ItemKind::Memory(_) => "memory ",
+        ItemKind::Global(_) => "global ",
+        ItemKind::Tag(_) => "tag ",
     }
 }

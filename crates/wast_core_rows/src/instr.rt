@@ -1,8 +1,10 @@
 //! Instructions, unfolded.
-use crate::values::{print_heap, print_index};
+use crate::values::print_heap;
+use std::alloc::Global;
 use std::io;
 use wast_core_instr::{Expression, GcOp, Instruction};
-use wast_parser::{Error, Id, Index, Parse, ParseBuffer, Parser};
+use wast_core_types::HeapType;
+use wast_parser::{Error, Index, Parse, ParseBuffer, Parser};
 use wast_typed_operands::{BlockType, CallIndirect};
 
 /// Prints what the items of a text unfold to, with the hints; or that they are refused.
@@ -11,11 +13,43 @@ pub fn unfold(rt: HostRuntime, text: &str, folded: bool) -> io::Result<()> {
         return println!(rt; "too long");
     }
     match ParseBuffer::new(rt.alloc(), text) {
-        Ok(buffer) => match whole(&buffer, folded) {
-            Ok(expression) => print_expression(rt, &expression),
-            Err(_) => println!(rt; "refused"),
-        },
+        Ok(buffer) => unfold_whole(rt, &mut Parser::new(&buffer), folded),
         Err(_) => println!(rt; "no tokens"),
+    }
+}
+
+/// All of a text, with hints registered. The expression is lent where it is read.
+fn unfold_whole(rt: HostRuntime, parser: &mut Parser<'_>, folded: bool) -> io::Result<()> {
+    if parser
+        .register_annotation("metadata.code.branch_hint")
+        .is_err()
+    {
+        return println!(rt; "out of memory");
+    }
+    match read(parser, folded) {
+        Ok(expression) => print_whole(rt, parser, &expression),
+        Err(_) => println!(rt; "refused"),
+    }
+}
+
+/// Items, or an instruction behind its operands.
+fn read<'a>(parser: &mut Parser<'a>, folded: bool) -> Result<Expression<'a>, Error> {
+    if folded {
+        Expression::parse_folded_instruction(parser)
+    } else {
+        Expression::parse(parser)
+    }
+}
+
+/// Prints an expression, unless more stands behind it.
+fn print_whole(
+    rt: HostRuntime,
+    parser: &mut Parser<'_>,
+    expression: &Expression<'_>,
+) -> io::Result<()> {
+    match parser.end() {
+        Ok(_) => print_expression(rt, expression),
+        Err(_) => println!(rt; "refused"),
     }
 }
 
@@ -26,7 +60,7 @@ pub fn mnemonic(rt: HostRuntime, text: &str) -> io::Result<()> {
     }
     match ParseBuffer::new(rt.alloc(), text) {
         Ok(buffer) => {
-            if is_one::<Instruction>(&buffer) {
+            if is_one(rt.alloc(), &mut Parser::new(&buffer)) {
                 println!(rt; "mnemonic ok")
             } else {
                 println!(rt; "refused")
@@ -36,38 +70,17 @@ pub fn mnemonic(rt: HostRuntime, text: &str) -> io::Result<()> {
     }
 }
 
-/// All of a text, with hints registered.
-fn whole<'a>(buffer: &'a ParseBuffer<'a>, folded: bool) -> Result<Expression<'a>, Error> {
-    let mut parser = Parser::new(buffer);
-    parser.register_annotation("metadata.code.branch_hint")?;
-    let expression = if folded {
-        Expression::parse_folded_instruction(&mut parser)?
-    } else {
-        Expression::parse(&mut parser)?
-    };
-    parser.end()?;
-    Ok(expression)
-}
-
-/// Whether all of a text is one of a type.
-fn is_one<'a, T: Parse<'a> + Drop>(buffer: &'a ParseBuffer<'a>) -> bool {
-    match one::<T>(buffer) {
-        Ok(_value) => true,
+/// Whether all of a text is one instruction. It is let go in an expression, whose drop is proved where that stands.
+fn is_one(alloc: Global, parser: &mut Parser<'_>) -> bool {
+    match Instruction::parse(parser) {
+        Ok(instruction) => Expression::one(alloc, instruction).is_ok() && parser.end().is_ok(),
         Err(_error) => false,
     }
-}
-
-fn one<'a, T: Parse<'a>>(buffer: &'a ParseBuffer<'a>) -> Result<T, Error> {
-    let mut parser = Parser::new(buffer);
-    let value = T::parse(&mut parser)?;
-    parser.end()?;
-    Ok(value)
 }
 
 fn print_expression(rt: HostRuntime, expression: &Expression) -> io::Result<()> {
     for instruction in &expression.instrs {
         print_instruction(rt, instruction)?;
-        println!(rt)?;
     }
     for hint in expression.branch_hints.as_slice() {
         println!(rt; "hint {} at instruction {}", hint.value, hint.instr_index)?;
@@ -78,69 +91,68 @@ fn print_expression(rt: HostRuntime, expression: &Expression) -> io::Result<()> 
 /// Prints an instruction by its mnemonic and its operands; of some that have no operands, by what the encoder calls them.
 fn print_instruction(rt: HostRuntime, instruction: &Instruction) -> io::Result<()> {
     match instruction {
-        Instruction::Nop => print!(rt; "nop"),
-        Instruction::Drop => print!(rt; "drop"),
+        Instruction::Nop => rt.println("nop"),
+        Instruction::Drop => rt.println("drop"),
         Instruction::Block(block) => print_block(rt, "block", &block),
         Instruction::Loop(block) => print_block(rt, "loop", &block),
         Instruction::If(block) => print_block(rt, "if", &block),
-        Instruction::Else(_) => print!(rt; "else"),
-        Instruction::End(_) => print!(rt; "end"),
-        Instruction::TryTable(table) => print!(rt;
-            "try_table with {} clauses",
-            table.catches.len()
-        ),
+        Instruction::Else(_) => rt.println("else"),
+        Instruction::End(_) => rt.println("end"),
+        Instruction::TryTable(table) => print_clauses(rt, table.catches.len()),
         Instruction::Br(label) => print_indexed(rt, "br", label),
         Instruction::Catch(tag) => print_indexed(rt, "catch", tag),
         Instruction::CallIndirect(call) => print_call(rt, &call),
-        Instruction::I32Const(value) => print!(rt; "i32.const {value}"),
-        Instruction::I64Const(value) => print!(rt; "i64.const {value}"),
-        Instruction::Numeric(op) => print!(rt; "{op:?}"),
-        Instruction::Compare(op) => print!(rt; "{op:?}"),
+        Instruction::I32Const(value) => println!(rt; "i32.const {value}"),
+        Instruction::I64Const(value) => println!(rt; "i64.const {value}"),
+        Instruction::Numeric(op) => println!(rt; "{op:?}"),
+        Instruction::Compare(op) => println!(rt; "{op:?}"),
         Instruction::Access(op, memarg) => {
-            print!(rt; "{op:?} offset={} align={}", memarg.offset, memarg.align)
+            println!(rt; "{op:?} offset={} align={}", memarg.offset, memarg.align)
         }
-        Instruction::Gc(GcOp::RefNull(heap)) => {
-            print!(rt; "ref.null ")?;
-            print_heap(rt, heap)
-        }
-        _ => print!(rt; "another"),
+        Instruction::Gc(GcOp::RefNull(heap)) => print_null(rt, heap),
+        _ => rt.println("another"),
     }
 }
 
-fn print_id(rt: HostRuntime, id: &Option<Id>) -> io::Result<()> {
-    match id {
-        Some(id) => print!(rt; " ${}", id.name()),
-        None => Ok(()),
-    }
+fn print_clauses(rt: HostRuntime, count: usize) -> io::Result<()> {
+    println!(rt; "try_table with {count} clauses")
+}
+
+fn print_null(rt: HostRuntime, heap: &HeapType) -> io::Result<()> {
+    rt.print("ref.null ")?;
+    print_heap(rt, heap)?;
+    println!(rt)
 }
 
 fn print_block(rt: HostRuntime, word: &str, block: &BlockType) -> io::Result<()> {
-    print!(rt; "{word}")?;
-    print_id(rt, &block.label)?;
+    match &block.label {
+        Some(id) => print!(rt; "{word} ${}", id.name())?,
+        None => rt.print(word)?,
+    }
     print_type(rt, &block.ty.index)
 }
 
 fn print_indexed(rt: HostRuntime, word: &str, index: &Index) -> io::Result<()> {
-    print!(rt; "{word} ")?;
-    print_index(rt, index)
+    match index {
+        Index::Num(number, _) => println!(rt; "{word} {number}"),
+        Index::Id(id) => println!(rt; "{word} ${}", id.name()),
+    }
 }
 
 fn print_call(rt: HostRuntime, call: &CallIndirect) -> io::Result<()> {
-    print!(rt; "call_indirect")?;
-    if let Some(table) = &call.table {
-        print!(rt; " ")?;
-        print_index(rt, table)?;
+    match &call.table {
+        Some(Index::Num(number, _)) => print!(rt; "call_indirect {number}")?,
+        Some(Index::Id(id)) => print!(rt; "call_indirect ${}", id.name())?,
+        None => rt.print("call_indirect")?,
     }
     print_type(rt, &call.ty.index)
 }
 
+/// Prints the index of a type use, and ends the line.
 fn print_type(rt: HostRuntime, index: &Option<Index>) -> io::Result<()> {
     match index {
-        Some(index) => {
-            print!(rt; " (type ")?;
-            print_index(rt, index)?;
-            print!(rt; ")")
-        }
-        None => Ok(()),
+        Some(Index::Num(number, _)) => println!(rt; " (type {number})"),
+        Some(Index::Id(id)) => println!(rt; " (type ${})", id.name()),
+        None => println!(rt),
     }
 }

@@ -1,15 +1,15 @@
 //! Types, signatures, definitions and uses.
 use crate::values::{
-    print_field_type, print_global, print_heap, print_index, print_memory, print_ref, print_table,
+    print_field_type, print_global, print_heap, print_memory, print_named, print_ref, print_table,
     print_val,
 };
 use std::io;
 use wast_core_types::{
-    CompositeType, FieldType, FunctionType, FunctionTypeNoNames, GlobalType, HeapType,
-    InnerTypeKind, MemoryType, Param, Rec, RefType, StorageType, TableType, TypeDef, TypeItem,
-    TypeUse, ValType,
+    ArrayType, CompositeType, FieldType, FunctionType, FunctionTypeNoNames, GlobalType, HeapType,
+    InnerTypeKind, MemoryType, Param, Rec, RefType, StorageType, StructType, TableType, TypeDef,
+    TypeItem, TypeUse, ValType,
 };
-use wast_parser::{Error, Id, Index, Parse, ParseBuffer, Parser};
+use wast_parser::{Error, Id, Index, NameAnnotation, Parse, ParseBuffer, Parser};
 
 /// Prints what a text is, read as one of a production, whose name stands before it.
 pub fn read(rt: HostRuntime, words: &str) -> io::Result<()> {
@@ -171,10 +171,10 @@ impl<'a> Show for Rec<'a> {
 
 impl<'a, T: Show> Show for TypeUse<'a, T> {
     fn show(&self, rt: HostRuntime) -> io::Result<()> {
-        print_named(rt, "type", &self.index)?;
+        print_where(rt, "type", &self.index)?;
         match &self.inline {
             Some(ty) => ty.show(rt),
-            None => print!(rt; "no sig"),
+            None => rt.print("no sig"),
         }
     }
 }
@@ -182,14 +182,27 @@ impl<'a, T: Show> Show for TypeUse<'a, T> {
 /// Prints that a text is refused.
 pub fn refused(rt: HostRuntime, error: &Error) -> io::Result<()> {
     if error.is_memory() {
-        print!(rt; "out of memory")
+        rt.print("out of memory")
     } else {
-        print!(rt; "refused")
+        rt.print("refused")
+    }
+}
+
+/// Prints an identifier and a name that is given by an annotation, and a space behind each.
+pub fn print_head(
+    rt: HostRuntime,
+    id: &Option<Id>,
+    name: &Option<NameAnnotation>,
+) -> io::Result<()> {
+    print_id(rt, id)?;
+    match name {
+        Some(name) => print!(rt; "(@name \"{}\") ", name.name.as_str()),
+        None => Ok(()),
     }
 }
 
 /// Prints an identifier, and a space behind it.
-pub fn print_id(rt: HostRuntime, id: &Option<Id>) -> io::Result<()> {
+fn print_id(rt: HostRuntime, id: &Option<Id>) -> io::Result<()> {
     match id {
         Some(id) => print!(rt; "${} ", id.name()),
         None => Ok(()),
@@ -197,25 +210,25 @@ pub fn print_id(rt: HostRuntime, id: &Option<Id>) -> io::Result<()> {
 }
 
 fn print_param(rt: HostRuntime, param: &Param) -> io::Result<()> {
-    print!(rt; "(param ")?;
-    print_id(rt, &param.0)?;
-    if let Some(name) = &param.1 {
-        print!(rt; "(@name \"{}\") ", name.name.as_str())?;
-    }
+    rt.print(" (param ")?;
+    print_head(rt, &param.0, &param.1)?;
     print_val(rt, &param.2)?;
-    print!(rt; ")")
+    rt.print(")")
+}
+
+fn print_result(rt: HostRuntime, ty: &ValType) -> io::Result<()> {
+    rt.print(" (result ")?;
+    print_val(rt, ty)?;
+    rt.print(")")
 }
 
 fn print_sig(rt: HostRuntime, ty: &FunctionType) -> io::Result<()> {
-    print!(rt; "sig")?;
+    rt.print("sig")?;
     for param in &ty.params {
-        print!(rt; " ")?;
         print_param(rt, param)?;
     }
     for result in &ty.results {
-        print!(rt; " (result ")?;
-        print_val(rt, result)?;
-        print!(rt; ")")?;
+        print_result(rt, result)?;
     }
     Ok(())
 }
@@ -226,83 +239,84 @@ fn print_field(
     mutable: bool,
     ty: &StorageType,
 ) -> io::Result<()> {
-    print!(rt; " (field ")?;
+    rt.print(" (field ")?;
     print_id(rt, id)?;
     print_field_type(rt, mutable, ty)?;
-    print!(rt; ")")
+    rt.print(")")
 }
 
 fn print_inner(rt: HostRuntime, kind: &InnerTypeKind) -> io::Result<()> {
     match kind {
-        InnerTypeKind::Func(ty) => {
-            print!(rt; "(func ")?;
-            print_sig(rt, ty)?;
-        }
-        InnerTypeKind::Struct(ty) => {
-            print!(rt; "(struct")?;
-            for field in &ty.fields {
-                print_field(rt, &field.id, field.mutable, &field.ty)?;
-            }
-        }
-        InnerTypeKind::Array(ty) => {
-            print!(rt; "(array ")?;
-            print_field_type(rt, ty.mutable, &ty.ty)?;
-        }
-        InnerTypeKind::Cont(ty) => {
-            print!(rt; "(cont ")?;
-            print_index(rt, &ty.0)?;
-        }
+        InnerTypeKind::Func(ty) => print_func(rt, ty),
+        InnerTypeKind::Struct(ty) => print_struct(rt, ty),
+        InnerTypeKind::Array(ty) => print_array(rt, ty),
+        InnerTypeKind::Cont(ty) => print_named(rt, "cont", &ty.0),
     }
-    print!(rt; ")")
+}
+
+fn print_func(rt: HostRuntime, ty: &FunctionType) -> io::Result<()> {
+    rt.print("(func ")?;
+    print_sig(rt, ty)?;
+    rt.print(")")
+}
+
+fn print_struct(rt: HostRuntime, ty: &StructType) -> io::Result<()> {
+    rt.print("(struct")?;
+    for field in &ty.fields {
+        print_field(rt, &field.id, field.mutable, &field.ty)?;
+    }
+    rt.print(")")
+}
+
+fn print_array(rt: HostRuntime, ty: &ArrayType) -> io::Result<()> {
+    rt.print("(array ")?;
+    print_field_type(rt, ty.mutable, &ty.ty)?;
+    rt.print(")")
 }
 
 fn print_comp(rt: HostRuntime, shared: bool, kind: &InnerTypeKind) -> io::Result<()> {
-    if shared {
-        print!(rt; "(shared ")?;
-        print_inner(rt, kind)?;
-        print!(rt; ")")
-    } else {
-        print_inner(rt, kind)
+    if !shared {
+        return print_inner(rt, kind);
     }
+    rt.print("(shared ")?;
+    print_inner(rt, kind)?;
+    rt.print(")")
 }
 
 /// Prints an index behind a word, and a space behind it.
-fn print_named(rt: HostRuntime, word: &str, index: &Option<Index>) -> io::Result<()> {
+fn print_where(rt: HostRuntime, word: &str, index: &Option<Index>) -> io::Result<()> {
     match index {
         Some(index) => {
-            print!(rt; "({word} ")?;
-            print_index(rt, index)?;
-            print!(rt; ") ")
+            print_named(rt, word, index)?;
+            rt.print(" ")
         }
         None => Ok(()),
     }
 }
 
 fn print_def(rt: HostRuntime, def: &TypeDef) -> io::Result<()> {
-    print!(rt; "(sub ")?;
-    if def.final_type {
-        print!(rt; "final ")?;
-    }
-    print_named(rt, "of", &def.parent)?;
-    print_named(rt, "describes", &def.describes)?;
-    print_named(rt, "descriptor", &def.descriptor)?;
+    rt.print(if def.final_type {
+        "(sub final "
+    } else {
+        "(sub "
+    })?;
+    print_where(rt, "of", &def.parent)?;
+    print_where(rt, "describes", &def.describes)?;
+    print_where(rt, "descriptor", &def.descriptor)?;
     print_comp(rt, def.shared, &def.kind)?;
-    print!(rt; ")")
+    rt.print(")")
 }
 
 fn print_item(rt: HostRuntime, item: &TypeItem) -> io::Result<()> {
     print!(rt; "{}: ", item.span.offset())?;
-    print_id(rt, &item.id)?;
-    if let Some(name) = &item.name {
-        print!(rt; "(@name \"{}\") ", name.name.as_str())?;
-    }
+    print_head(rt, &item.id, &item.name)?;
     print_def(rt, &item.def)
 }
 
 fn print_rec(rt: HostRuntime, group: &Rec) -> io::Result<()> {
     print!(rt; "{}: rec", group.span.offset())?;
     for item in &group.types {
-        print!(rt; "; ")?;
+        rt.print("; ")?;
         print_item(rt, item)?;
     }
     Ok(())

@@ -13,111 +13,101 @@ pub fn print_index(rt: HostRuntime, index: &Index) -> io::Result<()> {
     }
 }
 
-pub fn print_abstract(rt: HostRuntime, ty: AbstractHeapType) -> io::Result<()> {
+/// Prints a word and an index in parentheses.
+pub fn print_named(rt: HostRuntime, word: &str, index: &Index) -> io::Result<()> {
+    match index {
+        Index::Num(number, _) => print!(rt; "({word} {number})"),
+        Index::Id(id) => print!(rt; "({word} ${})", id.name()),
+    }
+}
+
+fn abstract_word(ty: AbstractHeapType) -> &'static str {
     match ty {
-        AbstractHeapType::Func => print!(rt; "func"),
-        AbstractHeapType::Extern => print!(rt; "extern"),
-        AbstractHeapType::Exn => print!(rt; "exn"),
-        AbstractHeapType::Cont => print!(rt; "cont"),
-        AbstractHeapType::Any => print!(rt; "any"),
-        AbstractHeapType::Eq => print!(rt; "eq"),
-        AbstractHeapType::Struct => print!(rt; "struct"),
-        AbstractHeapType::Array => print!(rt; "array"),
-        AbstractHeapType::I31 => print!(rt; "i31"),
-        AbstractHeapType::NoFunc => print!(rt; "nofunc"),
-        AbstractHeapType::NoExtern => print!(rt; "noextern"),
-        AbstractHeapType::None => print!(rt; "none"),
-        AbstractHeapType::NoExn => print!(rt; "noexn"),
-        AbstractHeapType::NoCont => print!(rt; "nocont"),
+        AbstractHeapType::Func => "func",
+        AbstractHeapType::Extern => "extern",
+        AbstractHeapType::Exn => "exn",
+        AbstractHeapType::Cont => "cont",
+        AbstractHeapType::Any => "any",
+        AbstractHeapType::Eq => "eq",
+        AbstractHeapType::Struct => "struct",
+        AbstractHeapType::Array => "array",
+        AbstractHeapType::I31 => "i31",
+        AbstractHeapType::NoFunc => "nofunc",
+        AbstractHeapType::NoExtern => "noextern",
+        AbstractHeapType::None => "none",
+        AbstractHeapType::NoExn => "noexn",
+        AbstractHeapType::NoCont => "nocont",
+    }
+}
+
+fn print_abstract(rt: HostRuntime, shared: bool, word: &str) -> io::Result<()> {
+    if shared {
+        print!(rt; "(shared {word})")
+    } else {
+        rt.print(word)
     }
 }
 
 pub fn print_heap(rt: HostRuntime, heap: &HeapType) -> io::Result<()> {
     match heap {
-        HeapType::Abstract { shared, ty } => {
-            if *shared {
-                print!(rt; "(shared ")?;
-                print_abstract(rt, *ty)?;
-                print!(rt; ")")
-            } else {
-                print_abstract(rt, *ty)
-            }
-        }
+        HeapType::Abstract { shared, ty } => print_abstract(rt, *shared, abstract_word(*ty)),
         HeapType::Concrete(index) => print_index(rt, index),
-        HeapType::Exact(index) => {
-            print!(rt; "(exact ")?;
-            print_index(rt, index)?;
-            print!(rt; ")")
-        }
+        HeapType::Exact(index) => print_named(rt, "exact", index),
     }
 }
 
 pub fn print_ref(rt: HostRuntime, ty: &RefType) -> io::Result<()> {
-    if ty.nullable {
-        print!(rt; "(ref null ")?;
-    } else {
-        print!(rt; "(ref ")?;
-    }
+    rt.print(if ty.nullable { "(ref null " } else { "(ref " })?;
     print_heap(rt, &ty.heap)?;
-    print!(rt; ")")
+    rt.print(")")
 }
 
 pub fn print_val(rt: HostRuntime, ty: &ValType) -> io::Result<()> {
     match ty {
-        ValType::I32 => print!(rt; "i32"),
-        ValType::I64 => print!(rt; "i64"),
-        ValType::F32 => print!(rt; "f32"),
-        ValType::F64 => print!(rt; "f64"),
-        ValType::V128 => print!(rt; "v128"),
+        ValType::I32 => rt.print("i32"),
+        ValType::I64 => rt.print("i64"),
+        ValType::F32 => rt.print("f32"),
+        ValType::F64 => rt.print("f64"),
+        ValType::V128 => rt.print("v128"),
         ValType::Ref(ty) => print_ref(rt, ty),
     }
 }
 
 fn print_storage(rt: HostRuntime, ty: &StorageType) -> io::Result<()> {
     match ty {
-        StorageType::I8 => print!(rt; "i8"),
-        StorageType::I16 => print!(rt; "i16"),
+        StorageType::I8 => rt.print("i8"),
+        StorageType::I16 => rt.print("i16"),
         StorageType::Val(ty) => print_val(rt, ty),
     }
 }
 
 pub fn print_field_type(rt: HostRuntime, mutable: bool, ty: &StorageType) -> io::Result<()> {
-    if mutable {
-        print!(rt; "(mut ")?;
-        print_storage(rt, ty)?;
-        print!(rt; ")")
-    } else {
-        print_storage(rt, ty)
+    if !mutable {
+        return print_storage(rt, ty);
     }
+    rt.print("(mut ")?;
+    print_storage(rt, ty)?;
+    rt.print(")")
 }
 
-fn print_limits(rt: HostRuntime, limits: &Limits) -> io::Result<()> {
-    if limits.is64 {
-        print!(rt; "i64 ")?;
-    } else {
-        print!(rt; "i32 ")?;
-    }
-    print!(rt; "{}", limits.min)?;
+/// Prints limits between two words.
+fn print_limits(rt: HostRuntime, before: &str, limits: &Limits, after: &str) -> io::Result<()> {
+    let width = if limits.is64 { "i64" } else { "i32" };
     match limits.max {
-        Some(max) => print!(rt; " {max}"),
-        None => Ok(()),
+        Some(max) => print!(rt; "{before}{width} {} {max}{after}", limits.min),
+        None => print!(rt; "{before}{width} {}{after}", limits.min),
     }
 }
 
 pub fn print_table(rt: HostRuntime, ty: &TableType) -> io::Result<()> {
-    if ty.shared {
-        print!(rt; "shared ")?;
-    }
-    print_limits(rt, &ty.limits)?;
-    print!(rt; " ")?;
+    let shared = if ty.shared { "shared " } else { "" };
+    print_limits(rt, shared, &ty.limits, " ")?;
     print_ref(rt, &ty.elem)
 }
 
 pub fn print_memory(rt: HostRuntime, ty: &MemoryType) -> io::Result<()> {
-    print_limits(rt, &ty.limits)?;
-    if ty.shared {
-        print!(rt; " shared")?;
-    }
+    let shared = if ty.shared { " shared" } else { "" };
+    print_limits(rt, "", &ty.limits, shared)?;
     match ty.page_size_log2 {
         Some(exponent) => print!(rt; " pages of 2^{exponent}"),
         None => Ok(()),
@@ -125,11 +115,8 @@ pub fn print_memory(rt: HostRuntime, ty: &MemoryType) -> io::Result<()> {
 }
 
 pub fn print_global(rt: HostRuntime, ty: &GlobalType) -> io::Result<()> {
-    if ty.shared {
-        print!(rt; "shared ")?;
-    }
-    if ty.mutable {
-        print!(rt; "mut ")?;
-    }
+    let shared = if ty.shared { "shared " } else { "" };
+    let mutable = if ty.mutable { "mut " } else { "" };
+    print!(rt; "{shared}{mutable}")?;
     print_val(rt, &ty.ty)
 }

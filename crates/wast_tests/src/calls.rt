@@ -1,43 +1,60 @@
 //! What calls answer for values by hand.
 
+use std::alloc::Global;
 use std::hash::{DefaultHasher, Hash, Hasher};
+use std::process::Abort;
 use std::test::Fail;
 use wast_lexer::{LexError, LexFault, Span};
 use wast_parser::{Error, Gensym, Id, Index};
 
-#[test]
-fn displays_an_error(rt: HostRuntime) -> Result<(), Fail> {
-    let alloc = rt.alloc();
-    let span = Span::from_offset(1);
-    let mut error = Error::new(span, String::from_str(alloc, "expected `(`")?);
+/// The error displays so.
+fn assert_displayed(
+    rt: &impl Abort,
+    alloc: Global,
+    error: &Error,
+    expected: &str,
+) -> Result<(), Fail> {
     let text = format!(in alloc; "{error}")?;
-    assert_eq!(rt; text.as_str(), "expected `(` at byte offset 1");
-    error.set_text("\t(")?;
-    let text = format!(in alloc; "{error}")?;
-    assert_eq!(rt;
-        text.as_str(),
-        "expected `(`\n     --> <anon>:1:2\n      |\n    1 |     (\n      |     ^"
-    );
+    assert_eq!(rt; text.as_str(), expected);
     Ok(())
 }
 
 #[test]
-fn displays_other_errors(rt: HostRuntime) -> Result<(), Fail> {
-    let alloc = rt.alloc();
+fn displays_an_error(rt: HostRuntime) -> Result<(), Fail> {
+    let message = String::from_str(rt.alloc(), "expected `(`")?;
+    let mut error = Error::new(Span::from_offset(1), message);
+    assert_displayed(&rt, rt.alloc(), &error, "expected `(` at byte offset 1")?;
+    error.set_text("\t(")?;
+    assert_displayed(
+        &rt,
+        rt.alloc(),
+        &error,
+        "expected `(`\n     --> <anon>:1:2\n      |\n    1 |     (\n      |     ^",
+    )
+}
+
+#[test]
+fn displays_a_lexical_error(rt: HostRuntime) -> Result<(), Fail> {
     let fault = LexFault::Lex {
         span: Span::from_offset(5),
         error: LexError::InvalidHexDigit,
     };
-    let error = Error::from_fault(alloc, fault);
+    let error = Error::from_fault(rt.alloc(), fault);
     assert_eq!(rt; error.lex_error(), Some(LexError::InvalidHexDigit));
-    let text = format!(in alloc; "{error}")?;
-    assert_eq!(rt; text.as_str(), "invalid hexadecimal digit at byte offset 5");
-    let mut memory = Error::from_fault(alloc, LexFault::Memory);
-    assert!(rt; memory.is_memory());
-    memory.set_text("(module)")?;
-    let text = format!(in alloc; "{memory}")?;
-    assert_eq!(rt; text.as_str(), "out of memory");
-    Ok(())
+    assert_displayed(
+        &rt,
+        rt.alloc(),
+        &error,
+        "invalid hexadecimal digit at byte offset 5",
+    )
+}
+
+#[test]
+fn displays_want_of_memory(rt: HostRuntime) -> Result<(), Fail> {
+    let mut error = Error::from_fault(rt.alloc(), LexFault::Memory);
+    assert!(rt; error.is_memory());
+    error.set_text("(module)")?;
+    assert_displayed(&rt, rt.alloc(), &error, "out of memory")
 }
 
 #[test]

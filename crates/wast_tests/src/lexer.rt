@@ -59,13 +59,6 @@ fn annotation_of(alloc: Global, text: &str) -> Result<String, AllocError>
 }
 
 #[test]
-fn ample_string(rt: HostRuntime) -> Result<(), Fail> {
-    let bytes = string_of(rt.alloc(), "\"\\41\"")?;
-    assert_eq!(rt; bytes.as_slice(), b"A".as_slice());
-    Ok(())
-}
-
-#[test]
 fn ample_string_value(rt: HostRuntime) -> Result<(), Fail> {
     let text = "\"\\41\"";
     if let Ok(Some(token)) = first(text) {
@@ -74,28 +67,6 @@ fn ample_string_value(rt: HostRuntime) -> Result<(), Fail> {
             assert_eq!(rt; bytes.as_slice(), b"A".as_slice());
         }
     }
-    Ok(())
-}
-
-#[test]
-fn ample_id(rt: HostRuntime) {
-    match id_of(rt.alloc(), "$\"\\41\"") {
-        Ok(name) => assert_eq!(rt; name.as_str(), "A"),
-        Err(_) => assert!(rt; false),
-    }
-}
-
-#[test]
-fn ample_annotation(rt: HostRuntime) -> Result<(), Fail> {
-    let name = annotation_of(rt.alloc(), "(@\"\\41\")")?;
-    assert_eq!(rt; name.as_str(), "A");
-    Ok(())
-}
-
-#[test]
-fn ample_token_table(rt: HostRuntime) -> Result<(), Fail> {
-    let table = TokenTable::new(rt.alloc(), Lexer::new("(a)"))?;
-    assert_eq!(rt; table.len(), 3);
     Ok(())
 }
 
@@ -111,7 +82,7 @@ fn refused_growths(rt: HostRuntime) -> Result<(), Fail> {
         }
     }
     let table = TokenTable::new(alloc, Lexer::new("(a)"))?;
-    assert_eq!(rt; table.group_end(0), Some(2));
+    assert_eq!(rt; (table.len(), table.group_end(0)), (3, Some(2)));
     let bytes = string_of(alloc, "\"\\42\"")?;
     assert_eq!(rt; bytes.as_slice(), b"B".as_slice());
     let name = annotation_of(alloc, "(@\"\\43\")")?;

@@ -8,20 +8,6 @@ use wast_lexer::Span;
 use wast_parser::{Encode, EncodeError, Error, Id, Index, push_place};
 
 #[test]
-fn ample_message(rt: HostRuntime) -> Result<(), Fail> {
-    let error = Error::new(Span::from_offset(3), String::from_str(rt.alloc(), "no")?);
-    assert_eq!(rt; error.message(rt.alloc())?.as_str(), "no");
-    Ok(())
-}
-
-#[test]
-fn ample_set_text(rt: HostRuntime) -> Result<(), Fail> {
-    let mut error = Error::new(Span::from_offset(0), String::from_str(rt.alloc(), "no")?);
-    error.set_text("a")?;
-    Ok(())
-}
-
-#[test]
 fn ample_clone_of_an_error(rt: HostRuntime) -> Result<(), Fail> {
     let mut error = Error::new(Span::from_offset(3), String::from_str(rt.alloc(), "no")?);
     error.set_text("func")?;
@@ -39,13 +25,6 @@ fn ample_push_place(rt: HostRuntime) -> Result<(), Fail> {
         lines.as_str(),
         "\n     --> <anon>:1:2\n      |\n    1 | a\n      |  ^"
     );
-    Ok(())
-}
-
-#[test]
-fn ample_clone(rt: HostRuntime) -> Result<(), Fail> {
-    let index = owned_index(rt.alloc())?;
-    assert!(rt; index.clone(rt.alloc())? == index);
     Ok(())
 }
 

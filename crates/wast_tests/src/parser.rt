@@ -1,8 +1,9 @@
-//! Buffers and parsers.
+//! Buffers and parsers. A buffer is lent in the arm that gives it.
 
 use std::alloc::Global;
+use std::process::Abort;
 use std::test::Fail;
-use wast_parser::{Error, Id, LParen, ParseBuffer, Parser, RParen};
+use wast_parser::{Error, Id, LParen, ParseBuffer, Parser, RParen, parse};
 
 /// How a test ends where a call is refused: it fails by its result.
 fn failed(error: Error) -> Fail {
@@ -13,85 +14,84 @@ fn failed(error: Error) -> Fail {
     }
 }
 
-fn buffer(alloc: Global, text: &'static str) -> Result<ParseBuffer<'static>, Fail> {
-    if text.len() < 1_000 {
-        if let Ok(buffer) = ParseBuffer::new(alloc, text) {
-            return Ok(buffer);
+#[test]
+fn ample_name_and_text(rt: HostRuntime) -> Result<(), Fail> {
+    match ParseBuffer::new(rt.alloc(), "\"\\41\"") {
+        Ok(buffer) => {
+            reads_name(&rt, &buffer)?;
+            reads_text(&rt, &buffer)
         }
+        Err(error) => Err(failed(error)),
     }
-    Err("out of memory".into())
+}
+
+fn reads_name<'a>(rt: &impl Abort, buffer: &'a ParseBuffer<'a>) -> Result<(), Fail> {
+    match Parser::new(buffer).name() {
+        Ok(name) => {
+            assert_eq!(rt; name.as_str(), "A");
+            Ok(())
+        }
+        Err(error) => Err(failed(error)),
+    }
+}
+
+fn reads_text(rt: &impl Abort, buffer: &ParseBuffer<'_>) -> Result<(), Fail> {
+    match parse::<String>(buffer) {
+        Ok(text) => {
+            assert_eq!(rt; text.as_str(), "A");
+            Ok(())
+        }
+        Err(error) => Err(failed(error)),
+    }
 }
 
 #[test]
-fn ample_buffer(rt: HostRuntime) -> Result<(), Fail> {
-    let buffer = buffer(rt.alloc(), "(a \"b\")")?;
-    assert!(rt; !Parser::new(&buffer).is_empty());
-    Ok(())
+fn ample_with_annotation_and_box(rt: HostRuntime) -> Result<(), Fail> {
+    match ParseBuffer::new(rt.alloc(), "7") {
+        Ok(buffer) => {
+            reads_with_annotation(&rt, &buffer)?;
+            reads_box(&rt, &buffer)
+        }
+        Err(error) => Err(failed(error)),
+    }
 }
 
-#[test]
-fn ample_register_annotation(rt: HostRuntime) -> Result<(), Fail> {
-    let buffer = buffer(rt.alloc(), "(@a) $x")?;
-    let mut parser = Parser::new(&buffer);
-    parser.register_annotation("a").map_err(failed)?;
-    assert!(rt; parser.peek::<LParen>().map_err(failed)?);
-    Ok(())
+fn reads_with_annotation(rt: &impl Abort, buffer: &ParseBuffer<'_>) -> Result<(), Fail> {
+    match Parser::new(buffer).with_annotation::<u8>("a") {
+        Ok(number) => {
+            assert_eq!(rt; number, 7);
+            Ok(())
+        }
+        Err(error) => Err(failed(error)),
+    }
 }
 
-#[test]
-fn ample_id(rt: HostRuntime) -> Result<(), Fail> {
-    let buffer = buffer(rt.alloc(), "$\"\\41\"")?;
-    let (name, _) = Parser::new(&buffer).id().map_err(failed)?;
-    assert_eq!(rt; name.as_str(), "A");
-    Ok(())
-}
-
-#[test]
-fn ample_string(rt: HostRuntime) -> Result<(), Fail> {
-    let buffer = buffer(rt.alloc(), "\"\\41\"")?;
-    let bytes = Parser::new(&buffer).string().map_err(failed)?;
-    assert_eq!(rt; bytes.as_slice(), b"A".as_slice());
-    Ok(())
-}
-
-#[test]
-fn ample_name(rt: HostRuntime) -> Result<(), Fail> {
-    let buffer = buffer(rt.alloc(), "\"\\41\"")?;
-    let name = Parser::new(&buffer).name().map_err(failed)?;
-    assert_eq!(rt; name.as_str(), "A");
-    Ok(())
-}
-
-#[test]
-fn ample_with_annotation(rt: HostRuntime) -> Result<(), Fail> {
-    let buffer = buffer(rt.alloc(), "7")?;
-    let number: u8 = Parser::new(&buffer).with_annotation("a").map_err(failed)?;
-    assert_eq!(rt; number, 7);
-    Ok(())
-}
-
-#[test]
-fn ample_box(rt: HostRuntime) -> Result<(), Fail> {
-    let buffer = buffer(rt.alloc(), "7")?;
-    let number: Box<u8> = Parser::new(&buffer).parse().map_err(failed)?;
-    assert_eq!(rt; *number, 7);
-    Ok(())
-}
-
-#[test]
-fn ample_text(rt: HostRuntime) -> Result<(), Fail> {
-    let buffer = buffer(rt.alloc(), "\"\\41\"")?;
-    let text: String = Parser::new(&buffer).parse().map_err(failed)?;
-    assert_eq!(rt; text.as_str(), "A");
-    Ok(())
+fn reads_box(rt: &impl Abort, buffer: &ParseBuffer<'_>) -> Result<(), Fail> {
+    match parse::<Box<u8>>(buffer) {
+        Ok(number) => {
+            assert_eq!(rt; *number, 7);
+            Ok(())
+        }
+        Err(error) => Err(failed(error)),
+    }
 }
 
 /// A refused call tells its message and its place.
 #[test]
 fn ample_error(rt: HostRuntime) -> Result<(), Fail> {
-    let buffer = buffer(rt.alloc(), " x")?;
-    let error = Parser::new(&buffer).error("expected y");
-    assert_eq!(rt; error.message(rt.alloc())?.as_str(), "expected y");
+    match ParseBuffer::new(rt.alloc(), " x") {
+        Ok(buffer) => {
+            let error = Parser::new(&buffer).error("expected y");
+            assert_told(&rt, rt.alloc(), &error, "expected y")
+        }
+        Err(error) => Err(failed(error)),
+    }
+}
+
+/// The error has this message, and stands at the place 1.
+fn assert_told(rt: &impl Abort, alloc: Global, error: &Error, expected: &str) -> Result<(), Fail> {
+    let message = error.message(alloc)?;
+    assert_eq!(rt; message.as_str(), expected);
     assert_eq!(rt; error.span().offset(), 1);
     Ok(())
 }
@@ -99,39 +99,84 @@ fn ample_error(rt: HostRuntime) -> Result<(), Fail> {
 /// The error names what was looked for.
 #[test]
 fn ample_lookahead(rt: HostRuntime) -> Result<(), Fail> {
-    let buffer = buffer(rt.alloc(), " )")?;
-    let parser = Parser::new(&buffer);
+    match ParseBuffer::new(rt.alloc(), " )") {
+        Ok(buffer) => {
+            let expected = "expected one of: `(`, an identifier";
+            assert_told(
+                &rt,
+                rt.alloc(),
+                &looked(&rt, &Parser::new(&buffer)),
+                expected,
+            )
+        }
+        Err(error) => Err(failed(error)),
+    }
+}
+
+/// What a look at three kinds of tokens tells; the second stands there.
+fn looked(rt: &impl Abort, parser: &Parser<'_>) -> Error {
     let mut lookahead = parser.lookahead1();
-    assert!(rt; !lookahead.peek::<LParen>().map_err(failed)?);
-    assert!(rt; lookahead.peek::<RParen>().map_err(failed)?);
-    assert!(rt; !lookahead.peek::<Id>().map_err(failed)?);
-    let error = lookahead.error();
-    assert_eq!(rt;
-        error.message(rt.alloc())?.as_str(),
-        "expected one of: `(`, an identifier"
-    );
-    assert_eq!(rt; error.span().offset(), 1);
-    Ok(())
+    assert!(rt; matches!(lookahead.peek::<LParen>(), Ok(false)));
+    assert!(rt; matches!(lookahead.peek::<RParen>(), Ok(true)));
+    assert!(rt; matches!(lookahead.peek::<Id>(), Ok(false)));
+    lookahead.error()
 }
 
 /// Each answer is want of memory where a growth is refused, and the parser stands where it did.
 #[test]
 fn refused_growths_of_a_parser(rt: HostRuntime) -> Result<(), Fail> {
-    let buffer = buffer(rt.alloc(), "(@a) $\"\\41\" \"\\42\"")?;
-    let mut parser = Parser::new(&buffer);
-    if let Err(error) = parser.register_annotation("a") {
-        assert!(rt; error.is_memory() && !parser.peek::<LParen>().map_err(failed)?);
-        return Err("out of memory".into());
+    match ParseBuffer::new(rt.alloc(), "(@a) $\"\\41\" \"\\42\"") {
+        Ok(buffer) => {
+            registers(&rt, &mut Parser::new(&buffer))?;
+            reads_all(&rt, &mut Parser::new(&buffer))
+        }
+        Err(error) => Err(failed(error)),
     }
-    parser.unregister_annotation("a");
-    if let Err(error) = parser.id() {
-        assert!(rt; error.is_memory() && parser.cur_span().offset() == 5);
-        return Err("out of memory".into());
-    }
-    if let Err(error) = parser.string() {
-        assert!(rt; error.is_memory() && parser.cur_span().offset() == 12);
-        return Err("out of memory".into());
-    }
+}
+
+fn reads_all(rt: &impl Abort, parser: &mut Parser<'_>) -> Result<(), Fail> {
+    reads_id(rt, parser)?;
+    reads_string(rt, parser)?;
     assert!(rt; parser.is_empty());
     Ok(())
+}
+
+/// The group in front shows only where its annotation is registered.
+fn registers(rt: &impl Abort, parser: &mut Parser<'_>) -> Result<(), Fail> {
+    match parser.register_annotation("a") {
+        Ok(()) => {
+            assert!(rt; matches!(parser.peek::<LParen>(), Ok(true)));
+            Ok(())
+        }
+        Err(error) => {
+            assert!(rt; error.is_memory() && !matches!(parser.peek::<LParen>(), Ok(true)));
+            Err(failed(error))
+        }
+    }
+}
+
+fn reads_id(rt: &impl Abort, parser: &mut Parser<'_>) -> Result<(), Fail> {
+    match parser.id() {
+        Ok((name, _)) => {
+            assert_eq!(rt; name.as_str(), "A");
+            Ok(())
+        }
+        Err(error) => {
+            assert!(rt; error.is_memory() && parser.cur_span().offset() == 5);
+            Err(failed(error))
+        }
+    }
+}
+
+fn reads_string(rt: &impl Abort, parser: &mut Parser<'_>) -> Result<(), Fail> {
+    match parser.string() {
+        Ok(bytes) => {
+            assert_eq!(rt; bytes.as_slice(), b"B".as_slice());
+            Ok(())
+        }
+        Err(error) => {
+            assert!(rt; error.is_memory() && parser.cur_span().offset() == 12);
+            Err(failed(error))
+        }
+    }
 }

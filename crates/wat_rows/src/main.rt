@@ -8,32 +8,53 @@
 //! - of `at N: TEXT`, a fault at the byte N of this text, told so;
 //! - of `faults:`, each fault in one line;
 //! - of a line that begins with `#` nothing: it names what the rows below it are of.
+//!
+//! With the argument `measure` it measures the assembler and its parts instead.
 #![tactic(auto)]
 
+mod bench;
+
 use std::alloc::{AllocError, Global};
-use std::io;
+use std::{env, io};
 use wat::{Error, Fault, Span, assemble, render};
 
 fn main(rt: HostRuntime) -> io::Result<()> {
+    if is_told_to_measure(&rt)? {
+        return bench::measure_texts(&rt);
+    }
     for line in rt.lines(rt.alloc()) {
         let line = line?;
         println!(rt; "{line}")?;
-        if line.starts_with("#") {
-            continue;
-        }
-        if line.as_str() == "faults:" {
-            print_faults(&rt)?;
-        } else if let Some(text) = line.strip_prefix("spelled: ") {
-            print_spelled(&rt, text)?;
-        } else if let Some(text) = line.strip_prefix("rendered: ") {
-            print_rendered(&rt, text)?;
-        } else if let Some((place, text)) = place_of(line.as_str()) {
-            print_fault_at(&rt, place, text)?;
-        } else {
-            print_binary(&rt, line.as_str())?;
-        }
+        answer(&rt, line.as_str())?;
     }
     Ok(())
+}
+
+fn is_told_to_measure(rt: &HostRuntime) -> io::Result<bool> {
+    let mut told = false;
+    for word in env::args(rt)? {
+        if word.as_str() == "measure" {
+            told = true;
+        }
+    }
+    Ok(told)
+}
+
+/// Prints what becomes of a row.
+fn answer(rt: &HostRuntime, row: &str) -> io::Result<()> {
+    if row.starts_with("#") {
+        Ok(())
+    } else if row == "faults:" {
+        print_faults(rt)
+    } else if let Some(text) = row.strip_prefix("spelled: ") {
+        print_spelled(rt, text)
+    } else if let Some(text) = row.strip_prefix("rendered: ") {
+        print_rendered(rt, text)
+    } else if let Some((place, text)) = place_of(row) {
+        print_fault_at(rt, place, text)
+    } else {
+        print_binary(rt, row)
+    }
 }
 
 /// The place and the text of a row that begins so.
@@ -102,28 +123,33 @@ fn print_fault_at(rt: &HostRuntime, place: usize, row: &str) -> io::Result<()> {
     rt.println(render(rt.alloc(), &fault, text.as_slice())?)
 }
 
-/// Each fault in its one line, and as it is told where its place isn't shown.
+/// Each fault.
 fn print_faults(rt: &HostRuntime) -> io::Result<()> {
-    let alloc = rt.alloc();
     let span = Span::from_offset(7);
-    let message = String::from_str(alloc, "unknown label")?;
-    let faults = [
-        Fault::Read,
-        Fault::TooLong,
-        Fault::NotUtf8 { offset: 12 },
-        Fault::NotWellFormed(span),
-        Fault::Unmet(Error::new(span, message)),
+    print_fault(rt, Fault::Read)?;
+    print_fault(rt, Fault::TooLong)?;
+    print_fault(rt, Fault::NotUtf8 { offset: 12 })?;
+    print_fault(rt, Fault::NotWellFormed(span))?;
+    print_fault(rt, unmet(rt.alloc(), span)?)?;
+    print_fault(
+        rt,
         Fault::Uncovered {
             span,
             form: "memory",
         },
-        Fault::TooLarge,
-        Fault::Memory,
-        Fault::Write { written: u64::MAX },
-    ];
-    for fault in faults {
-        println!(rt; "{fault}")?;
-        rt.println(render(alloc, &fault, b"\xff")?)?;
-    }
-    Ok(())
+    )?;
+    print_fault(rt, Fault::TooLarge)?;
+    print_fault(rt, Fault::Memory)?;
+    print_fault(rt, Fault::Write { written: u64::MAX })
+}
+
+fn unmet(alloc: Global, span: Span) -> Result<Fault, AllocError> {
+    let message = String::from_str(alloc, "unknown label")?;
+    Ok(Fault::Unmet(Error::new(span, message)))
+}
+
+/// A fault in its one line, and as it is told where its place isn't shown.
+fn print_fault(rt: &HostRuntime, fault: Fault) -> io::Result<()> {
+    println!(rt; "{fault}")?;
+    rt.println(render(rt.alloc(), &fault, b"\xff")?)
 }

@@ -1,5 +1,5 @@
-//! Calls that want memory: each finds it, and where a growth is refused (`bin/refuse`) answers so and nothing else; a test whose
-//! name begins with `refused_growths` then fails by its result.
+//! Calls that want memory: each finds it, as the rows of `wat_rows` show too, and where a growth is refused (`bin/refuse`) answers so and
+//! nothing else; a test whose name begins with `refused_growths` then fails by its result.
 
 use std::alloc::Global;
 use std::process::Abort;
@@ -7,48 +7,22 @@ use std::test::Fail;
 use wast_parser::{Parse, ParseBuffer, Parser};
 use wat::{Error, Fault, Span, Wat, assemble, render};
 
-#[test]
-fn ample_assemble(rt: HostRuntime) -> Result<(), Fail> {
-    assert_eq!(rt; assemble(rt.alloc(), b"(module)")?.len(), 8);
-    Ok(())
-}
-
-#[test]
-fn ample_message(rt: HostRuntime) -> Result<(), Fail> {
-    assert_message(&rt, rt.alloc())
-}
-
-#[test]
-fn ample_render(rt: HostRuntime) -> Result<(), Fail> {
-    let text = render(rt.alloc(), &Fault::Memory, b"")?;
-    assert_eq!(rt; text.as_str(), "out of memory");
-    Ok(())
-}
-
-fn buffer(alloc: Global, text: &'static str) -> Result<ParseBuffer<'static>, Fail> {
-    if text.len() < 1_000 {
-        if let Ok(buffer) = ParseBuffer::new(alloc, text) {
-            return Ok(buffer);
-        }
-    }
-    Err("out of memory".into())
-}
-
-#[test]
-fn ample_wat(rt: HostRuntime) -> Result<(), Fail> {
-    let buffer = buffer(rt.alloc(), "(func) (@custom \"x\")")?;
-    assert!(rt; Wat::parse(&mut Parser::new(&buffer)).is_ok());
-    Ok(())
-}
-
 /// Refused at what stands behind its module, a text leaves no annotation registered: that one is passed then.
 #[test]
 fn annotations_are_taken_back(rt: HostRuntime) -> Result<(), Fail> {
-    let buffer = buffer(rt.alloc(), "(module) (@custom \"x\")")?;
-    let mut parser = Parser::new(&buffer);
-    assert!(rt; Wat::parse(&mut parser).is_err());
-    assert!(rt; parser.is_empty());
-    Ok(())
+    match ParseBuffer::new(rt.alloc(), "(module) (@custom \"x\")") {
+        Ok(buffer) => {
+            let mut parser = Parser::new(&buffer);
+            assert!(rt; is_refused(&mut parser));
+            assert!(rt; parser.is_empty());
+            Ok(())
+        }
+        Err(_) => Err("out of memory".into()),
+    }
+}
+
+fn is_refused(parser: &mut Parser<'_>) -> bool {
+    Wat::parse(parser).is_err()
 }
 
 /// 100,000 comments in one another, and as many in a row.

@@ -1,13 +1,12 @@
 //! Measures lexer, token table and the whole assembler on generated texts, beside a plain scan of their bytes: functions whose
 //! bodies are flat, the same folded, data segments, and one function of many instructions, flat and folded.
-#![tactic(auto)]
 
 ghost use Rattle.std.specs.Prelude.{◌<◌, ◌^◌, IfOk, length};
 ghost use Rattle.wast_parser.specs.Cursors.{Follows};
 
 use std::alloc::{AllocError, Global};
+use std::io;
 use std::time::{Duration, Instant};
-use std::{env, io};
 use wast_lexer::{Lexer, TokenTable};
 use wast_parser::{Cursor, Error, ParseBuffer, Parser};
 use wat::{Fault, assemble};
@@ -38,33 +37,14 @@ const COUNT: u32 = 75_000;
 /// How often each measure is taken; the last one counts.
 const ROUNDS: u32 = 3;
 
-fn main(rt: HostRuntime) -> io::Result<()> {
-    let mut measured = false;
-    for word in env::args(&rt)? {
-        if word.as_str() == "measure" {
-            measured = true;
-        }
-    }
-    if !measured {
-        return println!(rt; "say `measure` to measure them");
-    }
-    measure_text(&rt, "functions, flat", b"(module\n", FLAT, b")")?;
-    measure_text(&rt, "functions, folded", b"(module\n", FOLDED, b")")?;
-    measure_text(&rt, "data segments", b"(module\n", DATA, b")")?;
-    measure_text(
-        &rt,
-        "a body, flat",
-        b"(func (param $x i32)\n",
-        FLAT_BODY,
-        b")",
-    )?;
-    measure_text(
-        &rt,
-        "a body, folded",
-        b"(func (param $x i32)\n",
-        FOLDED_BODY,
-        b")",
-    )
+/// Measures them all.
+pub fn measure_texts(rt: &HostRuntime) -> io::Result<()> {
+    measure_text(rt, "functions, flat", b"(module\n", FLAT, b")")?;
+    measure_text(rt, "functions, folded", b"(module\n", FOLDED, b")")?;
+    measure_text(rt, "data segments", b"(module\n", DATA, b")")?;
+    let before = b"(func (param $x i32)\n";
+    measure_text(rt, "a body, flat", before, FLAT_BODY, b")")?;
+    measure_text(rt, "a body, folded", before, FOLDED_BODY, b")")
 }
 
 /// Measures a text of many times a part.
