@@ -11,13 +11,13 @@ use Rattle.wast_fields.specs.FieldTree.{Module}
 use Rattle.wast_well_formed.specs.Breaches.{written_breach}
 use Rattle.wat_profile.specs.Profile.{Func, profile}
 use Rattle.wat_profile.specs.StandsFor.{meant}
-use Rattle.wat.specs.Means.{Spells}
+use Rattle.wat_verdict.specs.Spells.{Spells}
 use Rattle.wat.specs.Unspelled.{IsUnspelled}
 use Rattle.wat.specs.Headline.{NotUtf8, Fails, Accepts, Assembles, Deserves}
 use Rattle.wat.specs.NoText.{IsNoText}
 use Rattle.wat.specs.Judged.{IsLaid, IsJudged, IsAnswered, IsTold}
-use Rattle.wat.specs.Naming.{unmet_demand}
-use Rattle.wat.proofs.Unmet.{told_unmet}
+use Rattle.wat_verdict.specs.Naming.{unmet_demand}
+use Rattle.wat_verdict.proofs.Unmet.{told_unmet}
 use Rattle.wat.proofs.Verdict.{one_condition}
 
 pub no_text : (bytes : List ℕ) (f : Fault) → IsNoText bytes f → Deserves bytes f

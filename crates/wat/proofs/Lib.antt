@@ -1,10 +1,7 @@
-pub mod Alone
 pub mod Deserved
 pub mod EqualBinaries
-pub mod OneSpelling
 pub mod Places
 pub mod Reading
 pub mod Runs
-pub mod Stops
 pub mod Unmet
 pub mod Verdict

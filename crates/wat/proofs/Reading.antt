@@ -13,12 +13,12 @@ use Rattle.wast_parser.specs.State.{Source}
 use Rattle.wast_parser.specs.Reading.{out_of_memory, ends_here, Refuses, ReadsAll, ReadsNotAll}
 use Rattle.wast_parser.specs.Table.{IsTable}
 use Rattle.wast_core.specs.ModuleSyntax.{wat}
-use Rattle.wat.specs.Means.{alone, Spells}
-use Rattle.wat.specs.Registered.{registered}
+use Rattle.wat_verdict.specs.Spells.{alone, Spells}
+use Rattle.wat_verdict.specs.Registered.{registered}
 use Rattle.wat.specs.Unspelled.{IsUnspelled}
 use Rattle.wat.specs.TextViews.{wat_tree}
 use Rattle.wat.specs.declared.text.Wat.{Wat}
-use Rattle.wat.proofs.OneSpelling.{all_spelled, none_spelled}
+use Rattle.wat_verdict.proofs.OneSpelling.{all_spelled, none_spelled}
 
 -- where a parser is shown no more
 goes_on : (ts : List TextToken) → at (NotEnd ∷ []) ts ≡ not (ends_here ts)

@@ -1,7 +1,7 @@
 -- A text means one module, and an input deserves one verdict.
 use Rattle.std.proofs.Common.{ℕ, zero, suc, true, false, [], ◌∷◌, ◌≡◌, ◌<◌, ◌≤◌, ◌^◌, Option, Some, None, List, length, take, refl, sym, ap, subst, ◌∙◌, arith, take_all, inl, inr, ⊎_elim}
 use Rattle.wast_fields.specs.FieldTree.{Module}
-use Rattle.wat.specs.Means.{Spells}
+use Rattle.wat_verdict.specs.Spells.{Spells}
 use Rattle.std.proofs.lemmas.Bool.{cases_lt, cases_Bool}
 use Rattle.std.proofs.lemmas.Str.{IsUtf8-nil, IsUtf8-from_is_utf8, is_utf8-from_IsUtf8}
 use Rattle.std.specs.Str.{IsUtf8, IsValidUpTo, is_utf8}
@@ -11,11 +11,12 @@ use Rattle.wat_profile.specs.AbstractModule.{AbstractModule}
 use Rattle.wat_profile.specs.Profile.{Func, profile}
 use Rattle.wat_profile.specs.StandsFor.{meant}
 use Rattle.wast_names.specs.Demand.{Complaint, Demand}
-use Rattle.wat.specs.Naming.{unmet_demand}
-use Rattle.wat.specs.Headline.{Condition, TooLong, NotUtf8, Misspelled, NotWellFormed, Unmet, NotYet, unmet_at, Fails, Accepts, OneVerdict}
+use Rattle.wat_verdict.specs.Naming.{unmet_demand}
+use Rattle.wat.specs.Headline.{Condition, TooLong, NotUtf8, Misspelled, NotWellFormed, Unmet, NotYet, Fails, Accepts, OneVerdict}
 use Rattle.wat.specs.Laws.{OneMeaning}
-use Rattle.wat.proofs.OneSpelling.{one_spelling}
-use Rattle.wat.proofs.Unmet.{unmet_so}
+use Rattle.wat_verdict.proofs.OneSpelling.{one_spelling}
+use Rattle.wat_verdict.specs.Verdict.{unmet_at}
+use Rattle.wat_verdict.proofs.Unmet.{unmet_so}
 
 some_same : {A : Type 0} (x y : A) → Some x ≡ Some y → x ≡ y
 some_same x y e = cc

@@ -12,8 +12,10 @@ use Rattle.wast_well_formed.specs.Breaches.{written_breach}
 use Rattle.wat_profile.specs.AbstractModule.{AbstractModule}
 use Rattle.wat_profile.specs.Layout.{Fits, Reads}
 use Rattle.wat_profile.specs.Profile.{profile}
-use Rattle.wat.specs.Means.{Spells, Means}
-use Rattle.wat.specs.Naming.{unmet_demand}
+use Rattle.wat_verdict.specs.Spells.{Spells}
+use Rattle.wat.specs.Means.{Means}
+use Rattle.wat_verdict.specs.Naming.{unmet_demand}
+use Rattle.wat_verdict.specs.Verdict.{unmet_at}
 use Rattle.wat.specs.declared.fault.Fault.{Fault}
 use Rattle.wat.specs.declared.fault.Fault.TheVariants as faults
 
@@ -31,10 +33,6 @@ pub data Condition : Type 0 where
   Unmet : (place : ℕ) → Complaint Name → Condition
   -- spells a tree of today's profile; with the place of the module: its word `module`, or else the keyword of its first field
   NotYet : ℕ → Condition
-
--- the demand at this place that isn't met, with this complaint
-abbrev pub unmet_at : ℕ → Complaint Name → Demand Name ℕ
-unmet_at place complaint = record { place = place; complaint = complaint; holds = false }
 
 -- Of all conditions this is the first that the bytes fail.
 abbrev pub Fails : List ℕ → Condition → Type 0

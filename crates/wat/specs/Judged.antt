@@ -8,8 +8,8 @@ use Rattle.wast_well_formed.specs.Breaches.{written_breach}
 use Rattle.wat_profile.specs.Layout.{Fits, Lays}
 use Rattle.wat_profile.specs.Profile.{Func, profile}
 use Rattle.wat_profile.specs.StandsFor.{meant}
-use Rattle.wat.specs.Means.{Spells}
-use Rattle.wat.specs.Naming.{unmet_demand}
+use Rattle.wat_verdict.specs.Spells.{Spells}
+use Rattle.wat_verdict.specs.Naming.{unmet_demand}
 use Rattle.wat.specs.declared.fault.Fault.{Fault}
 use Rattle.wat.specs.declared.fault.Fault.TheVariants as faults
 

@@ -2,10 +2,8 @@ pub mod Headline
 pub mod Judged
 pub mod Laws
 pub mod Means
-pub mod Naming
 pub mod NoText
 pub mod Program
-pub mod Registered
 pub mod Render
 pub mod Run
 pub mod TextViews

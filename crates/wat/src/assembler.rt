@@ -7,7 +7,7 @@ ghost use Rattle.wat.specs.NoText.{IsNoText};
 ghost use Rattle.wast_parser.specs.Table.{IsTable};
 ghost use Rattle.wast_core.specs.ModuleViews.{field_tree, module_tree};
 ghost use Rattle.wat.specs.Judged.{IsAnswered, IsEncoded, IsJudged, IsLaid, IsNotEncoded, IsTold, IsUnmet, IsUnresolved};
-ghost use Rattle.wat.specs.Naming.{unmet_demand, unmet_in};
+ghost use Rattle.wat_verdict.specs.Naming.{unmet_demand, unmet_in};
 ghost use Rattle.wat.specs.TextViews.{wat_tree};
 
 use crate::fault::Fault;

@@ -6,8 +6,8 @@ ghost use Rattle.wast_parser.specs.Lawful.{Lawful};
 ghost use Rattle.wast_fields.specs.FieldTree as spec;
 ghost use Rattle.wast_core.specs.ModuleSyntax.{wat};
 ghost use Rattle.wast_core.specs.ModuleViews.{module_tree};
-ghost use Rattle.wat.specs.Registered.{registered};
-ghost use Rattle.wat.specs.Means.{alone, Spells};
+ghost use Rattle.wat_verdict.specs.Registered.{registered};
+ghost use Rattle.wat_verdict.specs.Spells.{alone, Spells};
 ghost use Rattle.wat.specs.Unspelled.{IsUnspelled};
 ghost use Rattle.wat.specs.TextViews.{wat_tree};
 

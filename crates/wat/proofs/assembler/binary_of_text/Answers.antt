@@ -1,6 +1,6 @@
 use Rattle.std.proofs.Common.{sym, ◌∙◌, subst}
 use Rattle.std.specs.Prelude.{MatchResult}
-use Rattle.wat.specs.Means.{Spells}
+use Rattle.wat_verdict.specs.Spells.{Spells}
 use Rattle.wat.specs.TextViews.{wat_tree}
 use Rattle.wat.specs.Unspelled.{IsUnspelled}
 use Rattle.wat.proofs.Deserved.{matched, misspelled, told_of}

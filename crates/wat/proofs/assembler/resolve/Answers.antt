@@ -3,7 +3,7 @@ use Rattle.std.specs.Prelude.{MatchResult}
 use Rattle.wast_core.specs.ModuleViews.{content_tree}
 use Rattle.wast_meaning.specs.Modules.{content_fields}
 use Rattle.wat.specs.Judged.{IsUnmet}
-use Rattle.wat.specs.Naming.{unmet_in}
+use Rattle.wat_verdict.specs.Naming.{unmet_in}
 use Rattle.wat.proofs.assembler.resolve.Goals as goal
 
 pub returns-in-Text : goal.returns-in-Text

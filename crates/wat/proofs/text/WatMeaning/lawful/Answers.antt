@@ -1,4 +1,4 @@
-use Rattle.wat.proofs.OneSpelling.{text_laws}
+use Rattle.wat_verdict.proofs.OneSpelling.{text_laws}
 use Rattle.wat.proofs.text.WatMeaning.lawful.Goals as goal
 
 pub returns : goal.returns

@@ -20,10 +20,10 @@ use Rattle.wast_grammar.proofs.SignificantLaws.{significant_law}
 use Rattle.wast_fields.specs.FieldTree.{Module}
 use Rattle.wast_core.specs.ModuleSyntax.{wat}
 use Rattle.wast_core.proofs.ModuleLaws.{wat_laws}
-use Rattle.wat.specs.Registered.{registered}
-use Rattle.wat.specs.Means.{alone, Spells}
-use Rattle.wat.proofs.Stops.{table_stops}
-use Rattle.wat.proofs.Alone.{alone_laws, ended_so, nothing_behind, nothing_either}
+use Rattle.wat_verdict.specs.Registered.{registered}
+use Rattle.wat_verdict.specs.Spells.{alone, Spells}
+use Rattle.wat_verdict.proofs.Stops.{table_stops}
+use Rattle.wat_verdict.proofs.Alone.{alone_laws, ended_so, nothing_behind, nothing_either}
 
 pub text_laws : Lawful (alone (wat {N = Name} {P = ℕ}))
 text_laws = alone_laws wat wat_laws refl

@@ -14,7 +14,7 @@ use Rattle.wast_parser.specs.Significant.{TextToken, token_of, is_lparen, is_unk
 use Rattle.wast_grammar.specs.Significant.Dropped.{Nothing, Blank, Group}
 use Rattle.wast_grammar.proofs.BehindLaws.{opens_on, none_at}
 use Rattle.wast_grammar.proofs.SignificantLaws.{dropped_passed, shows_first, shown_law}
-use Rattle.wat.specs.Means.{alone}
+use Rattle.wat_verdict.specs.Spells.{alone}
 
 module _ {N P A : Type 0} where
   some_same : (x y : A × List (SignificantToken N P)) → Some x ≡ Some y → x ≡ y

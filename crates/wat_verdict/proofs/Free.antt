@@ -1,0 +1,79 @@
+-- What is made of tokens over any names and places, by tests of names, made-up names and what names show, keeps where tokens are renamed
+-- and moved.
+use Rattle.std.proofs.Common.{◌≡◌, ℕ, Bool, List, [], ◌∷◌, map, Some, None, refl, ◌∙◌, ap}
+use std.Univalence.{equiv_j}
+use std.Equiv.{◌≃◌, id_equiv}
+use std.Path.{fun_ext}
+use Rattle.wast_grammar.specs.Tokens.{SignificantToken, Open, Close, Id, Word, Mark, Integer, Float, Text, Reserved, Broken}
+use Rattle.wast_grammar.specs.Alike.{move, Keeps, Carries, AlikeToken, Alike, name_pair, names, place_of, both_places, places}
+
+-- what is known of names: which are the same, which are made up, the one that a number makes, and what each shows
+pub record Known (N : Type 0) : Type 0 where
+  pub same : N → N → Bool
+  pub is_made : N → Bool
+  pub made : ℕ → N
+  pub show : N → List ℕ
+
+-- the same of the counterparts of names
+pub record Kept {N M : Type 0} (k : Known N) (l : Known M) (f : N → M) : Type 0 where
+  pub same : Keeps k.same l.same f
+  pub is_made : (n : N) → l.is_made (f n) ≡ k.is_made n
+  pub made : (i : ℕ) → l.made i ≡ f (k.made i)
+  pub show : (n : N) → l.show (f n) ≡ k.show n
+
+same_known : {N : Type 0} (k l : Known N) → Kept k l (λ n. n) → l ≡ k
+same_known k l kept = λ i. record {
+  same = fun_ext (λ a. fun_ext (λ b. kept.same a b)) i;
+  is_made = fun_ext (λ n. kept.is_made n) i;
+  made = fun_ext (λ n. kept.made n) i;
+  show = fun_ext (λ n. kept.show n) i;
+}
+
+still_token : {N P : Type 0} (t : SignificantToken N P) → move (λ n. n) (λ p. p) t ≡ t
+still_token (Open p) = refl
+still_token (Close p) = refl
+still_token (Id (Some n) p) = refl
+still_token (Id None p) = refl
+still_token (Word w p) = refl
+still_token (Mark w p) = refl
+still_token (Integer n w p) = refl
+still_token (Float w p) = refl
+still_token (Text s p) = refl
+still_token (Reserved w p) = refl
+still_token Broken = refl
+
+still : {N P : Type 0} (ts : List (SignificantToken N P)) → map (move (λ n. n) (λ p. p)) ts ≡ ts
+still [] = refl
+still (t ∷ ts) = rw (still_token t, still ts) refl
+
+module _ {R : Type 0} (answer : (N P : Type 0) → Known N → List (SignificantToken N P) → R) where
+  moved : {N P Q : Type 0} (k : Known N) (d : P ≃ Q) (ts : List (SignificantToken N P)) → answer N Q k (map (move (λ n. n) d.0) ts) ≡ answer N P k ts
+  unfolding id_equiv
+  moved {N} {P} {Q} k d = equiv_j {B = Q} (λ P d. (ts : List (SignificantToken N P)) → answer N Q k (map (move (λ n. n) d.0) ts) ≡ answer N P k ts) (λ ts. ap (λ v. answer N Q k v) (still ts)) d
+
+  pub free : {N M P Q : Type 0} (e : N ≃ M) (d : P ≃ Q) (k : Known N) (l : Known M) → Kept k l e.0 → (ts : List (SignificantToken N P)) → answer M Q l (map (move e.0 d.0) ts) ≡ answer N P k ts
+  unfolding id_equiv
+  free {N} {M} {P} {Q} e d = equiv_j {B = M} (λ N e. (k : Known N) (l : Known M) → Kept k l e.0 → (ts : List (SignificantToken N P)) → answer M Q l (map (move e.0 d.0) ts) ≡ answer N P k ts)
+      (λ k l kept ts. ap (λ v. answer M Q v (map (move (λ n. n) d.0) ts)) (same_known k l kept) ∙ moved k d ts) e
+
+-- TOKENS whose names and places are carried are these, renamed and moved
+module _ {N M P Q : Type 0} (f : N → M) (g : P → Q) where
+  carried_one : (t : SignificantToken N P) (u : SignificantToken M Q) (ns : List (N × M)) (ps : List (P × Q)) → AlikeToken t u → Carries f (name_pair t u ns) → Carries g (both_places (place_of t) (place_of u) ps) → (move f g t ≡ u) × Carries f ns × Carries g ps
+  carried_one (Open p) (Open q) ns ps a c d = (ap Open d.0, c, d.1)
+  carried_one (Close p) (Close q) ns ps a c d = (ap Close d.0, c, d.1)
+  carried_one (Id (Some n) p) (Id (Some m) q) ns ps a c d = (rw (c.0, d.0) refl, c.1, d.1)
+  carried_one (Id None p) (Id None q) ns ps a c d = (rw d.0 refl, c, d.1)
+  carried_one (Word v p) (Word w q) ns ps a c d = (rw (a, d.0) refl, c, d.1)
+  carried_one (Mark v p) (Mark w q) ns ps a c d = (rw (a, d.0) refl, c, d.1)
+  carried_one (Integer l v p) (Integer k w q) ns ps a c d = (rw (a.0, a.1, d.0) refl, c, d.1)
+  carried_one (Float v p) (Float w q) ns ps a c d = (rw (a, d.0) refl, c, d.1)
+  carried_one (Text v p) (Text w q) ns ps a c d = (rw (a, d.0) refl, c, d.1)
+  carried_one (Reserved v p) (Reserved w q) ns ps a c d = (rw (a, d.0) refl, c, d.1)
+  carried_one Broken Broken ns ps a c d = (refl, c, d)
+  carried_one t u ns ps a c d = absurd a
+
+  pub carried : (ts : List (SignificantToken N P)) (us : List (SignificantToken M Q)) → Alike ts us → Carries f (names ts us) → Carries g (places ts us) → map (move f g) ts ≡ us
+  carried [] [] a c d = refl
+  carried (t ∷ ts) (u ∷ us) a c d = let k = carried_one t u (names ts us) (places ts us) a.0 c d in rw (k.0, carried ts us a.1 k.1 k.2) refl
+  carried [] (u ∷ us) a c d = absurd a
+  carried (t ∷ ts) [] a c d = absurd a

@@ -1,0 +1,11 @@
+pub mod Alike
+pub mod Alone
+pub mod EqualBinaries
+pub mod Free
+pub mod OneSpelling
+pub mod Placed
+pub mod Spaced
+pub mod Stops
+pub mod Told
+pub mod Unmet
+pub mod Verdict

@@ -1,0 +1,17 @@
+//! What an input of the assembler is worth (WebAssembly Core Specification 3.0, chapter 6): the first condition that it fails, or the module
+//! that it means, whose binary `wasm_layout` lays out, or the pieces of a binary that it spells. It has definitions and laws, and no code.
+//!
+//! # What has to be believed
+//!
+//! | File of `specs/` | Says |
+//! |---|---|
+//! | `Registered` | the annotations that are read |
+//! | `Spells` | which tree a text spells |
+//! | `Naming` | the names that are made for fields that have none, and the first demand of names that isn't met |
+//! | `Verdict` | the conditions and their order, what an input is accepted as, and which bytes are its binary |
+//! | `Laws` | the statements of the law functions |
+//!
+//! What a tree means, and what it must keep to, is said by `wast_meaning`, `wast_conversions` and `wast_meant`.
+#![tactic(auto)]
+
+pub mod laws;
