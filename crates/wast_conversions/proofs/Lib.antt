@@ -1,6 +1,7 @@
 mod Constants
 pub mod Each
 pub mod Empty
+mod Expressions
 pub mod Logarithms
 mod Opcodes
 mod Signatures

@@ -1,13 +1,15 @@
 -- An instruction of the same mnemonic, with the operands that are meant, is the one that is meant.
 use Rattle.std.proofs.Common.{◌≡◌, ℕ, List, [], ◌∷◌, refl, sym, subst, ap, ◌∙◌, Some, None}
-use Rattle.std.specs.Prelude.{ℤ, Option, Result, Ok, Err, IfOk}
+use Rattle.std.specs.Prelude.{ℤ, Option, Result, Ok, Err, IfOk, OnOk}
 use Rattle.wasm_encoder_base.specs.Instr as binary
+use Rattle.wasm_encoder_base.specs.Instr.{kind_at, kind_of, in_range, IsInstr}
 use Rattle.wasm_encoder_base.specs.Table.{table, entries_of}
 use Rattle.wasm_encoder_base.specs.OperandSyntax.{OperandSyntax}
 use Rattle.wasm_encoder_base.specs.OperandSyntax as syntax
 use Rattle.wasm_encoder_instr.specs.MemArg.{is_aligned}
 use Rattle.wasm_encoder_instr.specs.Instruction.{instr_mnemonic, instr_view, can_encode_instr}
 use Rattle.wasm_encoder_instr.specs.declared.instruction.Instruction.{Instruction}
+use Rattle.wasm_encoder_instr.proofs.InTable.{all_listed}
 use Rattle.wast_parser.specs.Identifiers.{Reference}
 use Rattle.wast_value_types.specs.ValueTree.{ValType}
 use Rattle.wast_mnemonics.specs.declared.word.Word.{Word}
@@ -95,3 +97,11 @@ pub converted : {E : Type 0} (i : tree.Instruction) (r : Result Instruction E) �
     → IfOk r (λ j. instr_view j ≡ instr_meant (instruction_tree i)) × IfOk r (λ j. OperandsAligned (instruction_operands i) → can_encode_instr j)
 converted i (Ok j) e c p = let same = as_meant i j e c p in (same, aligned_as i j same)
 converted i (Err x) e c p = (tt, tt)
+
+-- and it is in the table with operands of its kind, in their ranges
+pub in_table : {E : Type 0} (i : tree.Instruction) (r : Result Instruction E) → IfOk r (λ j. instr_view j ≡ instr_meant (instruction_tree i))
+    → OnOk r (in_range (operands_meant (row_of (instruction_word i)) (instruction_operands i))) → OnOk r (IsInstr (instr_meant (instruction_tree i)))
+in_table i (Ok j) e h =
+    let P : binary.Instr → Type 0 = λ k. kind_at k.opcode ≡ Some (kind_of k.operands) in
+    record { listed = subst P e (all_listed j).operands; ranges = subst in_range (same_row (instruction_word i) (instruction_operands i)) h }
+in_table i (Err x) e h = tt

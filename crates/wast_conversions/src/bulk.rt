@@ -1,5 +1,6 @@
 //! Bulk instructions.
 ghost use Rattle.std.specs.Prelude.{◌≡◌, codes};
+ghost use Rattle.wasm_encoder_base.specs.Instr.{in_range};
 ghost use Rattle.wasm_encoder_instr.specs.Bulk.{bulk_mnemonic, bulk_view};
 ghost use Rattle.wast_operands.specs.OperandViews.{memory_copy_tree, table_copy_tree};
 ghost use Rattle.wast_mnemonics.specs.Mnemonics.{word_mnemonic};
@@ -19,6 +20,7 @@ pub(crate) fn bulk(op: &BulkOp<'_>) -> wasm_encoder_instr::BulkOp
     requires { OperandsResolved (bulk_operands op.now) }
     ensures mnemonic { bulk_mnemonic result ≡ word_mnemonic (bulk_word op.now) }
     ensures operands { (bulk_view result).operands ≡ operands_meant (row_of (bulk_word op.now)) (bulk_operands op.now) }
+    ensures sound { in_range (operands_meant (row_of (bulk_word op.now)) (bulk_operands op.now)) }
 {
     match op {
         BulkOp::DataDrop(data) => wasm_encoder_instr::BulkOp::DataDrop(index(data)),
@@ -45,6 +47,7 @@ fn memory_copy(copy: &MemoryCopy<'_>) -> wasm_encoder_instr::BulkOp
     requires { IfThere (λ p. IsNumber p.0 × IsNumber p.1) (memory_copy_tree copy.now) }
     ensures mnemonic { bulk_mnemonic result ≡ codes "memory.copy" }
     ensures operands { (bulk_view result).operands ≡ both_meant (memory_copy_tree copy.now) }
+    ensures sound { in_range (both_meant (memory_copy_tree copy.now)) }
 {
     match &copy.memories {
         Some((to, from)) => wasm_encoder_instr::BulkOp::MemoryCopy {
@@ -63,6 +66,7 @@ fn table_copy(copy: &TableCopy<'_>) -> wasm_encoder_instr::BulkOp
     requires { IfThere (λ p. IsNumber p.0 × IsNumber p.1) (table_copy_tree copy.now) }
     ensures mnemonic { bulk_mnemonic result ≡ codes "table.copy" }
     ensures operands { (bulk_view result).operands ≡ both_meant (table_copy_tree copy.now) }
+    ensures sound { in_range (both_meant (table_copy_tree copy.now)) }
 {
     match &copy.tables {
         Some((to, from)) => wasm_encoder_instr::BulkOp::TableCopy {

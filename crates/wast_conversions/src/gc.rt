@@ -1,7 +1,9 @@
 //! Instructions on references, structures and arrays.
 ghost use Rattle.std.specs.Prelude.{◌≡◌, false, [], codes};
 ghost use Rattle.wasm_encoder_base.specs.Instr as binary;
+ghost use Rattle.wasm_encoder_base.specs.Instr.{in_range};
 ghost use Rattle.wasm_encoder_instr.specs.Gc.{gc_mnemonic, gc_view};
+ghost use Rattle.wasm_layout.specs.IsModule.{IsU32};
 ghost use Rattle.wast_parser.specs.Identifiers.{index_tree};
 ghost use Rattle.wast_value_types.specs.ValueViews.{ref_tree};
 ghost use Rattle.wast_typed_operands.specs.TypedViews.{cast_tree};
@@ -20,6 +22,7 @@ use crate::indices::index;
 use crate::operands::array_fill;
 use crate::types::{heap_type, ref_type};
 use wast_core_instr::GcOp;
+use wast_operands::ArrayNewFixed;
 use wast_typed_operands::{BrOnCast, BrOnCastFail};
 use wast_value_types::RefType;
 
@@ -30,6 +33,7 @@ pub(crate) fn gc(op: &GcOp<'_>) -> wasm_encoder_instr::GcOp
     ensures mnemonic { gc_mnemonic result ≡ word_mnemonic (gc_word op.now) }
     ensures chosen { GcChosen result (choose_second (gc_operands op.now)) }
     ensures operands { (gc_view result).operands ≡ operands_meant (row_of (gc_word op.now)) (gc_operands op.now) }
+    ensures sound { in_range (operands_meant (row_of (gc_word op.now)) (gc_operands op.now)) }
 {
     match op {
         GcOp::RefIsNull => wasm_encoder_instr::GcOp::RefIsNull,
@@ -71,7 +75,7 @@ pub(crate) fn gc(op: &GcOp<'_>) -> wasm_encoder_instr::GcOp
         },
         GcOp::ArrayNewFixed(new) => wasm_encoder_instr::GcOp::ArrayNewFixed {
             array_type_index: index(&new.array),
-            array_size: new.length,
+            array_size: fixed_length(new),
         },
         GcOp::ArrayNewData(new) => wasm_encoder_instr::GcOp::ArrayNewData {
             array_type_index: index(&new.array),
@@ -101,6 +105,14 @@ pub(crate) fn gc(op: &GcOp<'_>) -> wasm_encoder_instr::GcOp
     }
 }
 
+/// How many elements an array is made of.
+fn fixed_length(new: &ArrayNewFixed<'_>) -> u32
+    ensures same { result ≡ new.now.length }
+    ensures sound { IsU32 new.now.length }
+{
+    new.length
+}
+
 /// `ref.test`, of which there are two.
 fn ref_test(ty: &RefType<'_>) -> wasm_encoder_instr::GcOp
     requires resolved { RefResolved (ref_tree ty.now) }
@@ -108,6 +120,7 @@ fn ref_test(ty: &RefType<'_>) -> wasm_encoder_instr::GcOp
     ensures mnemonic { gc_mnemonic result ≡ codes "ref.test" }
     ensures chosen { GcChosen result ty.now.nullable }
     ensures operands { (gc_view result).operands ≡ binary.Heap (heap_meant (ref_tree ty.now).heap_type) }
+    ensures sound { in_range (binary.Heap (heap_meant (ref_tree ty.now).heap_type)) }
 {
     let heap_type = heap_type(&ty.heap);
     if ty.nullable {
@@ -124,6 +137,7 @@ fn ref_cast(ty: &RefType<'_>) -> wasm_encoder_instr::GcOp
     ensures mnemonic { gc_mnemonic result ≡ codes "ref.cast" }
     ensures chosen { GcChosen result ty.now.nullable }
     ensures operands { (gc_view result).operands ≡ binary.Heap (heap_meant (ref_tree ty.now).heap_type) }
+    ensures sound { in_range (binary.Heap (heap_meant (ref_tree ty.now).heap_type)) }
 {
     let heap_type = heap_type(&ty.heap);
     if ty.nullable {
@@ -141,6 +155,7 @@ fn br_on_cast(cast: &BrOnCast<'_>) -> wasm_encoder_instr::GcOp
     ensures mnemonic { gc_mnemonic result ≡ codes "br_on_cast" }
     ensures chosen { GcChosen result false }
     ensures operands { (gc_view result).operands ≡ binary.Cast (number_of (index_tree cast.now.label)) (ref_meant (ref_tree cast.now.from_type)) (ref_meant (ref_tree cast.now.to_type)) }
+    ensures sound { in_range (binary.Cast (number_of (index_tree cast.now.label)) (ref_meant (ref_tree cast.now.from_type)) (ref_meant (ref_tree cast.now.to_type))) }
 {
     wasm_encoder_instr::GcOp::BrOnCast {
         relative_depth: index(&cast.label),
@@ -157,6 +172,7 @@ fn br_on_cast_fail(cast: &BrOnCastFail<'_>) -> wasm_encoder_instr::GcOp
     ensures mnemonic { gc_mnemonic result ≡ codes "br_on_cast_fail" }
     ensures chosen { GcChosen result false }
     ensures operands { (gc_view result).operands ≡ binary.Cast (number_of (index_tree cast.now.label)) (ref_meant (ref_tree cast.now.from_type)) (ref_meant (ref_tree cast.now.to_type)) }
+    ensures sound { in_range (binary.Cast (number_of (index_tree cast.now.label)) (ref_meant (ref_tree cast.now.from_type)) (ref_meant (ref_tree cast.now.to_type))) }
 {
     wasm_encoder_instr::GcOp::BrOnCastFail {
         relative_depth: index(&cast.label),

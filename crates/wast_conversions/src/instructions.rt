@@ -1,9 +1,11 @@
 //! Instructions.
-ghost use Rattle.std.specs.Prelude.{◌≡◌, true, false, [], All, IfOk, map, codes};
-ghost use Rattle.std.specs.List.{flat_map};
+ghost use Rattle.std.specs.Prelude.{◌≡◌, true, false, [], All, IfOk, OnOk, map, codes};
+ghost use Rattle.std.specs.List.{flat_map, AllByRecursion};
 ghost use Rattle.wasm_encoder_base.specs.Instr as binary;
+ghost use Rattle.wasm_encoder_base.specs.Instr.{in_range, IsCatch, IsInstr};
 ghost use Rattle.wasm_encoder_instr.specs.Catch.{catch_view};
 ghost use Rattle.wasm_encoder_instr.specs.Instruction.{instr_mnemonic, instr_view, can_encode_instr};
+ghost use Rattle.wasm_layout.specs.IsModule.{IsU32};
 ghost use Rattle.wast_parser.specs.Identifiers.{index_tree};
 ghost use Rattle.wast_value_types.specs.ValueViews.{val_tree};
 ghost use Rattle.wast_operands.specs.OperandViews.{label_table_tree};
@@ -43,6 +45,7 @@ pub fn instruction(
     requires covered { instr_forms (instruction_tree instruction.now) ≡ [] }
     ensures same { IfOk result (λ i. instr_view i ≡ instr_meant (instruction_tree instruction.now)) }
     ensures aligned { IfOk result (λ i. OperandsAligned (instruction_operands instruction.now) → can_encode_instr i) }
+    ensures sound { OperandsAligned (instruction_operands instruction.now) → OnOk result (IsInstr (instr_meant (instruction_tree instruction.now))) }
 {
     with_operands(alloc, instruction)
 }
@@ -58,6 +61,7 @@ fn with_operands(
     ensures mnemonic { IfOk result (λ i. instr_mnemonic i ≡ word_mnemonic (instruction_word instruction.now)) }
     ensures chosen { IfOk result (λ i. Chosen i (choose_second (instruction_operands instruction.now))) }
     ensures operands { IfOk result (λ i. (instr_view i).operands ≡ operands_meant (row_of (instruction_word instruction.now)) (instruction_operands instruction.now)) }
+    ensures sound { OperandsAligned (instruction_operands instruction.now) → OnOk result (in_range (operands_meant (row_of (instruction_word instruction.now)) (instruction_operands instruction.now))) }
 {
     match instruction {
         Instruction::Unreachable => Ok(wasm_encoder_instr::Instruction::Unreachable),
@@ -169,6 +173,7 @@ fn br_table(
     ensures mnemonic { IfOk result (λ i. instr_mnemonic i ≡ codes "br_table") }
     ensures chosen { IfOk result (λ i. Chosen i false) }
     ensures operands { IfOk result (λ i. (instr_view i).operands ≡ binary.LabelTable (map number_of (label_table_tree table.now).0) (number_of (label_table_tree table.now).1)) }
+    ensures sound { OnOk result (in_range (binary.LabelTable (map number_of (label_table_tree table.now).0) (number_of (label_table_tree table.now).1))) }
 {
     let labels = indices(alloc, &table.labels)?;
     Ok(wasm_encoder_instr::Instruction::BrTable(Items::owned(labels), index(&table.default)))
@@ -177,7 +182,8 @@ fn br_table(
 /// The numbers that indices are. Fails only for want of memory.
 fn indices(alloc: Global, indices: &[Index<'_>]) -> Result<Vec<u32>, AllocError>
     requires { All IsNumber (map index_tree indices.now) }
-    ensures { IfOk result (λ v. v.items ≡ map number_of (map index_tree indices.now)) }
+    ensures same { IfOk result (λ v. v.items ≡ map number_of (map index_tree indices.now)) }
+    ensures sound { OnOk result (AllByRecursion IsU32 (map number_of (map index_tree indices.now))) }
 {
     let mut numbers = Vec::with_capacity(alloc, indices.len())?;
     for number in indices {
@@ -196,6 +202,7 @@ fn try_table(
     ensures mnemonic { IfOk result (λ i. instr_mnemonic i ≡ codes "try_table") }
     ensures chosen { IfOk result (λ i. Chosen i false) }
     ensures operands { IfOk result (λ i. (instr_view i).operands ≡ binary.TryTable (block_meant (try_table_tree table.now).block.type_use) (map catch_meant (try_table_tree table.now).catches)) }
+    ensures sound { OnOk result (in_range (binary.TryTable (block_meant (try_table_tree table.now).block.type_use) (map catch_meant (try_table_tree table.now).catches))) }
 {
     let clauses = catches(alloc, &table.catches)?;
     Ok(wasm_encoder_instr::Instruction::TryTable(block_type(&table.block), Items::owned(clauses)))
@@ -207,7 +214,8 @@ fn catches(
     clauses: &[TryTableCatch<'_>],
 ) -> Result<Vec<wasm_encoder_instr::Catch>, AllocError>
     requires { All CatchResolved (map catch_tree clauses.now) }
-    ensures { IfOk result (λ v. map catch_view v.items ≡ map catch_meant (map catch_tree clauses.now)) }
+    ensures same { IfOk result (λ v. map catch_view v.items ≡ map catch_meant (map catch_tree clauses.now)) }
+    ensures sound { OnOk result (AllByRecursion IsCatch (map catch_meant (map catch_tree clauses.now))) }
 {
     let mut converted = Vec::with_capacity(alloc, clauses.len())?;
     for clause in clauses {
@@ -226,6 +234,7 @@ fn select(
     ensures mnemonic { IfOk result (λ i. instr_mnemonic i ≡ codes "select") }
     ensures chosen { IfOk result (λ i. Chosen i (choose_second (instr.Types (select_types_tree types.now)))) }
     ensures operands { IfOk result (λ i. (instr_view i).operands ≡ select_meant (select_types_tree types.now)) }
+    ensures sound { OnOk result (in_range (select_meant (select_types_tree types.now))) }
 {
     match &types.tys {
         None => Ok(wasm_encoder_instr::Instruction::Select),
@@ -243,6 +252,7 @@ fn typed_select(
     ensures mnemonic { IfOk result (λ i. instr_mnemonic i ≡ codes "select") }
     ensures chosen { IfOk result (λ i. Chosen i true) }
     ensures operands { IfOk result (λ i. (instr_view i).operands ≡ binary.ValTypes (map val_meant (map val_tree types.now))) }
+    ensures sound { OnOk result (in_range (binary.ValTypes (map val_meant (map val_tree types.now)))) }
 {
     match types {
         [ty] => Ok(wasm_encoder_instr::Instruction::TypedSelect(val_type(ty))),

@@ -1,38 +1,60 @@
 //! Types of tables, memories and globals, what is imported, and kinds of exports.
-ghost use Rattle.std.specs.Prelude.{◌≡◌, []};
+ghost use Rattle.std.specs.Prelude.{◌≡◌, [], None};
+ghost use Rattle.wasm_encoder_base.specs.Types.{IsValType};
 ghost use Rattle.wasm_encoder_items.specs.Views.{table_view, memory_view, global_view, entity_view, export_kind_view};
-ghost use Rattle.wast_value_types.specs.ValueViews.{table_tree, memory_tree, global_tree};
+ghost use Rattle.wasm_layout.specs.IsModule.{IsLimits, IsTableType, IsEntity};
+ghost use Rattle.wast_value_types.specs.ValueViews.{limits_tree, table_tree, memory_tree, global_tree};
 ghost use Rattle.wast_imports.specs.ImportViews.{extern_tree};
 ghost use Rattle.wast_exports.specs.ExportViews.{kind_view};
-ghost use Rattle.wast_conversions.specs.Types.{table_meant, memory_meant, global_meant, extern_meant, export_kind_meant};
+ghost use Rattle.wast_conversions.specs.Types.{limits_meant, table_meant, memory_meant, global_meant, extern_meant, export_kind_meant};
 ghost use Rattle.wast_conversions.specs.Resolved.{RefResolved, ValResolved, ExternResolved};
 ghost use Rattle.wast_conversions.specs.Covered.{table_forms, global_forms, extern_forms};
 
 use crate::types::{ref_type, type_index, val_type};
+use wasm_encoder_base::RefType;
 use wasm_encoder_items::{EntityType, TagKind};
 use wast_exports::ExportKind;
 use wast_imports::{ItemKind, TagType};
-use wast_value_types::{GlobalType, MemoryType, TableType};
+use wast_value_types::{GlobalType, Limits, MemoryType, TableType};
 
 /// A table type (6.4.12).
 #[tactic(auto, using(crate::proofs::Empty::back))]
 pub fn table_type(ty: &TableType<'_>) -> wasm_encoder_items::TableType
     requires resolved { RefResolved (table_tree ty.now).element }
     requires covered { table_forms (table_tree ty.now) ≡ [] }
-    ensures { table_view result ≡ table_meant (table_tree ty.now) }
+    ensures same { table_view result ≡ table_meant (table_tree ty.now) }
+    ensures sound { IsTableType (table_meant (table_tree ty.now)) }
+{
+    table_of(ref_type(&ty.elem), ty.limits, ty.shared)
+}
+
+/// The type of tables of these elements, within these limits.
+fn table_of(element_type: RefType, limits: Limits, shared: bool) -> wasm_encoder_items::TableType
+    ensures element { result.element_type ≡ element_type }
+    ensures limits { (table_view result).limits ≡ limits_meant (limits_tree limits) shared None }
+    ensures sound { IsLimits (limits_meant (limits_tree limits) shared None) }
 {
     wasm_encoder_items::TableType {
-        element_type: ref_type(&ty.elem),
-        table64: ty.limits.is64,
-        minimum: ty.limits.min,
-        maximum: ty.limits.max,
-        shared: ty.shared,
+        element_type,
+        table64: limits.is64,
+        minimum: limits.min,
+        maximum: limits.max,
+        shared,
     }
 }
 
 /// A memory type (6.4.11).
 pub fn memory_type(ty: &MemoryType) -> wasm_encoder_items::MemoryType
-    ensures { memory_view result ≡ memory_meant (memory_tree ty.now) }
+    ensures same { memory_view result ≡ memory_meant (memory_tree ty.now) }
+    ensures sound { IsLimits (memory_meant (memory_tree ty.now)) }
+{
+    memory_of(*ty)
+}
+
+/// The type of memories within the limits of this.
+fn memory_of(ty: MemoryType) -> wasm_encoder_items::MemoryType
+    ensures same { memory_view result ≡ memory_meant (memory_tree ty) }
+    ensures sound { IsLimits (memory_meant (memory_tree ty)) }
 {
     wasm_encoder_items::MemoryType {
         minimum: ty.limits.min,
@@ -48,7 +70,8 @@ pub fn memory_type(ty: &MemoryType) -> wasm_encoder_items::MemoryType
 pub fn global_type(ty: &GlobalType<'_>) -> wasm_encoder_items::GlobalType
     requires resolved { ValResolved (global_tree ty.now).val_type }
     requires covered { global_forms (global_tree ty.now) ≡ [] }
-    ensures { global_view result ≡ global_meant (global_tree ty.now) }
+    ensures same { global_view result ≡ global_meant (global_tree ty.now) }
+    ensures sound { IsValType (global_meant (global_tree ty.now)).val_type }
 {
     wasm_encoder_items::GlobalType {
         val_type: val_type(&ty.ty),
@@ -61,7 +84,8 @@ pub fn global_type(ty: &GlobalType<'_>) -> wasm_encoder_items::GlobalType
 pub fn entity_type(kind: &ItemKind<'_>) -> EntityType
     requires resolved { ExternResolved (extern_tree kind.now) }
     requires covered { extern_forms (extern_tree kind.now) ≡ [] }
-    ensures { entity_view result ≡ extern_meant (extern_tree kind.now) }
+    ensures same { entity_view result ≡ extern_meant (extern_tree kind.now) }
+    ensures sound { IsEntity (extern_meant (extern_tree kind.now)) }
 {
     match kind {
         ItemKind::Func(ty) => EntityType::Function(type_index(ty)),

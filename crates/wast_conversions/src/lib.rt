@@ -3,9 +3,14 @@
 //! Each function takes a tree that is resolved, in which each index is a number and each use of a type has its index, and that is
 //! covered, in which no form stands that has no bytes here. It answers the encoder's value, or the number, that the tree stands for:
 //! [`val_type`] the type of values of `(ref null 3)`, [`table_arg`] 0 where no table is written, [`instruction`] `i32.const -1` of
-//! `i32.const 0xffffffff`. What makes lists takes an allocator, and is refused only for want of memory.
+//! `i32.const 0xffffffff`. What makes lists takes an allocator, and is refused only for want of memory, but for [`const_expr`]: it writes
+//! the instructions, and refuses a count in them past 4294967295 too.
 //!
 //! An alignment becomes its logarithm. It can be encoded where it is a power of two below 65536.
+//!
+//! The clauses `sound` say that the numbers in what a tree stands for are in the ranges of their binary fields, as `IsModule` of
+//! `wasm_layout` asks, and that an instruction is one of the table, with operands of its kind; where an alignment is in it, as above.
+//! A list whose conversion was refused has not been read whole, so nothing is said of it.
 //!
 //! # What has to be believed
 //!
@@ -17,10 +22,12 @@
 //! | `Resolved` | trees in which each index is a number |
 //! | `Covered` | the forms in trees that have no bytes here, and what they are called |
 //!
-//! `Rows` serves private contracts: what the table says of a word's operands, and which of two entries an instruction is of.
+//! `Rows` serves private contracts: what the table says of a word's operands, which of two entries an instruction is of, and the bytes of what it
+//! stands for.
 #![tactic(auto)]
 
 mod bulk;
+mod expression;
 mod gc;
 mod indices;
 mod instructions;
@@ -29,6 +36,7 @@ mod operands;
 mod types;
 mod vector_arg;
 
+pub use expression::const_expr;
 pub use indices::index;
 pub use instructions::instruction;
 pub use items::{entity_type, export_kind, global_type, memory_type, table_type};

@@ -1,12 +1,14 @@
 //! Operands.
 ghost use Rattle.std.specs.Prelude.{◌≡◌, ◌<◌, [], map, option_map, unwrap_or};
-ghost use Rattle.std.specs.List.{flat_map};
+ghost use Rattle.std.specs.List.{flat_map, AllByRecursion};
 ghost use Rattle.std.specs.Int.{w128, cast_unsigned};
 ghost use Rattle.wasm_encoder_base.specs.Instr as binary;
+ghost use Rattle.wasm_encoder_base.specs.Instr.{in_range, IsBlockType, IsCatch, IsMemArg};
 ghost use Rattle.wasm_encoder_instr.specs.Block.{block_view};
 ghost use Rattle.wasm_encoder_instr.specs.Catch.{catch_view};
 ghost use Rattle.wasm_encoder_instr.specs.MemArg.{memory_view, mem_arg_view};
 ghost use Rattle.wasm_encoder_instr.specs.Ordering.{ordering_bytes};
+ghost use Rattle.wasm_layout.specs.IsModule.{IsU32, IsU64};
 ghost use Rattle.wast_parser.specs.Identifiers.{index_tree};
 ghost use Rattle.wast_core_types.specs.TypeViews.{sig_tree, use_tree};
 ghost use Rattle.wast_value_types.specs.ValueViews.{val_tree};
@@ -32,7 +34,8 @@ use wast_value_types::ValType;
 /// The number of a table that may be left out, and is 0 then (6.5.5).
 pub fn table_arg(arg: &TableArg<'_>) -> u32
     requires { IfThere IsNumber (table_arg_tree arg.now) }
-    ensures { result ≡ optional_meant (table_arg_tree arg.now) }
+    ensures same { result ≡ optional_meant (table_arg_tree arg.now) }
+    ensures sound { IsU32 (optional_meant (table_arg_tree arg.now)) }
 {
     optional_index(&arg.dst)
 }
@@ -40,7 +43,8 @@ pub fn table_arg(arg: &TableArg<'_>) -> u32
 /// The number of a memory that may be left out, and is 0 then (6.5.6).
 pub fn memory_arg(arg: &MemoryArg<'_>) -> u32
     requires { IfThere IsNumber (memory_arg_tree arg.now) }
-    ensures { result ≡ optional_meant (memory_arg_tree arg.now) }
+    ensures same { result ≡ optional_meant (memory_arg_tree arg.now) }
+    ensures sound { IsU32 (optional_meant (memory_arg_tree arg.now)) }
 {
     optional_index(&arg.mem)
 }
@@ -48,29 +52,39 @@ pub fn memory_arg(arg: &MemoryArg<'_>) -> u32
 /// The number of the array type that is filled (6.5.7).
 pub fn array_fill(fill: &ArrayFill<'_>) -> u32
     requires { IsNumber (index_tree fill.now.array) }
-    ensures { result ≡ number_of (index_tree fill.now.array) }
+    ensures same { result ≡ number_of (index_tree fill.now.array) }
+    ensures sound { IsU32 (number_of (index_tree fill.now.array)) }
 {
     index(&fill.array)
 }
 
 /// The number of a lane (6.5.10).
 pub fn lane_arg(arg: LaneArg) -> Lane
-    ensures { result ≡ arg.lane }
+    ensures same { result ≡ arg.lane }
+    ensures sound { in_range (binary.Lane arg.lane) }
 {
     arg.lane
 }
 
 /// The lanes of a shuffle (6.5.10).
 pub fn shuffle(lanes: &I8x16Shuffle) -> [Lane; 16]
-    ensures { result ≡ lanes.now.lanes }
+    ensures same { result ≡ lanes.now.lanes }
+    ensures sound { in_range (binary.Shuffle lanes.now.lanes) }
 {
+    lanes_in_range(&lanes.lanes);
     lanes.lanes
 }
+
+/// Lanes are numbers of 8 bits.
+fn lanes_in_range(lanes: &[Lane])
+    ensures { AllByRecursion (λ n. n < 256) lanes.now }
+{}
 
 /// A constant of 128 bits (6.5.10), whose lanes are integers: its lanes' bytes are its own, the low one first.
 pub fn v128_const(value: &V128Const<'_>) -> i128
     requires { vector_forms (vector_tree value.now) ≡ [] }
-    ensures { cast_unsigned w128 result ≡ vector_meant (vector_tree value.now) }
+    ensures same { cast_unsigned w128 result ≡ vector_meant (vector_tree value.now) }
+    ensures sound { in_range (binary.V128 (vector_meant (vector_tree value.now))) }
 {
     match value.to_le_bytes() {
         Some(bytes) => u128::from_le_bytes(bytes).cast_signed(),
@@ -95,9 +109,10 @@ pub fn mem_arg(arg: &MemArg<'_>) -> wasm_encoder_instr::MemArg
     requires covered { mem_arg_forms (mem_arg_tree arg.now) ≡ [] }
     ensures same { mem_arg_view result ≡ mem_arg_meant (mem_arg_tree arg.now) }
     ensures aligned { IsPower arg.now.align → result.align < 16 }
+    ensures sound { IsPower arg.now.align → IsMemArg (mem_arg_meant (mem_arg_tree arg.now)) }
 {
     wasm_encoder_instr::MemArg {
-        offset: arg.offset,
+        offset: offset(arg),
         align: alignment_logarithm(arg.align),
         target: mem_arg_target(&arg.target),
     }
@@ -111,11 +126,20 @@ fn alignment_logarithm(align: u64) -> u32
     align.trailing_zeros()
 }
 
+/// The offset of a memory argument.
+fn offset(arg: &MemArg<'_>) -> u64
+    ensures same { result ≡ arg.now.offset }
+    ensures sound { IsU64 arg.now.offset }
+{
+    arg.offset
+}
+
 /// The memory that a memory argument is of, 0 where none is written.
 fn mem_arg_target(target: &Option<MemArgTarget<'_>>) -> wasm_encoder_instr::MemArgTarget
     requires resolved { IfThere TargetResolved (option_map target_tree target.now) }
     requires covered { target_forms (option_map target_tree target.now) ≡ [] }
-    ensures { memory_view result ≡ unwrap_or (option_map target_meant (option_map target_tree target.now)) 0 }
+    ensures same { memory_view result ≡ unwrap_or (option_map target_meant (option_map target_tree target.now)) 0 }
+    ensures sound { IsU32 (unwrap_or (option_map target_meant (option_map target_tree target.now)) 0) }
 {
     match target {
         None => wasm_encoder_instr::MemArgTarget::Memory(0),
@@ -130,7 +154,8 @@ fn mem_arg_target(target: &Option<MemArgTarget<'_>>) -> wasm_encoder_instr::MemA
 pub fn block_type(ty: &BlockType<'_>) -> wasm_encoder_instr::BlockType
     requires resolved { BlockResolved (block_tree ty.now).type_use }
     requires covered { use_forms (block_tree ty.now).type_use ≡ [] }
-    ensures { block_view result ≡ block_meant (block_tree ty.now).type_use }
+    ensures same { block_view result ≡ block_meant (block_tree ty.now).type_use }
+    ensures sound { IsBlockType (block_meant (block_tree ty.now).type_use) }
 {
     match &ty.ty.index {
         Some(number) => wasm_encoder_instr::BlockType::FunctionType(index(number)),
@@ -143,7 +168,8 @@ pub fn block_type(ty: &BlockType<'_>) -> wasm_encoder_instr::BlockType
 fn short_block(inline: &Option<FunctionType<'_>>) -> wasm_encoder_instr::BlockType
     requires resolved { ShortResolved (option_map sig_tree inline.now) }
     requires covered { inline_forms (option_map sig_tree inline.now) ≡ [] }
-    ensures { block_view result ≡ inline_meant (option_map sig_tree inline.now) }
+    ensures same { block_view result ≡ inline_meant (option_map sig_tree inline.now) }
+    ensures sound { IsBlockType (inline_meant (option_map sig_tree inline.now)) }
 {
     match inline {
         Some(ty) => results_type(&ty.results),
@@ -156,7 +182,8 @@ fn short_block(inline: &Option<FunctionType<'_>>) -> wasm_encoder_instr::BlockTy
 fn results_type(results: &[ValType<'_>]) -> wasm_encoder_instr::BlockType
     requires resolved { ResultsResolved (map val_tree results.now) }
     requires covered { flat_map val_forms (map val_tree results.now) ≡ [] }
-    ensures { block_view result ≡ results_meant (map val_tree results.now) }
+    ensures same { block_view result ≡ results_meant (map val_tree results.now) }
+    ensures sound { IsBlockType (results_meant (map val_tree results.now)) }
 {
     match results {
         [ty, ..] => wasm_encoder_instr::BlockType::Result(val_type(ty)),
@@ -167,7 +194,8 @@ fn results_type(results: &[ValType<'_>]) -> wasm_encoder_instr::BlockType
 /// A clause of a `try_table` (6.5.2).
 pub fn catch(clause: &TryTableCatch<'_>) -> wasm_encoder_instr::Catch
     requires { CatchResolved (catch_tree clause.now) }
-    ensures { catch_view result ≡ catch_meant (catch_tree clause.now) }
+    ensures same { catch_view result ≡ catch_meant (catch_tree clause.now) }
+    ensures sound { IsCatch (catch_meant (catch_tree clause.now)) }
 {
     let label = &clause.label;
     match &clause.kind {

@@ -1,7 +1,9 @@
 //! Types of values, heaps, functions, structures and arrays, and their definitions.
-ghost use Rattle.std.specs.Prelude.{◌≡◌, [], All, IfOk, map, option_map};
-ghost use Rattle.std.specs.List.{flat_map};
+ghost use Rattle.std.specs.Prelude.{◌≡◌, [], All, IfOk, OnOk, map, option_map};
+ghost use Rattle.std.specs.List.{flat_map, AllByRecursion};
+ghost use Rattle.wasm_encoder_base.specs.Types.{supertype_list, IsHeapType, IsValType, IsStorageType, IsFuncType, IsCompositeType, IsSubType};
 ghost use Rattle.wasm_encoder_base.specs.Views.{abstract_view, heap_view, ref_view, val_view, storage_view, field_view, func_view, struct_view, array_view, composite_view, sub_view};
+ghost use Rattle.wasm_layout.specs.IsModule.{IsU32};
 ghost use Rattle.wast_parser.specs.Identifiers.{index_tree};
 ghost use Rattle.wast_value_types.specs.ValueViews.{heap_word, heap_tree, ref_tree, val_tree, storage_tree, field_tree};
 ghost use Rattle.wast_core_types.specs.TypeViews.{param_tree, sig_tree, array_tree, struct_field_tree, inner_tree, definition_tree, use_tree};
@@ -23,7 +25,8 @@ use wast_value_types::{AbstractHeapType, FieldType, HeapType, RefType, StorageTy
 pub fn heap_type(ty: &HeapType<'_>) -> wasm_encoder_base::HeapType
     requires resolved { HeapResolved (heap_tree ty.now) }
     requires covered { heap_forms (heap_tree ty.now) ≡ [] }
-    ensures { heap_view result ≡ heap_meant (heap_tree ty.now) }
+    ensures same { heap_view result ≡ heap_meant (heap_tree ty.now) }
+    ensures sound { IsHeapType (heap_meant (heap_tree ty.now)) }
 {
     match ty {
         HeapType::Abstract { ty, .. } => wasm_encoder_base::HeapType::Abstract(abstract_heap_type(
@@ -60,7 +63,8 @@ fn abstract_heap_type(ty: AbstractHeapType) -> wasm_encoder_base::AbstractHeapTy
 pub fn ref_type(ty: &RefType<'_>) -> wasm_encoder_base::RefType
     requires resolved { RefResolved (ref_tree ty.now) }
     requires covered { ref_forms (ref_tree ty.now) ≡ [] }
-    ensures { ref_view result ≡ ref_meant (ref_tree ty.now) }
+    ensures same { ref_view result ≡ ref_meant (ref_tree ty.now) }
+    ensures sound { IsHeapType (ref_meant (ref_tree ty.now)).heap_type }
 {
     wasm_encoder_base::RefType {
         nullable: ty.nullable,
@@ -72,7 +76,8 @@ pub fn ref_type(ty: &RefType<'_>) -> wasm_encoder_base::RefType
 pub fn val_type(ty: &ValType<'_>) -> wasm_encoder_base::ValType
     requires resolved { ValResolved (val_tree ty.now) }
     requires covered { val_forms (val_tree ty.now) ≡ [] }
-    ensures { val_view result ≡ val_meant (val_tree ty.now) }
+    ensures same { val_view result ≡ val_meant (val_tree ty.now) }
+    ensures sound { IsValType (val_meant (val_tree ty.now)) }
 {
     match ty {
         ValType::I32 => wasm_encoder_base::ValType::I32,
@@ -88,7 +93,8 @@ pub fn val_type(ty: &ValType<'_>) -> wasm_encoder_base::ValType
 pub fn storage_type(ty: &StorageType<'_>) -> wasm_encoder_base::StorageType
     requires resolved { StorageResolved (storage_tree ty.now) }
     requires covered { storage_forms (storage_tree ty.now) ≡ [] }
-    ensures { storage_view result ≡ storage_meant (storage_tree ty.now) }
+    ensures same { storage_view result ≡ storage_meant (storage_tree ty.now) }
+    ensures sound { IsStorageType (storage_meant (storage_tree ty.now)) }
 {
     match ty {
         StorageType::I8 => wasm_encoder_base::StorageType::I8,
@@ -101,7 +107,8 @@ pub fn storage_type(ty: &StorageType<'_>) -> wasm_encoder_base::StorageType
 pub fn field_type(ty: &FieldType<'_>) -> wasm_encoder_base::FieldType
     requires resolved { StorageResolved (field_tree ty.now).storage }
     requires covered { storage_forms (field_tree ty.now).storage ≡ [] }
-    ensures { field_view result ≡ field_meant (field_tree ty.now) }
+    ensures same { field_view result ≡ field_meant (field_tree ty.now) }
+    ensures sound { IsStorageType (field_meant (field_tree ty.now)).element_type }
 {
     wasm_encoder_base::FieldType {
         element_type: storage_type(&ty.ty),
@@ -113,7 +120,8 @@ pub fn field_type(ty: &FieldType<'_>) -> wasm_encoder_base::FieldType
 pub fn array_type(ty: &ArrayType<'_>) -> wasm_encoder_base::ArrayType
     requires resolved { StorageResolved (array_tree ty.now).storage }
     requires covered { storage_forms (array_tree ty.now).storage ≡ [] }
-    ensures { array_view result ≡ field_meant (array_tree ty.now) }
+    ensures same { array_view result ≡ field_meant (array_tree ty.now) }
+    ensures sound { IsStorageType (field_meant (array_tree ty.now)).element_type }
 {
     wasm_encoder_base::ArrayType(wasm_encoder_base::FieldType {
         element_type: storage_type(&ty.ty),
@@ -128,7 +136,8 @@ pub fn struct_type(
 ) -> Result<wasm_encoder_base::StructType, AllocError>
     requires resolved { All (λ f. StorageResolved f.field_type.storage) (map struct_field_tree ty.now.fields.items) }
     requires covered { flat_map (λ f. storage_forms f.field_type.storage) (map struct_field_tree ty.now.fields.items) ≡ [] }
-    ensures { IfOk result (λ s. struct_view s ≡ map (λ f. field_meant f.field_type) (map struct_field_tree ty.now.fields.items)) }
+    ensures same { IfOk result (λ s. struct_view s ≡ map (λ f. field_meant f.field_type) (map struct_field_tree ty.now.fields.items)) }
+    ensures sound { OnOk result (AllByRecursion (λ f. IsStorageType f.element_type) (map (λ f. field_meant f.field_type) (map struct_field_tree ty.now.fields.items))) }
 {
     let fields = struct_fields(alloc, &ty.fields)?;
     Ok(wasm_encoder_base::StructType {
@@ -143,7 +152,8 @@ fn struct_fields(
 ) -> Result<Vec<wasm_encoder_base::FieldType>, AllocError>
     requires resolved { All (λ f. StorageResolved f.field_type.storage) (map struct_field_tree fields.now) }
     requires covered { flat_map (λ f. storage_forms f.field_type.storage) (map struct_field_tree fields.now) ≡ [] }
-    ensures { IfOk result (λ v. map field_view v.items ≡ map (λ f. field_meant f.field_type) (map struct_field_tree fields.now)) }
+    ensures same { IfOk result (λ v. map field_view v.items ≡ map (λ f. field_meant f.field_type) (map struct_field_tree fields.now)) }
+    ensures sound { OnOk result (AllByRecursion (λ f. IsStorageType f.element_type) (map (λ f. field_meant f.field_type) (map struct_field_tree fields.now))) }
 {
     let mut types = Vec::with_capacity(alloc, fields.len())?;
     for field in fields {
@@ -156,7 +166,8 @@ fn struct_fields(
 fn struct_field(field: &StructField<'_>) -> wasm_encoder_base::FieldType
     requires resolved { StorageResolved (struct_field_tree field.now).field_type.storage }
     requires covered { storage_forms (struct_field_tree field.now).field_type.storage ≡ [] }
-    ensures { field_view result ≡ field_meant (struct_field_tree field.now).field_type }
+    ensures same { field_view result ≡ field_meant (struct_field_tree field.now).field_type }
+    ensures sound { IsStorageType (field_meant (struct_field_tree field.now).field_type).element_type }
 {
     wasm_encoder_base::FieldType {
         element_type: storage_type(&field.ty),
@@ -172,7 +183,8 @@ pub fn func_type(
 ) -> Result<wasm_encoder_base::FuncType, AllocError>
     requires resolved { SigResolved (sig_tree ty.now) }
     requires covered { sig_forms (sig_tree ty.now) ≡ [] }
-    ensures { IfOk result (λ f. func_view f ≡ func_meant (sig_tree ty.now)) }
+    ensures same { IfOk result (λ f. func_view f ≡ func_meant (sig_tree ty.now)) }
+    ensures sound { OnOk result (IsFuncType (func_meant (sig_tree ty.now))) }
 {
     let params = param_types(alloc, &ty.params)?;
     let results = val_types(alloc, &ty.results)?;
@@ -186,7 +198,8 @@ fn param_types(
 ) -> Result<Vec<wasm_encoder_base::ValType>, AllocError>
     requires resolved { All (λ p. ValResolved p.val_type) (map param_tree params.now) }
     requires covered { flat_map (λ p. val_forms p.val_type) (map param_tree params.now) ≡ [] }
-    ensures { IfOk result (λ v. map val_view v.items ≡ map (λ p. val_meant p.val_type) (map param_tree params.now)) }
+    ensures same { IfOk result (λ v. map val_view v.items ≡ map (λ p. val_meant p.val_type) (map param_tree params.now)) }
+    ensures sound { OnOk result (AllByRecursion IsValType (map (λ p. val_meant p.val_type) (map param_tree params.now))) }
 {
     let mut types = Vec::with_capacity(alloc, params.len())?;
     for param in params {
@@ -199,7 +212,8 @@ fn param_types(
 fn param_type(param: &Param<'_>) -> wasm_encoder_base::ValType
     requires resolved { ValResolved (param_tree param.now).val_type }
     requires covered { val_forms (param_tree param.now).val_type ≡ [] }
-    ensures { val_view result ≡ val_meant (param_tree param.now).val_type }
+    ensures same { val_view result ≡ val_meant (param_tree param.now).val_type }
+    ensures sound { IsValType (val_meant (param_tree param.now).val_type) }
 {
     val_type(&param.2)
 }
@@ -211,7 +225,8 @@ pub(crate) fn val_types(
 ) -> Result<Vec<wasm_encoder_base::ValType>, AllocError>
     requires resolved { All ValResolved (map val_tree types.now) }
     requires covered { flat_map val_forms (map val_tree types.now) ≡ [] }
-    ensures { IfOk result (λ v. map val_view v.items ≡ map val_meant (map val_tree types.now)) }
+    ensures same { IfOk result (λ v. map val_view v.items ≡ map val_meant (map val_tree types.now)) }
+    ensures sound { OnOk result (AllByRecursion IsValType (map val_meant (map val_tree types.now))) }
 {
     let mut converted = Vec::with_capacity(alloc, types.len())?;
     for ty in types {
@@ -227,7 +242,8 @@ fn composite_type(
 ) -> Result<wasm_encoder_base::CompositeType, AllocError>
     requires resolved { InnerResolved (inner_tree kind.now) }
     requires covered { inner_forms (inner_tree kind.now) ≡ [] }
-    ensures { IfOk result (λ c. composite_view c ≡ inner_meant (inner_tree kind.now)) }
+    ensures same { IfOk result (λ c. composite_view c ≡ inner_meant (inner_tree kind.now)) }
+    ensures sound { OnOk result (IsCompositeType (inner_meant (inner_tree kind.now))) }
 {
     match kind {
         InnerTypeKind::Func(ty) => Ok(wasm_encoder_base::CompositeType::Func(func_type(
@@ -246,7 +262,8 @@ fn composite_type(
 pub fn sub_type(alloc: Global, def: &TypeDef<'_>) -> Result<wasm_encoder_base::SubType, AllocError>
     requires resolved { TypeResolved (definition_tree def.now) }
     requires covered { type_forms (definition_tree def.now) ≡ [] }
-    ensures { IfOk result (λ t. sub_view t ≡ sub_meant (definition_tree def.now)) }
+    ensures same { IfOk result (λ t. sub_view t ≡ sub_meant (definition_tree def.now)) }
+    ensures sound { OnOk result (IsSubType (sub_meant (definition_tree def.now))) }
 {
     Ok(wasm_encoder_base::SubType {
         is_final: def.final_type,
@@ -258,7 +275,8 @@ pub fn sub_type(alloc: Global, def: &TypeDef<'_>) -> Result<wasm_encoder_base::S
 /// The number of the supertype, where there is one.
 fn supertype(parent: &Option<Index<'_>>) -> Option<u32>
     requires { IfThere IsNumber (option_map index_tree parent.now) }
-    ensures { result ≡ option_map number_of (option_map index_tree parent.now) }
+    ensures same { result ≡ option_map number_of (option_map index_tree parent.now) }
+    ensures sound { AllByRecursion IsU32 (supertype_list (option_map number_of (option_map index_tree parent.now))) }
 {
     match parent {
         Some(parent) => Some(index(parent)),
@@ -269,7 +287,8 @@ fn supertype(parent: &Option<Index<'_>>) -> Option<u32>
 /// The number of the type of a use (6.6.3).
 pub(crate) fn type_index(ty: &TypeUse<'_, FunctionType<'_>>) -> u32
     requires { UseResolved (use_tree ty.now) }
-    ensures { result ≡ use_meant (use_tree ty.now) }
+    ensures same { result ≡ use_meant (use_tree ty.now) }
+    ensures sound { IsU32 (use_meant (use_tree ty.now)) }
 {
     match &ty.index {
         Some(number) => index(number),

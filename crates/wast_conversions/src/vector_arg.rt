@@ -1,10 +1,11 @@
 //! Vector instructions with operands.
 ghost use Rattle.std.specs.Prelude.{◌≡◌, []};
+ghost use Rattle.wasm_encoder_base.specs.Instr.{in_range};
 ghost use Rattle.wasm_encoder_instr.specs.VectorArg.{vector_arg_mnemonic, vector_arg_view};
 ghost use Rattle.wast_mnemonics.specs.Mnemonics.{word_mnemonic};
 ghost use Rattle.wast_core_instr.specs.InstructionViews.{vector_arg_operands};
 ghost use Rattle.wast_core_instr.specs.WordViews.{vector_arg_word};
-ghost use Rattle.wast_conversions.specs.Operands.{operands_meant};
+ghost use Rattle.wast_conversions.specs.Operands.{operands_meant, OperandsAligned};
 ghost use Rattle.wast_conversions.specs.Resolved.{OperandsResolved};
 ghost use Rattle.wast_conversions.specs.Covered.{operand_forms};
 ghost use Rattle.wast_conversions.specs.Rows.{row_of};
@@ -18,6 +19,7 @@ pub(crate) fn vector_arg(op: &VectorArgOp<'_>) -> wasm_encoder_instr::VectorArgO
     requires covered { operand_forms (vector_arg_operands op.now) ≡ [] }
     ensures mnemonic { vector_arg_mnemonic result ≡ word_mnemonic (vector_arg_word op.now) }
     ensures operands { (vector_arg_view result).operands ≡ operands_meant (row_of (vector_arg_word op.now)) (vector_arg_operands op.now) }
+    ensures sound { OperandsAligned (vector_arg_operands op.now) → in_range (operands_meant (row_of (vector_arg_word op.now)) (vector_arg_operands op.now)) }
 {
     match op {
         VectorArgOp::V128Const(value) => wasm_encoder_instr::VectorArgOp::V128Const(v128_const(

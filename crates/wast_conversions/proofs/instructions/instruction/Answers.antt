@@ -4,7 +4,7 @@ use Rattle.wast_core_instr.specs.InstructionTree.{choose_second}
 use Rattle.wast_core_instr.specs.InstructionViews.{instruction_operands}
 use Rattle.wast_core_instr.specs.WordViews.{instruction_word}
 use Rattle.wast_conversions.specs.Covered.{operand_forms}
-use Rattle.wast_conversions.proofs.Trees.{covered_operands, covered_listed, converted}
+use Rattle.wast_conversions.proofs.Trees.{covered_operands, covered_listed, converted, in_table}
 use Rattle.wast_conversions.proofs.instructions.instruction.Goals as goal
 
 pub with_operands-requires-clause-covered : goal.with_operands-requires-clause-covered
@@ -20,3 +20,9 @@ returns-clause-same c = (converted c.args.instruction.now c.with_operands.result
 
 pub returns-clause-aligned : goal.returns-clause-aligned
 returns-clause-aligned c = (converted c.args.instruction.now c.with_operands.result c.with_operands.ensures.mnemonic c.with_operands.ensures.chosen c.with_operands.ensures.operands).1
+
+pub returns-clause-sound : goal.returns-clause-sound
+returns-clause-sound c h =
+    in_table c.args.instruction.now c.with_operands.result
+    (converted c.args.instruction.now c.with_operands.result c.with_operands.ensures.mnemonic c.with_operands.ensures.chosen c.with_operands.ensures.operands).0
+    (c.with_operands.ensures.sound h)

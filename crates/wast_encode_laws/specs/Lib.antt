@@ -1,0 +1,5 @@
+pub mod Bounds
+pub mod Formed
+pub mod Laws
+pub mod Orderings
+pub mod Ready

@@ -1,0 +1,9 @@
+pub mod AtStops
+pub mod Bare
+pub mod Carried
+pub mod Free
+pub mod Gaps
+pub mod Renamed
+pub mod Trees
+pub mod Unnamed
+pub mod Woven
