@@ -1,7 +1,7 @@
 -- The branch hints of the module meant stand on instructions of its functions, and rise.
 use Rattle.std.proofs.Common.{◌≡◌, ℕ, suc, ◌+◌, ◌<◌, ◌≤◌, ◌^◌, Bool, true, List, [], ◌∷◌, ◌++◌, length, map, All, Option, Some, None, sym, ◌∙◌, ap, arith, subst}
 use Rattle.std.specs.Prelude.{slice_get}
-use Rattle.std.specs.List.{flat_map, list_all, AllByRecursion}
+use Rattle.std.specs.List.{flat_map, AllByRecursion}
 use Rattle.std.specs.Option.{option_flatten}
 use Rattle.std.proofs.lemmas.List.{length-map}
 use Rattle.std.proofs.lemmas.List.Elements.{All-nil, All-cons, All-head, All-tail}
@@ -10,12 +10,9 @@ use Rattle.wast_imports.specs.ImportTree.{ExternType, OfFunc, OfExactFunc}
 use Rattle.wast_fields.specs.FieldTree.{Function, Defined, Func, Field, ImportField, Define}
 use Rattle.wast_names.specs.Walk.{first_unmet}
 use Rattle.wast_names.specs.Demand.{is_met}
-use Rattle.wast_meaning.specs.Spaces as spaces
-use Rattle.wast_meaning.specs.Scope.{scope_of}
-use Rattle.wast_meaning.specs.Demands.{order_demands, item_demands, field_demands, demands, all_demands}
+use Rattle.wast_meaning.specs.Demands.{all_demands}
 use Rattle.wast_meaning.specs.Numbered.{resolved}
 use Rattle.wast_meaning.specs.WellFormed.{breaches}
-use Rattle.wast_meaning.proofs.Settled.{front}
 use Rattle.wasm_layout.specs.AbstractModule as abstract
 use Rattle.wasm_layout.specs.AbstractModule.{AbstractModule, FunctionHints}
 use Rattle.wasm_layout.specs.IsModule.{Rise, IsHint, AreHints}
@@ -24,13 +21,9 @@ use Rattle.wast_conversions.specs.Instructions.{instr_meant}
 use Rattle.wast_meant.specs.FieldsMeant.{function_of}
 use Rattle.wast_meant.specs.NamesMeant.{GivenName, imported, imported_function, defined_function, bodies_in, function_hints, body_hints, hints_from}
 use Rattle.wast_meant.specs.Meaning.{meant}
-use Rattle.wast_resolve_laws.proofs.Plain.{is_plain, plain_stays}
-use Rattle.wast_resolve_laws.proofs.Resolved.{resolved_met}
-use Rattle.wast_resolve_laws.proofs.Unmet.{all_met}
 use Rattle.wast_encode_laws.specs.Bounds.{BodyFits, BodiesFit}
 use Rattle.wast_encode_laws.specs.Formed.{HintsFit, IsFormed, DefinedFormed, FieldFormed}
-use Rattle.wast_encode_laws.proofs.Placed.{meant_of, bodies, placed}
-use Rattle.wast_encode_laws.proofs.Ready.{resolved_plain}
+use Rattle.wast_encode_laws.proofs.Placed.{meant_of, bodies, sections_of, functions_placed}
 use Rattle.wast_encode_laws.proofs.Formed.{formed}
 
 -- LISTS
@@ -137,25 +130,16 @@ module _ {N P : Type 0} where
 pub hint_functions : {N P : Type 0} (fs : List (Field N P)) → BodiesFit fs → Rise 0 (map (λ g. g.function) (hints_from 0 (flat_map bodies_in fs)))
 hint_functions fs fit = functions_rise 0 (flat_map bodies_in fs) (omega (arith, fit.count))
 
-module _ {N P : Type 0} (eq : N → N → Bool) (is_made : N → Bool) (name : Option (GivenName N)) (rs : List (Field N P)) (plain : list_all is_plain rs ≡ true) (ordered : list_all is_met (order_demands rs) ≡ true) where
+module _ {N P : Type 0} (eq : N → N → Bool) (is_made : N → Bool) (name : Option (GivenName N)) (rs : List (Field N P)) (are_placed : bodies rs ≡ sections_of rs) where
   at_number : (i k : ℕ) → i ≡ 0 + k → function_at (meant eq is_made name rs) i ≡ option_flatten (slice_get (bodies rs) k)
   at_number i k e =
       let same : i ≡ k = omega (arith, e) in
-      ap (λ l. option_flatten (slice_get l i)) (sym (placed rs plain ordered)) ∙ ap (λ j. option_flatten (slice_get (bodies rs) j)) same
+      ap (λ l. option_flatten (slice_get l i)) (sym are_placed) ∙ ap (λ j. option_flatten (slice_get (bodies rs) j)) same
 
   meant_hints : All FieldFormed rs → BodiesFit rs → AllByRecursion (AreHints (meant eq is_made name rs)) (hints_from 0 (flat_map bodies_in rs))
   meant_hints h fit = hints_are (meant eq is_made name rs) 0 (flat_map bodies_in rs) at_number fit.each (bodies_formed rs h)
 
 module _ {N P : Type 0} (eq : N → N → Bool) (self : (n : N) → eq n n ≡ true) (sound : (m n : N) → eq m n ≡ true → m ≡ n) (is_made : N → Bool) (naming : ℕ → N) (fs : List (Field N P)) where
-  abbrev rs : List (Field N P)
-  rs = resolved eq naming fs
-
-  order_met : first_unmet is_met (all_demands eq naming fs) ≡ None → list_all is_met (order_demands rs) ≡ true
-  order_met met =
-      let again = ap (λ gs. first_unmet is_met (demands eq gs)) (sym (plain_stays naming rs (resolved_plain eq naming fs))) ∙ resolved_met eq self sound naming fs met naming in
-      let all = all_met (demands eq rs) again in
-      front is_met (order_demands rs) (item_demands eq (flat_map spaces.items rs)) (front is_met (order_demands rs ++ item_demands eq (flat_map spaces.items rs)) (flat_map (field_demands eq (scope_of eq rs)) rs) all)
-
-  pub hints_fit : (name : Option (GivenName N)) → first_unmet is_met (all_demands eq naming fs) ≡ None → breaches eq is_made fs ≡ [] → BodiesFit rs →
-      AllByRecursion (AreHints (meant eq is_made name rs)) (meant eq is_made name rs).hints
-  hints_fit name met none fit = meant_hints eq is_made name rs (resolved_plain eq naming fs) (order_met met) (formed eq is_made naming fs none) fit
+  pub hints_fit : (name : Option (GivenName N)) → first_unmet is_met (all_demands eq naming fs) ≡ None → breaches eq is_made fs ≡ [] → BodiesFit (resolved eq naming fs) →
+      AllByRecursion (AreHints (meant eq is_made name (resolved eq naming fs))) (meant eq is_made name (resolved eq naming fs)).hints
+  hints_fit name met none fit = meant_hints eq is_made name (resolved eq naming fs) (functions_placed eq self sound naming fs met) (formed eq is_made naming fs none) fit

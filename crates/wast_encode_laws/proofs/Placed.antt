@@ -1,5 +1,5 @@
 -- Where imports stand first, the functions of the index space are those that are imported, then those that are defined.
-use Rattle.std.proofs.Common.{◌≡◌, ℕ, ◌+◌, true, List, [], ◌∷◌, ◌++◌, map, replicate, Option, Some, None, refl, sym, ◌∙◌, ap, append_assoc}
+use Rattle.std.proofs.Common.{◌≡◌, ℕ, ◌+◌, Bool, true, List, [], ◌∷◌, ◌++◌, map, replicate, Option, Some, None, refl, sym, ◌∙◌, ap, append_assoc}
 use Rattle.std.specs.Prelude.{not, option_map}
 use Rattle.std.specs.List.{flat_map, list_all, sum_by}
 use Rattle.std.proofs.lemmas.Bool.{false≢true}
@@ -9,17 +9,23 @@ use Rattle.wasm_encoder_base.specs.Table.{Space}
 use Rattle.wasm_encoder_items.specs.Imports as imports
 use Rattle.wast_imports.specs.ImportTree.{ExternType, OfFunc, OfExactFunc, OfTable, OfMemory, OfGlobal, OfTag, Item, ImportItems, Single, Group1, Group2}
 use Rattle.wast_fields.specs.FieldTree.{Function, Defined, Imported, Func, Field, TypeField, RecField, ImportField, Define, ExportField, StartField, ElemField, DataField, CustomField}
-use Rattle.wast_names.specs.Walk.{walked}
+use Rattle.wast_names.specs.Walk.{walked, first_unmet}
 use Rattle.wast_names.specs.Demand.{Demand, is_met}
 use Rattle.wast_meaning.specs.Written.{has_any, space_of_kind, kind_of}
-use Rattle.wast_meaning.specs.Demands.{space_defined, nearest, order_demand}
-use Rattle.wast_meaning.proofs.Settled.{left, right, back, two}
+use Rattle.wast_meaning.specs.Spaces.{items}
+use Rattle.wast_meaning.specs.Scope.{scope_of}
+use Rattle.wast_meaning.specs.Demands.{space_defined, nearest, order_demand, order_demands, item_demands, field_demands, demands, all_demands}
+use Rattle.wast_meaning.specs.Numbered.{resolved}
+use Rattle.wast_meaning.proofs.Settled.{left, right, back, two, front}
 use Rattle.wasm_layout.specs.AbstractModule as abstract
 use Rattle.wasm_layout.specs.Layout.{is_function, functions_in}
 use Rattle.wast_conversions.specs.Types.{extern_meant}
-use Rattle.wast_resolve_laws.proofs.Plain.{stands_alone, is_plain}
+use Rattle.wast_resolve_laws.proofs.Plain.{stands_alone, is_plain, plain_stays}
+use Rattle.wast_resolve_laws.proofs.Resolved.{resolved_met}
+use Rattle.wast_resolve_laws.proofs.Unmet.{all_met}
 use Rattle.wast_meant.specs.FieldsMeant.{import_of, imports_of, defined_in, function_of, functions_of}
 use Rattle.wast_meant.specs.NamesMeant.{imported, imported_function, defined_function, bodies_in}
+use Rattle.wast_encode_laws.proofs.Ready.{resolved_plain}
 
 -- so many functions without a body
 abbrev absent : ℕ → List (Option abstract.Function)
@@ -128,7 +134,7 @@ module _ {N P : Type 0} where
   import_absent from (Group2 names i) = alike_absent i.extern_type names
 
   -- FUNCTIONS, those that are imported first
-  pub placed : (fs : List (Field N P)) → list_all is_plain fs ≡ true → Ordered None fs → bodies fs ≡ sections_of fs
+  placed : (fs : List (Field N P)) → list_all is_plain fs ≡ true → Ordered None fs → bodies fs ≡ sections_of fs
   placed [] a e = refl
   placed (ImportField i ∷ fs) a e =
       let here = import_of i.from i.items in
@@ -147,3 +153,17 @@ module _ {N P : Type 0} where
   placed (ElemField x ∷ fs) a e = placed fs a e
   placed (DataField d ∷ fs) a e = placed fs a e
   placed (CustomField c ∷ fs) a e = placed fs a e
+
+-- RESOLVED FIELDS, where all demands are met
+module _ {N P : Type 0} (eq : N → N → Bool) (self : (n : N) → eq n n ≡ true) (sound : (m n : N) → eq m n ≡ true → m ≡ n) (naming : ℕ → N) (fs : List (Field N P)) where
+  abbrev rs : List (Field N P)
+  rs = resolved eq naming fs
+
+  order_met : first_unmet is_met (all_demands eq naming fs) ≡ None → list_all is_met (order_demands rs) ≡ true
+  order_met met =
+      let again = ap (λ gs. first_unmet is_met (demands eq gs)) (sym (plain_stays naming rs (resolved_plain eq naming fs))) ∙ resolved_met eq self sound naming fs met naming in
+      let all = all_met (demands eq rs) again in
+      front is_met (order_demands rs) (item_demands eq (flat_map items rs)) (front is_met (order_demands rs ++ item_demands eq (flat_map items rs)) (flat_map (field_demands eq (scope_of eq rs)) rs) all)
+
+  pub functions_placed : first_unmet is_met (all_demands eq naming fs) ≡ None → bodies rs ≡ sections_of rs
+  functions_placed met = placed rs (resolved_plain eq naming fs) (order_met met)

@@ -1,6 +1,6 @@
 -- The statements of the crate's law functions.
-use Rattle.std.specs.Prelude.{◌≡◌, ◌≤◌, ℕ, Bool, true, List, [], length, map, All, Option, None}
-use Rattle.std.specs.List.{flat_map, AllByRecursion}
+use Rattle.std.specs.Prelude.{◌≡◌, ◌≤◌, ℕ, Bool, true, List, [], length, map, replicate, All, Option, Some, None, option_map, ◌++◌}
+use Rattle.std.specs.List.{flat_map, sum_by, AllByRecursion}
 use Rattle.wast_grammar.specs.Tokens.{Name}
 use Rattle.wast_grammar.specs.Spelling.{same_name}
 use Rattle.wast_names.specs.Walk.{first_unmet}
@@ -12,9 +12,10 @@ use Rattle.wast_meaning.specs.Demands.{all_demands}
 use Rattle.wast_meaning.specs.Numbered.{resolved}
 use Rattle.wast_meaning.specs.WellFormed.{breaches}
 use Rattle.wasm_layout.specs.IsModule.{Rise, AreNames, AreHints}
+use Rattle.wasm_layout.specs.Layout.{functions_in}
 use Rattle.wast_meant.specs.Covered.{field_forms, uncovered}
-use Rattle.wast_meant.specs.FieldsMeant.{starts_of}
-use Rattle.wast_meant.specs.NamesMeant.{GivenName}
+use Rattle.wast_meant.specs.FieldsMeant.{imports_of, defined_in, function_of, functions_of, starts_of}
+use Rattle.wast_meant.specs.NamesMeant.{GivenName, bodies_in}
 use Rattle.wast_meant.specs.Meaning.{meant}
 use Rattle.wast_encode_laws.specs.Bounds.{BodiesFit, NamesFit}
 use Rattle.wast_encode_laws.specs.Formed.{FieldFormed}
@@ -47,8 +48,15 @@ pub record FormedWhenResolved : Type 0 where
   pub start : (fields : List (Field Name ℕ)) (is_made : Name → Bool) (naming : ℕ → Name) → breaches same_name is_made fields ≡ []
       → length (flat_map starts_of (resolved same_name naming fields)) ≤ 1
 
--- THE MODULE MEANT by resolved fields, which may have so many functions, instructions and names
--- Its branch hints stand on instructions of its functions, and rise,
+-- THE MODULE MEANT by resolved fields
+-- Imports stand first: the functions of the index space are those that are imported, without a body here, then those that are defined.
+abbrev pub FunctionsPlaced : Type 0
+FunctionsPlaced = (fields : List (Field Name ℕ)) (naming : ℕ → Name) → first_unmet is_met (all_demands same_name naming fields) ≡ None
+    → map (option_map function_of) (flat_map bodies_in (resolved same_name naming fields))
+    ≡ replicate (sum_by functions_in (flat_map imports_of (resolved same_name naming fields))) None
+    ++ map (λ f. Some f) (flat_map functions_of (flat_map defined_in (resolved same_name naming fields)))
+
+-- As far as functions, instructions and names may be so many, its branch hints stand on instructions of its functions, and rise,
 pub record MeantHintsFit : Type 0 where
   pub hints : (fields : List (Field Name ℕ)) (is_made : Name → Bool) (naming : ℕ → Name) (name : Option (GivenName Name)) → first_unmet is_met (all_demands same_name naming fields) ≡ None
       → breaches same_name is_made fields ≡ [] → BodiesFit (resolved same_name naming fields)

@@ -1,6 +1,6 @@
 //! Laws over the definitions that contracts cite: functions without parameters whose contracts are the laws. They do nothing.
 
-ghost use Rattle.wast_encode_laws.specs.Laws.{CoveredWhenResolved, FormedWhenResolved, MeantHintsFit, MeantNamesFit, ReadyWhenResolved, TreesOrdered, UncoveredAgain};
+ghost use Rattle.wast_encode_laws.specs.Laws.{CoveredWhenResolved, FormedWhenResolved, FunctionsPlaced, MeantHintsFit, MeantNamesFit, ReadyWhenResolved, TreesOrdered, UncoveredAgain};
 
 /// Where fields keep to all demands on names, nothing stands inline in what they are resolved to, each index is a number, and each use that
 /// needs a type has one.
@@ -26,6 +26,11 @@ pub fn trees_ordered()
 /// Where fields are well formed, each resolved field is, and one of them is the start at most.
 pub fn formed_when_resolved()
     ensures { FormedWhenResolved }
+{}
+
+/// Where fields keep to all demands on names, the functions of the index space are those that are imported, then those that are defined.
+pub fn functions_placed()
+    ensures { FunctionsPlaced }
 {}
 
 /// Where fields are well formed and keep to all demands on names, the branch hints of the module that they stand for are in the ranges of

@@ -1,0 +1,4 @@
+mod EachField
+mod Told
+mod Written
+pub mod First
