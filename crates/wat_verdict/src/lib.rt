@@ -9,7 +9,9 @@
 //! | `Spells` | which tree a text spells |
 //! | `Naming` | the names that are made for fields that have none, and the first demand of names that isn't met |
 //! | `Verdict` | the conditions and their order, what an input is accepted as, and which bytes are its binary |
-//! | `Laws` | the statements of the law functions |
+//! | `Laws` | the statements of the law functions, but for those below |
+//! | `Alike` | texts whose tokens agree, or differ by a renaming of identifiers, and what they have in common |
+//! | `Spaced` | texts that differ by spaces over a comment, and what they have in common |
 //!
 //! What a tree means, and what it must keep to, is said by `wast_meaning`, `wast_conversions` and `wast_meant`.
 #![tactic(auto)]
