@@ -9,7 +9,7 @@ use Rattle.wast_grammar.specs.Tokens.{Name}
 use Rattle.wast_grammar.specs.Tokens as tokens
 use Rattle.wast_grammar.specs.Spelling.{same_name, same_text}
 use Rattle.wast_grammar.specs.Significant.{TextToken, AreSignificant}
-use Rattle.wast_grammar.specs.Alike.{Fits, Matched, Carries, Same, name_pair, names, places}
+use Rattle.wast_grammar.specs.Alike.{Fits, Matched, Carries, Same, Alike, name_pair, names, places}
 use Rattle.wast_grammar.proofs.Decide.{rising_match}
 use Rattle.wast_grammar.proofs.Extend.{extend}
 use Rattle.wast_names.specs.Demand.{Complaint, Demand}
@@ -35,7 +35,7 @@ use Rattle.wat_verdict.specs.Registered.{registered}
 use Rattle.wat_verdict.specs.Spells.{Spells}
 use Rattle.wat_verdict.specs.Naming.{naming, unmet_demand}
 use Rattle.wat_verdict.specs.Verdict.{Condition, TooLong, NotUtf8, Misspelled, NotWellFormed, Unmet, Uncovered, unmet_at, tree_breach, tree_uncovered, Fails, Accepts, Assembles, IsBinary, IsPlainText}
-use Rattle.wat_verdict.specs.Alike.{AlikeTexts, complaint_shown, SameCondition, Follows, IsSame, TokensDecide, SameBare, Renaming}
+use Rattle.wat_verdict.specs.Alike.{AlikeTexts, complaint_shown, SameCondition, Follows, IsSame, Agree, TokensDecide, SameBare, Renaming}
 use Rattle.wat_verdict.proofs.Free.{Known, Kept, free, carried}
 use Rattle.wat_verdict.proofs.Placed.{IsRead, AreRead, text_rises, both_rise, text_read}
 use Rattle.wat_verdict.proofs.Told.{name_shown, content_worth, content_plain, summary, told, told_spelled, spelled_told}
@@ -68,7 +68,7 @@ made_stays f bytes zero h = absurd (omega (arith, h))
 made_stays f bytes (suc generation) h = refl
 
 -- what is known of the names of texts, and shown of them
-abbrev known_by : (Name → List ℕ) → Known Name
+abbrev pub known_by : (Name → List ℕ) → Known Name
 known_by show = record { same = same_name; is_made = is_made; made = made; show = show }
 
 nothing_shown : (i : Iso (List ℕ) (List ℕ)) → Kept (known_by (λ n. [])) (known_by (λ n. [])) (of_names i).fun
@@ -127,13 +127,23 @@ names_carried f (p ∷ ps) r c = (ap (moved_name f p.0.0) r.0 ∙ one_name (f p.
 numbers_decide : (a b : ℕ) → (nat_eq a b ≡ true) ↔ (a ≡ b)
 numbers_decide a b = grind (arith, tests)
 
--- WHAT IS TOLD of the tokens is the same
+-- WHAT IS TOLD of tokens that are alike is the same, where a renaming carries their names, and their places match
+module _ (show : Name → List ℕ) (i : Iso Name Name) (kept : Kept (known_by show) (known_by show) i.fun) (ts us : List TextToken) (a : Alike ts us) where
+  told_carried : Carries i.fun (names ts us) → Matched (places ts us) → told Name ℕ (known_by show) us ≡ told Name ℕ (known_by show) ts
+  told_carried c m =
+      let d = extend nat_eq numbers_decide (places ts us) m in
+      ap (λ v. told Name ℕ (known_by show) v) (sym (carried i.fun d.0.fun ts us a c d.1)) ∙ free told (iso_to_equiv i) (iso_to_equiv d.0) (known_by show) (known_by show) kept ts
+
+-- so it is the same where their names are, wherever they stand
+pub told_moved : (ts us : List TextToken) → Alike ts us → Same (names ts us) → Matched (places ts us) → told Name ℕ (known_by (λ n. n.0)) us ≡ told Name ℕ (known_by (λ n. n.0)) ts
+told_moved ts us a s m = told_carried (λ n. n.0) no_change all_shown ts us a (same_carried (names ts us) s) m
+
+-- and so it is of texts whose tokens differ by a renaming
 module _ {text other : List ℕ} {ts us : List TextToken} (x : AlikeTexts text other ts us) where
   told_alike : (show : Name → List ℕ) (i : Iso Name Name) → Kept (known_by show) (known_by show) i.fun → Carries i.fun (names ts us) → told Name ℕ (known_by show) us ≡ told Name ℕ (known_by show) ts
   told_alike show i kept c =
       let rise = both_rise 0 0 ts us (text_rises false registered text ts x.significant.0) (text_rises false registered other us x.significant.1) in
-      let d = extend nat_eq numbers_decide (places ts us) (rising_match _ rise) in
-      ap (λ v. told Name ℕ (known_by show) v) (sym (carried i.fun d.0.fun ts us x.alike c d.1)) ∙ free told (iso_to_equiv i) (iso_to_equiv d.0) (known_by show) (known_by show) kept ts
+      told_carried show i kept ts us x.alike c (rising_match _ rise)
 
   same_told : Same (names ts us) → told Name ℕ (known_by (λ n. n.0)) us ≡ told Name ℕ (known_by (λ n. n.0)) ts
   same_told s = told_alike (λ n. n.0) no_change all_shown (same_carried (names ts us) s)
@@ -318,17 +328,18 @@ spelled_there : (show : Name → List ℕ) (text other : List ℕ) (ts us : List
     → (t : Module Name ℕ) → Spells text t → (u : Module Name ℕ) × Spells other u
 spelled_there show text other ts us here there same t s = let u = counterpart show text other ts us here there same t s in (u.tree, u.spelled)
 
+-- texts of whose tokens the same is told get the same binary, or fail the same condition
+pub told_agree : (text other : List ℕ) (ts us : List TextToken) → AreSignificant false registered text ts → AreSignificant false registered other us → told Name ℕ (known_by (λ n. n.0)) us ≡ told Name ℕ (known_by (λ n. n.0)) ts
+    → (length text < 2 ^ 32) × (length other < 2 ^ 32) → IsUtf8 text × IsUtf8 other → Agree text other
+told_agree text other ts us here there same short utf8 = record {
+  forth = agree_forth text other ts us here there same short.1 utf8.1 short.0 utf8.0 (spelled_there (λ n. n.0) other text us ts there here (sym same));
+  back = agree_forth other text us ts there here (sym same) short.0 utf8.0 short.1 utf8.1 (spelled_there (λ n. n.0) text other ts us here there same);
+  binary_forth = binary_forth text other ts us here there same short.1 utf8.1;
+  binary_back = binary_forth other text us ts there here (sym same) short.0 utf8.0;
+}
+
 pub tokens_decide : TokensDecide
-tokens_decide text other ts us x s =
-    let same = same_told x s in
-    let here = x.significant.0 in
-    let there = x.significant.1 in
-    record {
-      forth = agree_forth text other ts us here there same x.short.1 x.utf8.1 x.short.0 x.utf8.0 (spelled_there (λ n. n.0) other text us ts there here (sym same));
-      back = agree_forth other text us ts there here (sym same) x.short.0 x.utf8.0 x.short.1 x.utf8.1 (spelled_there (λ n. n.0) text other ts us here there same);
-      binary_forth = binary_forth text other ts us here there same x.short.1 x.utf8.1;
-      binary_back = binary_forth other text us ts there here (sym same) x.short.0 x.utf8.0;
-    }
+tokens_decide text other ts us x s = told_agree text other ts us x.significant.0 x.significant.1 (same_told x s) x.short x.utf8
 
 renamed_forth : (text other : List ℕ) (ts us : List TextToken) (here : AreSignificant false registered text ts) (there : AreSignificant false registered other us) → told Name ℕ (known_by (λ n. [])) us ≡ told Name ℕ (known_by (λ n. [])) ts
     → length text < 2 ^ 32 → length other < 2 ^ 32 → IsUtf8 text → IsUtf8 other → Follows (λ n. []) SameBare text other

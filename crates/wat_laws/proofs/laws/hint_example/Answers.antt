@@ -1,0 +1,12 @@
+use Rattle.std.proofs.Common.{[], refl}
+use Rattle.wasm_encoder_base.specs.Leb.{uleb, sleb, leb, digits}
+use Rattle.wat_laws.proofs.laws.hint_example.Goals as goal
+
+pub returns : goal.returns
+unfolding uleb sleb leb digits
+returns c = record {
+  has = record { before = []; after = []; front = []; back = []; is = refl };
+  distance = refl;
+  body = refl;
+  begins = refl;
+}

@@ -1,0 +1,4 @@
+pub mod Flat
+pub mod HintExamples
+pub mod HintPlaces
+pub mod Laws

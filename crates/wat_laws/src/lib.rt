@@ -1,0 +1,14 @@
+//! Laws of whole texts and of binaries (WebAssembly Core Specification 3.0), and no code: where a branch hint and its instruction stand in a
+//! binary, and what a text is worth of which bodies of functions are written flat.
+//!
+//! # What has to be believed
+//!
+//! | File of `specs/` | Says |
+//! |---|---|
+//! | `HintPlaces` | that a module has a hint, and where in a binary it is listed and its instruction begins |
+//! | `Flat` | which tokens are those of a text with bodies written flat |
+//! | `Laws` | the statements of `folding` |
+//! | `HintExamples` | a hint by hand |
+#![tactic(auto)]
+
+pub mod laws;
