@@ -1,0 +1,14 @@
+pub mod AtStop
+pub mod Begin
+pub mod Counted
+pub mod Counts
+pub mod Errors
+pub mod InModule
+pub mod Meant
+pub mod Numbered
+pub mod Payloads
+pub mod Placed
+pub mod Ready
+pub mod Sizes
+pub mod Steps
+pub mod Values

@@ -1,0 +1,3 @@
+pub mod Hinted
+pub mod Hints
+pub mod Parts
