@@ -1,6 +1,6 @@
 -- What spells a tree spells it with bodies written flat.
 use Rattle.std.specs.Prelude.{codes}
-use Rattle.std.proofs.Common.{◌≡◌, ◌≤◌, ◌+◌, ℕ, List, [], ◌∷◌, ◌++◌, map, Option, inl, inr, refl, sym, ◌∙◌, ap, subst, arith}
+use Rattle.std.proofs.Common.{◌≡◌, ◌≤◌, ℕ, List, [], ◌∷◌, map, Option, inl, inr, refl, sym, ◌∙◌, ap, subst, arith}
 use Rattle.wast_grammar.specs.Tokens.{SignificantToken}
 use Rattle.wast_grammar.specs.Spelling as spelling
 use Rattle.wast_grammar.specs.Spelling.{Spells, that_one}
@@ -19,14 +19,14 @@ use Rattle.wast_expressions.proofs.Flat.{FlatTokens, flat_items, flat_unfolds, w
 use Rattle.wast_expressions.proofs.Folds.{folding}
 use Rattle.wast_exports.specs.Exports.{inline_export}
 use Rattle.wast_imports.specs.ImportSyntax.{head}
-use Rattle.wast_fields.specs.FieldTree.{Expr, Function, Defined, Func, Definition, Field, Define, Content, Fields, Module, one_start}
+use Rattle.wast_fields.specs.FieldTree.{Expr, Defined, Func, Definition, Field, Define, Content, Fields, Module, one_start}
 use Rattle.wast_fields.specs.DefinitionSyntax.{expr, as_definition}
 use Rattle.wast_fields.specs.FuncSyntax as plain
 use Rattle.wast_core.specs.ModuleSyntax as plain_texts
 use Rattle.wast_core.specs.ModuleSyntax.{as_module, as_fields}
 use Rattle.wat_laws.specs.Flat.{unchanged, IsFlat, function, func, field, content, module_form, bare_module, wat}
 use Rattle.wat_laws.proofs.Standing.{standing}
-use Rattle.wat_laws.proofs.FlatParts.{total, flat_standing, folded_standing}
+use Rattle.wat_laws.proofs.FlatParts.{flat_standing, folded_standing}
 use Rattle.wat_laws.proofs.Rewrites.{Rewrites, unchanged_rewrites, token_rewrites, next_rewrites, seen_rewrites, only_rewrites, either_rewrites, many_rewrites, paren_rewrites}
 
 module _ {N : Type 0} (every : EveryWord) where

@@ -1,12 +1,10 @@
 -- A text with bodies written flat is worth what it was.
-use Rattle.std.proofs.Common.{◌≡◌, ◌≤◌, ℕ, false, List, Some, sym, ◌∙◌, arith}
+use Rattle.std.proofs.Common.{◌≡◌, ◌≤◌, ℕ, false, List, sym, ◌∙◌, arith}
 use Rattle.wast_grammar.specs.Tokens.{Name}
-use Rattle.wast_grammar.specs.Alike.{Matched, places}
 use Rattle.wast_mnemonics.specs.Laws.{EveryWord}
 use Rattle.wat_verdict.specs.Registered.{registered}
-use Rattle.wat_verdict.specs.Alike.{Agree}
 use Rattle.wat_verdict.proofs.Placed.{text_rises}
-use Rattle.wat_verdict.proofs.Told.{summary, told, told_spelled}
+use Rattle.wat_verdict.proofs.Told.{told, told_spelled}
 use Rattle.wat_verdict.proofs.Alike.{known_by, told_moved, told_agree}
 use Rattle.wat_laws.specs.Laws.{Flattened, Folding}
 use Rattle.wat_laws.proofs.Standing.{standing, at_most_once, matched_places}

@@ -1,5 +1,5 @@
 -- Tokens that differ in parts of them, and how the combinators of productions keep to it.
-use Rattle.std.proofs.Common.{◌≡◌, ◌≤◌, ℕ, Bool, List, [], ◌∷◌, Option, inl, inr, sym, ap, subst, arith}
+use Rattle.std.proofs.Common.{◌≤◌, ℕ, Bool, List, [], ◌∷◌, Option, inl, inr, sym, ap, subst, arith}
 use Rattle.wast_grammar.specs.Tokens.{SignificantToken, Close}
 use Rattle.wast_grammar.specs.Spelling as spelling
 use Rattle.wast_grammar.specs.Spelling.{Spells}

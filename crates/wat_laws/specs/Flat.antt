@@ -1,6 +1,6 @@
 -- Texts in which bodies of functions are written flat (WebAssembly 3.0, 6.5.10): a relation for each production around a body, by the
 -- production's name. The first tokens spell the value; the second are the same tokens, but for bodies.
-use Rattle.std.specs.Prelude.{◌≡◌, ◌⊎◌, List, [], ◌∷◌, map, codes}
+use Rattle.std.specs.Prelude.{◌≡◌, List, [], ◌∷◌, map, codes}
 use Rattle.wast_grammar.specs.Tokens.{SignificantToken}
 use Rattle.wast_grammar.specs.Spelling.{Spells, that_one}
 use Rattle.wast_grammar.specs.Twins.{Pairs, token, next, seen, only, many, either, paren}
@@ -13,7 +13,7 @@ use Rattle.wast_expressions.specs.Expressions.{items}
 use Rattle.wast_expressions.specs.Laws.{kept, kept_heads, kept_made, without_tokens, WrittenFlat}
 use Rattle.wast_exports.specs.Exports.{inline_export}
 use Rattle.wast_imports.specs.ImportSyntax.{head}
-use Rattle.wast_fields.specs.FieldTree.{Expr, Function, Defined, Func, Definition, Field, Define, Content, Fields, Module, one_start}
+use Rattle.wast_fields.specs.FieldTree.{Expr, Function, Func, Definition, Field, Define, Content, Fields, Module, one_start}
 use Rattle.wast_fields.specs.DefinitionSyntax.{expr, as_definition}
 use Rattle.wast_fields.specs.FuncSyntax as plain
 use Rattle.wast_core.specs.ModuleSyntax as plain_texts

@@ -1,10 +1,10 @@
 //! Laws of whole texts and of their binaries: functions without parameters whose contracts are the laws. They do nothing.
 
-use wast_mnemonics::laws::every_word;
-
 ghost use Rattle.wat_laws.specs.HintExamples.{HintExample};
 ghost use Rattle.wat_laws.specs.HintPlaces.{HintPlaces};
 ghost use Rattle.wat_laws.specs.Laws.{EachFlat, Folding};
+
+use wast_mnemonics::laws::every_word;
 
 /// Where a module has a branch hint, the section of hints of its binary lists the hint's function with the distance of the hint's
 /// instruction, 01 and the value, and so far from where that function's body starts the bytes of the instruction begin.
