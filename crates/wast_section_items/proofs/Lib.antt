@@ -1,0 +1,9 @@
+mod Appending
+mod Bodies
+mod Constants
+mod Entries
+mod Initialized
+mod Segments
+mod TypeEntries
+mod Values
+mod Writing

@@ -1,0 +1,5 @@
+pub mod Appends
+pub mod Fits
+pub mod Parts
+pub mod Ready
+pub mod Sound

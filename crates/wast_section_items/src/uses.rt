@@ -1,0 +1,63 @@
+//! Uses of types, and indices.
+ghost use Rattle.std.specs.Prelude.{◌≡◌, All, IfOk, OnOk, map, option_map};
+ghost use Rattle.std.specs.List.{AllByRecursion};
+ghost use Rattle.wasm_layout.specs.IsModule.{IsU32};
+ghost use Rattle.wast_parser.specs.Identifiers.{index_tree};
+ghost use Rattle.wast_core_types.specs.TypeViews.{use_tree};
+ghost use Rattle.wast_conversions.specs.Types.{number_of, use_meant};
+ghost use Rattle.wast_conversions.specs.Operands.{optional_meant};
+ghost use Rattle.wast_conversions.specs.Resolved.{IfThere, IsNumber, UseResolved};
+
+use std::alloc::{AllocError, Global};
+use wast_conversions::index;
+use wast_core_types::{FunctionType, TypeUse};
+use wast_parser::Index;
+
+/// The number of the type of a use (6.6.3).
+pub(crate) fn type_index(ty: &TypeUse<'_, FunctionType<'_>>) -> u32
+    requires { UseResolved (use_tree ty.now) }
+    ensures same { result ≡ use_meant (use_tree ty.now) }
+    ensures sound { IsU32 (use_meant (use_tree ty.now)) }
+{
+    match &ty.index {
+        Some(number) => index(number),
+        None => unreachable!(),
+    }
+}
+
+/// The number of an index that may be left out.
+pub(crate) fn table_index(written: &Option<Index<'_>>) -> Option<u32>
+    requires { IfThere IsNumber (option_map index_tree written.now) }
+    ensures same { result ≡ option_map number_of (option_map index_tree written.now) }
+    ensures sound { IfThere (λ i. IsU32 (number_of i)) (option_map index_tree written.now) }
+{
+    match written {
+        Some(written) => Some(index(written)),
+        None => None,
+    }
+}
+
+/// The number of an index that may be left out, and is 0 then.
+pub(crate) fn memory_index(written: &Option<Index<'_>>) -> u32
+    requires { IfThere IsNumber (option_map index_tree written.now) }
+    ensures same { result ≡ optional_meant (option_map index_tree written.now) }
+    ensures sound { IsU32 (optional_meant (option_map index_tree written.now)) }
+{
+    match written {
+        Some(written) => index(written),
+        None => 0,
+    }
+}
+
+/// The numbers of indices, one by one. Fails only for want of memory.
+pub(crate) fn indices(alloc: Global, written: &[Index<'_>]) -> Result<Vec<u32>, AllocError>
+    requires { All IsNumber (map index_tree written.now) }
+    ensures same { IfOk result (λ v. v.items ≡ map number_of (map index_tree written.now)) }
+    ensures sound { OnOk result (AllByRecursion IsU32 (map number_of (map index_tree written.now))) }
+{
+    let mut numbers = Vec::with_capacity(alloc, written.len())?;
+    for number in written {
+        numbers.push(index(number))?;
+    }
+    Ok(numbers)
+}

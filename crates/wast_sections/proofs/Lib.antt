@@ -1,0 +1,4 @@
+mod AllDefined
+pub mod Contents
+mod Holding
+mod Starts

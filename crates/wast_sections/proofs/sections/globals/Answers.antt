@@ -1,0 +1,12 @@
+use Rattle.std.proofs.Common.{map}
+use Rattle.wasm_encoder_base.specs.Instr.{expr_bytes}
+use Rattle.wasm_encoder_items.specs.Segments.{global_item}
+use Rattle.wasm_layout.specs.IsModule.{IsGlobal}
+use Rattle.wast_core.specs.ModuleViews.{field_tree}
+use Rattle.wast_meant.specs.FieldsMeant.{globals_of}
+use Rattle.wast_section_items.specs.Fits.{GlobalFits}
+use Rattle.wast_sections.proofs.AllDefined.{holds_defined}
+use Rattle.wast_sections.proofs.sections.globals.Goals as goal
+
+pub returns : goal.returns
+returns c = holds_defined globals_of (global_item expr_bytes) GlobalFits IsGlobal (map field_tree c.args.fields.now) c.section_of.result c.section_of.ensures

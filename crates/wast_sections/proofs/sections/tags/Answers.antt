@@ -1,0 +1,11 @@
+use Rattle.std.proofs.Common.{map}
+use Rattle.wasm_encoder_items.specs.EntityTypes.{tag_bytes}
+use Rattle.wasm_layout.specs.IsModule.{IsU32}
+use Rattle.wast_core.specs.ModuleViews.{field_tree}
+use Rattle.wast_meant.specs.FieldsMeant.{tags_of}
+use Rattle.wast_section_items.specs.Fits.{NoCounts}
+use Rattle.wast_sections.proofs.AllDefined.{holds_defined}
+use Rattle.wast_sections.proofs.sections.tags.Goals as goal
+
+pub returns : goal.returns
+returns c = holds_defined tags_of tag_bytes NoCounts IsU32 (map field_tree c.args.fields.now) c.section_of.result c.section_of.ensures
