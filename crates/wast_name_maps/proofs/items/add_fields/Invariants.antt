@@ -1,0 +1,9 @@
+use Rattle.std.proofs.Common.{take}
+use Rattle.std.specs.List.{flat_map}
+use Rattle.wast_meaning.specs.Views.{space_view}
+use Rattle.wast_name_maps.specs.Numbered.{NamesJoined}
+use Rattle.wast_name_maps.proofs.Gathering.{field_names}
+use Rattle.wast_name_maps.proofs.items.add_fields.Given as goal
+
+abbrev pub invariant-loop-field : goal.invariant-loop-field
+invariant-loop-field l = NamesJoined l.fn.names l.names (flat_map (field_names (space_view l.space)) (take l.field-index l.fields))

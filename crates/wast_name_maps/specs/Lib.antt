@@ -1,0 +1,9 @@
+pub mod Fits
+pub mod Gathered
+pub mod Given
+pub mod Kinds
+pub mod Listed
+pub mod Locals
+pub mod Maps
+pub mod Numbered
+pub mod Subsections

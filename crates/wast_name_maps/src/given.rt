@@ -1,0 +1,68 @@
+//! The names that annotations and identifiers give.
+ghost use Rattle.std.specs.Prelude.{◌≡◌, ◌∷◌, [], not, Some, option_map};
+ghost use Rattle.wast_parser.specs.Identifiers.{identifier_tree};
+ghost use Rattle.wast_core_types.specs.TypeViews.{name_tree};
+ghost use Rattle.wast_meant.specs.Means.{is_made};
+ghost use Rattle.wast_name_maps.specs.Given.{given, identified};
+ghost use Rattle.wast_name_maps.specs.Numbered.{NamesJoin};
+
+use crate::names::Names;
+use wasm_encoder_base::EncodeError;
+use wast_parser::{Id, NameAnnotation};
+
+/// What comes next, with what `@name` says, else its identifier, unless that is made up.
+pub(crate) fn add_given(
+    names: &mut Names,
+    name: &Option<NameAnnotation<'_>>,
+    id: &Option<Id<'_>>,
+) -> Result<(), EncodeError>
+    ensures { NamesJoin result names.old names.new (given (option_map name_tree name.now) (option_map identifier_tree id.now) ∷ []) }
+{
+    names.add(given(name, id))
+}
+
+/// What comes next, with its identifier, unless that is made up.
+pub(crate) fn add_identified(names: &mut Names, id: &Option<Id<'_>>) -> Result<(), EncodeError>
+    ensures { NamesJoin result names.old names.new (identified (option_map identifier_tree id.now) ∷ []) }
+{
+    names.add(identified(id))
+}
+
+/// The name of an item: what `@name` says, else its identifier, unless that is made up.
+pub(crate) fn given<'n, 'a>(
+    name: &'n Option<NameAnnotation<'a>>,
+    id: &'n Option<Id<'a>>,
+) -> Option<&'n str>
+    ensures { option_map (λ s. s.now) result ≡ given (option_map name_tree name.now) (option_map identifier_tree id.now) }
+{
+    match name {
+        Some(name) => Some(name.name.as_str()),
+        None => identified(id),
+    }
+}
+
+/// An identifier, unless it is made up.
+fn identified<'n, 'a>(id: &'n Option<Id<'a>>) -> Option<&'n str>
+    ensures { option_map (λ s. s.now) result ≡ identified (option_map identifier_tree id.now) }
+{
+    match id {
+        Some(id) => name_unless_made(id),
+        None => None,
+    }
+}
+
+/// The name of an identifier, unless it is made up.
+fn name_unless_made<'n, 'a>(id: &'n Id<'a>) -> Option<&'n str>
+    ensures { option_map (λ s. s.now) result ≡ identified (Some (identifier_tree id.now)) }
+{
+    if is_read(id) { Some(id.name()) } else { None }
+}
+
+/// Whether an identifier is one that was read.
+#[tactic(auto, using(crate::proofs::Gathering::if_zero))]
+fn is_read(id: &Id<'_>) -> bool
+    ensures { result ≡ not (is_made (identifier_tree id.now).0) }
+{
+    let read = Id::new(id.name(), id.span());
+    *id == read
+}

@@ -1,0 +1,207 @@
+//! The names of items.
+ghost use Rattle.std.specs.Prelude.{◌≡◌, ◌∷◌, [], None, map, option_map};
+ghost use Rattle.std.specs.List.{flat_map};
+ghost use Rattle.wast_parser.specs.Identifiers.{identifier_tree};
+ghost use Rattle.wast_core_types.specs.TypeViews.{name_tree, item_tree};
+ghost use Rattle.wast_imports.specs.ImportViews.{extern_tree, items_tree, member_name_tree, member_tree};
+ghost use Rattle.wast_imports.specs.ImportViews.{item_tree as imported_tree};
+ghost use Rattle.wast_fields.specs.ElemViews.{table_definition};
+ghost use Rattle.wast_fields.specs.FieldTree.{Define};
+ghost use Rattle.wast_fields.specs.FieldViews.{memory_definition};
+ghost use Rattle.wast_core.specs.ModuleViews.{field_tree};
+ghost use Rattle.wast_meaning.specs.Spaces.{bound, bound_import, bound_imports, bound_type, items, same_space};
+ghost use Rattle.wast_meaning.specs.Views.{space_view};
+ghost use Rattle.wast_meaning.specs.Written.{kind_of_type, space_of_kind};
+ghost use Rattle.wast_name_maps.specs.Gathered.{bound_names};
+ghost use Rattle.wast_name_maps.specs.Numbered.{BuildsNames, NamesJoin};
+
+use crate::given::add_given;
+use crate::names::Names;
+use std::alloc::Global;
+use wasm_encoder_base::EncodeError;
+use wast_core::{
+    ImportGroup1Item, ImportGroup2Item, ImportItems, Imports, ItemKind, ItemSig, Memory,
+    MemoryKind, ModuleField, Table, TableKind, TypeItem,
+};
+use wast_meaning::Space;
+use wast_parser::{Id, NameAnnotation};
+
+/// The names of the items of a space, in order.
+pub(crate) fn names_of_items(
+    alloc: Global,
+    fields: &[ModuleField<'_>],
+    space: Space,
+) -> Result<Names, EncodeError>
+    ensures { BuildsNames result (bound_names (space_view space) (flat_map items (map field_tree fields.now))) }
+{
+    let mut names = Names::new(alloc);
+    add_fields(fields, &mut names, space)?;
+    Ok(names)
+}
+
+/// The items of fields, one after the other.
+fn add_fields(
+    fields: &[ModuleField<'_>],
+    names: &mut Names,
+    space: Space,
+) -> Result<(), EncodeError>
+    ensures { NamesJoin result names.old names.new (bound_names (space_view space) (flat_map items (map field_tree fields.now))) }
+{
+    for field in fields {
+        add_field(names, space, field)?;
+    }
+    Ok(())
+}
+
+/// The items of a field.
+fn add_field(names: &mut Names, space: Space, field: &ModuleField<'_>) -> Result<(), EncodeError>
+    ensures { NamesJoin result names.old names.new (bound_names (space_view space) (items (field_tree field.now))) }
+{
+    match field {
+        ModuleField::TypeItem(item) => add_type(names, space, item),
+        ModuleField::Rec(group) => add_types(names, space, &group.types),
+        ModuleField::Import(imports) => add_imports(names, space, imports),
+        ModuleField::Func(func) => add(names, space, Space::Functions, &func.name, &func.id),
+        ModuleField::Table(table) => add_table(names, space, table),
+        ModuleField::Memory(memory) => add_memory(names, space, memory),
+        ModuleField::Global(global) => add(names, space, Space::Globals, &global.name, &global.id),
+        ModuleField::Tag(tag) => add(names, space, Space::Tags, &tag.name, &tag.id),
+        ModuleField::Elem(elem) => add(names, space, Space::Elems, &elem.name, &elem.id),
+        ModuleField::Data(data) => add(names, space, Space::Datas, &data.name, &data.id),
+        ModuleField::Export(_) | ModuleField::Start(_) | ModuleField::Custom(_) => Ok(()),
+    }
+}
+
+/// A table, and the segment that stands inline.
+fn add_table(names: &mut Names, space: Space, table: &Table<'_>) -> Result<(), EncodeError>
+    ensures { NamesJoin result names.old names.new (bound_names (space_view space) (items (Define (table_definition table.now)))) }
+{
+    add(names, space, Space::Tables, &table.name, &table.id)?;
+    match &table.kind {
+        TableKind::Inline { .. } => add_segment(names, space, Space::Elems),
+        TableKind::Import { .. } | TableKind::Normal { .. } => Ok(()),
+    }
+}
+
+/// A memory, and the segment that stands inline.
+fn add_memory(names: &mut Names, space: Space, memory: &Memory<'_>) -> Result<(), EncodeError>
+    ensures { NamesJoin result names.old names.new (bound_names (space_view space) (items (Define (memory_definition memory.now)))) }
+{
+    add(names, space, Space::Memories, &memory.name, &memory.id)?;
+    match &memory.kind {
+        MemoryKind::Inline { .. } => add_segment(names, space, Space::Datas),
+        MemoryKind::Import { .. } | MemoryKind::Normal(_) => Ok(()),
+    }
+}
+
+/// Types, one after the other.
+fn add_types(names: &mut Names, space: Space, types: &[TypeItem<'_>]) -> Result<(), EncodeError>
+    ensures { NamesJoin result names.old names.new (bound_names (space_view space) (map bound_type (map item_tree types.now))) }
+{
+    for item in types {
+        add_type(names, space, item)?;
+    }
+    Ok(())
+}
+
+/// A type.
+fn add_type(names: &mut Names, space: Space, item: &TypeItem<'_>) -> Result<(), EncodeError>
+    ensures { NamesJoin result names.old names.new (bound_names (space_view space) (bound_type (item_tree item.now) ∷ [])) }
+{
+    add(names, space, Space::Types, &item.name, &item.id)
+}
+
+/// What is imported; of a group that is alike the same item for each name.
+fn add_imports(names: &mut Names, space: Space, imports: &Imports<'_>) -> Result<(), EncodeError>
+    ensures { NamesJoin result names.old names.new (bound_names (space_view space) (bound_imports (items_tree imports.now.items))) }
+{
+    match &imports.items {
+        ImportItems::Single { sig, .. } => add_import(names, space, sig),
+        ImportItems::Group1 { items, .. } => add_members(names, space, items),
+        ImportItems::Group2 { sig, items, .. } => add_for_each(names, space, sig, items),
+    }
+}
+
+/// The members of a group, one after the other.
+fn add_members(
+    names: &mut Names,
+    space: Space,
+    members: &[ImportGroup1Item<'_>],
+) -> Result<(), EncodeError>
+    ensures { NamesJoin result names.old names.new (bound_names (space_view space) (map (λ i. bound_import i.1) (map member_tree members.now))) }
+{
+    for member in members {
+        add_import(names, space, &member.sig)?;
+    }
+    Ok(())
+}
+
+/// The same item for each member of a group.
+fn add_for_each(
+    names: &mut Names,
+    space: Space,
+    sig: &ItemSig<'_>,
+    members: &[ImportGroup2Item<'_>],
+) -> Result<(), EncodeError>
+    ensures { NamesJoin result names.old names.new (bound_names (space_view space) (map (λ name. bound_import (imported_tree sig.now)) (map member_name_tree members.now))) }
+{
+    for _member in members {
+        add_import(names, space, sig)?;
+    }
+    Ok(())
+}
+
+/// What is imported under one name.
+fn add_import(names: &mut Names, space: Space, sig: &ItemSig<'_>) -> Result<(), EncodeError>
+    ensures { NamesJoin result names.old names.new (bound_names (space_view space) (bound_import (imported_tree sig.now) ∷ [])) }
+{
+    add(names, space, space_of(&sig.kind), &sig.name, &sig.id)
+}
+
+/// The space of what is imported.
+fn space_of(kind: &ItemKind<'_>) -> Space
+    ensures { space_view result ≡ space_of_kind (kind_of_type (extern_tree kind.now)) }
+{
+    match kind {
+        ItemKind::Func(_) | ItemKind::FuncExact(_) => Space::Functions,
+        ItemKind::Table(_) => Space::Tables,
+        ItemKind::Memory(_) => Space::Memories,
+        ItemKind::Global(_) => Space::Globals,
+        ItemKind::Tag(_) => Space::Tags,
+    }
+}
+
+/// An item of `own`, where that is the space whose names are wanted.
+fn add(
+    names: &mut Names,
+    wanted: Space,
+    own: Space,
+    name: &Option<NameAnnotation<'_>>,
+    id: &Option<Id<'_>>,
+) -> Result<(), EncodeError>
+    ensures { NamesJoin result names.old names.new (bound_names (space_view wanted) (bound (space_view own) (option_map identifier_tree id.now) (option_map name_tree name.now) ∷ [])) }
+{
+    if is_same(wanted, own) {
+        add_given(names, name, id)
+    } else {
+        Ok(())
+    }
+}
+
+/// The same of a segment that stands inline, which has no name.
+fn add_segment(names: &mut Names, wanted: Space, own: Space) -> Result<(), EncodeError>
+    ensures { NamesJoin result names.old names.new (bound_names (space_view wanted) (bound (space_view own) None None ∷ [])) }
+{
+    if is_same(wanted, own) {
+        names.add(None)
+    } else {
+        Ok(())
+    }
+}
+
+/// Whether two spaces are the same.
+fn is_same(one: Space, other: Space) -> bool
+    ensures { result ≡ same_space (space_view one) (space_view other) }
+{
+    one == other
+}
