@@ -1,0 +1,140 @@
+//! How modules are encoded.
+ghost use Rattle.std.specs.Prelude.{◌≡◌, ◌+◌, ◌<◌, ◌^◌, [], None, Some, length, map, option_map, IfErr, IfOk, OnOk, MatchResult};
+ghost use Rattle.std.specs.List.{flat_map};
+ghost use Rattle.wast_grammar.specs.Spelling.{same_name};
+ghost use Rattle.wast_parser.specs.Problem.{Problem};
+ghost use Rattle.wast_parser.specs.Identifiers.{identifier_tree};
+ghost use Rattle.wast_core_types.specs.TypeViews.{name_tree};
+ghost use Rattle.wast_core.specs.ModuleViews.{field_tree, module_tree};
+ghost use Rattle.wast_names.specs.Demand.{is_met};
+ghost use Rattle.wast_names.specs.Walk.{first_unmet};
+ghost use Rattle.wast_meaning.specs.Modules.{content_fields, module_breaches};
+ghost use Rattle.wast_meant.specs.Means.{is_made};
+ghost use Rattle.wast_resolve.specs.Whole.{module_by, module_demands_by};
+ghost use Rattle.wasm_layout.specs.Lays.{Lays};
+ghost use Rattle.wast_encode.specs.Can.{CanEncode};
+ghost use Rattle.wast_encode.specs.Encoded.{Deserves, IsBinaryOf, IsRefusedFor, LeavesFor};
+ghost use Rattle.wast_encode.specs.Parts.{module_of};
+ghost use Rattle.wast_encode.specs.Resolved.{ContentReady, IsEncoded, IsToldBy, IsUnlaid, IsUnresolved, IsUnencoded};
+
+use crate::fault::{EncodeFault, fault_of};
+use crate::fields::encode_fields;
+use crate::pieces::joined;
+use std::alloc::Global;
+use wasm_encoder_base::Bytes;
+use wast_core::{Module, ModuleField, ModuleKind};
+use wast_parser::{Error, Gensym, Id, NameAnnotation};
+use wast_resolve::ResolveModule;
+use wast_uncovered::uncovered;
+
+/// How modules are encoded.
+#[derive(Clone, Copy, Debug)]
+pub struct EncodeOptions {}
+
+impl EncodeOptions {
+    /// As the standard says: with the section of names.
+    pub fn new() -> Self {
+        EncodeOptions {}
+    }
+
+    /// The binary of a module (6.6.14 and 5.5.17), which is well formed; the pieces of a binary are joined. A field that is referred to and has no
+    /// name takes the next one of `gensym`, and there is room for one a field.
+    ///
+    /// A module is refused by its first demand of names that isn't met, with its place and message; else by its first form that has no binary
+    /// here, with the place of its field; else as too large exactly where, memory found, a count or a length of its binary is past 4294967295.
+    ///
+    /// Its names are resolved then, and what stands inline in it is written out, also where it is refused after that: encoded again, it
+    /// gives the same answer. A module of which a demand isn't met keeps why, and each later call is refused by a copy of that, or for want
+    /// of memory for the copy; its fields may be gone.
+    pub fn encode_module(
+        &self,
+        alloc: Global,
+        module: &mut Module<'_>,
+        gensym: &mut Gensym,
+    ) -> Result<Vec<u8>, EncodeFault>
+        requires formed { module_breaches same_name is_made (module_tree «module».old) ≡ [] }
+        requires room { gensym.old + length (content_fields (module_tree «module».old).content) < 2 ^ 32 }
+        ensures binary { IfOk result (λ binary. IsBinaryOf gensym.old (module_tree «module».old) (module_tree «module».old).content binary.items) }
+        ensures fault { (module_tree «module».old).refusal ≡ None → IfErr result (Deserves gensym.old (module_tree «module».old)) }
+        ensures resolved { OnOk result (((module_tree «module».old).refusal ≡ None) × (module_tree «module».new ≡ module_by gensym.old (module_tree «module».old))) }
+        ensures left { (module_tree «module».old).refusal ≡ None → IfErr result (LeavesFor gensym.old (module_tree «module».old) (module_tree «module».new)) }
+        ensures refused { (why : Problem) → (module_tree «module».old).refusal ≡ Some why → IfErr result (IsRefusedFor why) }
+        ensures kept { (why : Problem) → (module_tree «module».old).refusal ≡ Some why → module_tree «module».new ≡ module_tree «module».old }
+    {
+        // Forms are looked for in the fields as they are written; a demand that isn't met is told first.
+        let form = uncovered(module);
+        match resolve_names(alloc, module, gensym) {
+            Ok(()) => match form {
+                Some((span, form)) => Err(EncodeFault::Uncovered { span, form }),
+                None => encode_resolved(alloc, module),
+            },
+            Err(fault) => Err(fault),
+        }
+    }
+}
+
+/// Resolves the names of a module.
+fn resolve_names(
+    alloc: Global,
+    module: &mut Module<'_>,
+    gensym: &mut Gensym,
+) -> Result<(), EncodeFault>
+    requires { gensym.old + length (content_fields (module_tree «module».old).content) < 2 ^ 32 }
+    ensures met { (module_tree «module».old).refusal ≡ None → OnOk result (first_unmet is_met (module_demands_by gensym.old (module_tree «module».old)) ≡ None) }
+    ensures resolved { OnOk result (((module_tree «module».old).refusal ≡ None) × (module_tree «module».new ≡ module_by gensym.old (module_tree «module».old))) }
+    ensures fault { IfErr result (IsUnresolved gensym.old (module_tree «module».old) (module_tree «module».new)) }
+    ensures kept { (why : Problem) → (module_tree «module».old).refusal ≡ Some why → module_tree «module».new ≡ module_tree «module».old }
+{
+    match module.resolve(alloc, gensym) {
+        Ok(_) => Ok(()),
+        Err(why) => Err(unmet(why)),
+    }
+}
+
+/// A demand that isn't met, unless it is want of memory.
+fn unmet(why: Error) -> EncodeFault
+    ensures { IsToldBy why result }
+{
+    if why.is_memory() {
+        EncodeFault::Memory
+    } else {
+        EncodeFault::Unmet(why)
+    }
+}
+
+/// The binary of a module that is resolved.
+fn encode_resolved(alloc: Global, module: &Module<'_>) -> Result<Vec<u8>, EncodeFault>
+    requires { ContentReady (module_tree «module».now).content }
+    ensures { MatchResult result (λ binary. IsEncoded (module_tree «module».now) binary.items) (λ fault. IsUnencoded (module_tree «module».now) fault) }
+{
+    match &module.kind {
+        ModuleKind::Text(fields) => encode_text(alloc, &module.id, &module.name, fields),
+        ModuleKind::Binary(pieces) => join(alloc, pieces),
+    }
+}
+
+/// The pieces of a binary, joined.
+fn join(alloc: Global, pieces: &[Bytes<'_>]) -> Result<Vec<u8>, EncodeFault>
+    ensures { MatchResult result (λ binary. binary.items ≡ flat_map (λ piece. piece) pieces.now) (λ fault. fault ≡ EncodeFault.Memory) }
+{
+    match joined(alloc, pieces) {
+        Ok(binary) => Ok(binary),
+        Err(_) => Err(EncodeFault::Memory),
+    }
+}
+
+/// The binary of the module of resolved fields.
+fn encode_text<'n, 'a>(
+    alloc: Global,
+    id: &'n Option<Id<'a>>,
+    name: &'n Option<NameAnnotation<'a>>,
+    fields: &'n [ModuleField<'a>],
+) -> Result<Vec<u8>, EncodeFault>
+    requires { CanEncode (map field_tree fields.now) }
+    ensures { MatchResult result (λ binary. Lays binary.items (module_of (option_map name_tree name.now) (option_map identifier_tree id.now) (map field_tree fields.now))) (λ fault. IsUnlaid (module_of (option_map name_tree name.now) (option_map identifier_tree id.now) (map field_tree fields.now)) fault) }
+{
+    match encode_fields(alloc, id, name, fields) {
+        Ok(binary) => Ok(binary),
+        Err(error) => Err(fault_of(error)),
+    }
+}
