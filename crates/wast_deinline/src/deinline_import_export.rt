@@ -50,7 +50,9 @@ pub fn run_in_place<'a>(
     gensym: &mut Gensym,
 ) -> Result<(), AllocError>
     requires { gensym.old + length fields.old.items < 2 ^ 32 }
-    ensures { OnOk result (map field_tree fields.new.items ≡ written_out (by_counter made gensym.old (map field_tree fields.old.items)) (map field_tree fields.old.items)) }
+    ensures written { OnOk result (map field_tree fields.new.items ≡ written_out (by_counter made gensym.old (map field_tree fields.old.items)) (map field_tree fields.old.items)) }
+    ensures counted { OnOk result (gensym.new ≡ gensym.old + count_by takes_name (map field_tree fields.old.items)) }
+    ensures rises { gensym.old ≤ gensym.new }
 {
     let taken = std::mem::replace(fields, Vec::new(alloc));
     match run(alloc, taken, gensym) {
@@ -181,8 +183,13 @@ fn push_split<'a>(
     ensures { has_segment (defined_view split.entry.alone) ≡ false → OnOk result (map field_tree out.new.items ≡ map field_tree out.old.items ++ (field_of span (head_tree head.entry).0 (head_tree head.entry).1 (defined_view split.entry.alone) ∷ map (export_of span (kind_view exported.entry.kind) (identifier_tree id.now)) (inline_export_tree exported.entry.exports) ++ map field_tree (option_to_list split.entry.segment))) }
 {
     let Split { alone, segment } = split;
-    push(out, alone.into_field(alloc, span, head))?;
-    push_behind(alloc, span, exported, id, segment, out)
+    match push(out, alone.into_field(alloc, span, head)) {
+        Ok(()) => push_behind(alloc, span, exported, id, segment, out),
+        Err(e) => {
+            discard_segment(segment);
+            Err(e)
+        }
+    }
 }
 
 /// Appends the exports of a field, and its segment.
@@ -197,9 +204,17 @@ fn push_behind<'a>(
     ensures { OnOk result (map field_tree out.new.items ≡ map field_tree out.old.items ++ (map (export_of span (kind_view exported.entry.kind) (identifier_tree id.now)) (inline_export_tree exported.entry.exports) ++ map field_tree (option_to_list segment.entry))) }
 {
     let Exported { kind, exports } = exported;
-    push_exports(alloc, span, kind, id, exports, out)?;
-    push_some(out, segment)
+    match push_exports(alloc, span, kind, id, exports, out) {
+        Ok(()) => push_some(out, segment),
+        Err(e) => {
+            discard_segment(segment);
+            Err(e)
+        }
+    }
 }
+
+/// Lets a segment go, in a function of its own as [`discard`] does.
+fn discard_segment(_segment: Option<ModuleField<'_>>) {}
 
 /// Appends the exports of a field that has this name.
 fn push_exports<'a>(

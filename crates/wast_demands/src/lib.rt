@@ -12,7 +12,6 @@
 //! ```
 //!
 //! is an error at the word `import`, and without it one at `$f`: `` unknown func: failed to find name `$f` ``. Fields are only borrowed.
-//! [`check_fields`] does so with fields that may have parts inline, and writes them out.
 //!
 //! The parts: `wast_spaces`, index spaces; `wast_implied`, the types that uses imply; `wast_scopes`, what is known at a place; `wast_parts`,
 //! the walk over fields.
@@ -23,7 +22,5 @@
 #![tactic(auto)]
 
 mod names;
-mod written;
 
 pub use names::check_names;
-pub use written::check_fields;

@@ -1,5 +1,5 @@
 //! How modules are encoded.
-ghost use Rattle.std.specs.Prelude.{◌≡◌, ◌+◌, ◌<◌, ◌^◌, [], None, Some, length, map, option_map, IfErr, IfOk, OnOk, MatchResult};
+ghost use Rattle.std.specs.Prelude.{◌≡◌, ◌+◌, ◌<◌, ◌≤◌, ◌^◌, [], None, Some, length, map, option_map, IfErr, IfOk, OnOk, MatchResult};
 ghost use Rattle.std.specs.List.{flat_map};
 ghost use Rattle.wast_grammar.specs.Spelling.{same_name};
 ghost use Rattle.wast_parser.specs.Problem.{Problem};
@@ -10,7 +10,7 @@ ghost use Rattle.wast_names.specs.Demand.{is_met};
 ghost use Rattle.wast_names.specs.Walk.{first_unmet};
 ghost use Rattle.wast_meaning.specs.Modules.{content_fields, module_breaches};
 ghost use Rattle.wast_meant.specs.Means.{is_made};
-ghost use Rattle.wast_resolve.specs.Whole.{module_by, module_demands_by};
+ghost use Rattle.wast_resolve.specs.Whole.{counter_after, module_by, module_demands_by};
 ghost use Rattle.wasm_layout.specs.Lays.{Lays};
 ghost use Rattle.wast_encode.specs.Can.{CanEncode};
 ghost use Rattle.wast_encode.specs.Encoded.{Deserves, IsBinaryOf, IsRefusedFor, LeavesFor};
@@ -44,7 +44,7 @@ impl EncodeOptions {
     /// here, with the place of its field; else as too large exactly where, memory found, a count or a length of its binary is past 4294967295.
     ///
     /// Its names are resolved then, and what stands inline in it is written out, also where it is refused after that: encoded again, it
-    /// gives the same answer. A module of which a demand isn't met keeps why, and each later call is refused by a copy of that, or for want
+    /// gives the same answer. `gensym` has come as far as names were taken. A module of which a demand isn't met keeps why, and each later call is refused by a copy of that, or for want
     /// of memory for the copy; its fields may be gone.
     pub fn encode_module(
         &self,
@@ -60,6 +60,8 @@ impl EncodeOptions {
         ensures left { (module_tree «module».old).refusal ≡ None → IfErr result (LeavesFor gensym.old (module_tree «module».old) (module_tree «module».new)) }
         ensures refused { (why : Problem) → (module_tree «module».old).refusal ≡ Some why → IfErr result (IsRefusedFor why) }
         ensures kept { (why : Problem) → (module_tree «module».old).refusal ≡ Some why → module_tree «module».new ≡ module_tree «module».old }
+        ensures counted { OnOk result (gensym.new ≡ counter_after gensym.old (content_fields (module_tree «module».old).content)) }
+        ensures rises { gensym.old ≤ gensym.new }
     {
         // Forms are looked for in the fields as they are written; a demand that isn't met is told first.
         let form = uncovered(module);
@@ -84,6 +86,8 @@ fn resolve_names(
     ensures resolved { OnOk result (((module_tree «module».old).refusal ≡ None) × (module_tree «module».new ≡ module_by gensym.old (module_tree «module».old))) }
     ensures fault { IfErr result (IsUnresolved gensym.old (module_tree «module».old) (module_tree «module».new)) }
     ensures kept { (why : Problem) → (module_tree «module».old).refusal ≡ Some why → module_tree «module».new ≡ module_tree «module».old }
+    ensures counted { OnOk result (gensym.new ≡ counter_after gensym.old (content_fields (module_tree «module».old).content)) }
+    ensures rises { gensym.old ≤ gensym.new }
 {
     match module.resolve(alloc, gensym) {
         Ok(_) => Ok(()),

@@ -1,5 +1,5 @@
 -- Whole lists of fields and modules, resolved, where a counter makes the names of what has none.
-use Rattle.std.specs.Prelude.{◌≡◌, ◌⊎◌, ℕ, List, None, Some}
+use Rattle.std.specs.Prelude.{◌≡◌, ◌⊎◌, ℕ, ◌+◌, List, None, Some, count_by}
 use Rattle.wasm_encoder_base.specs.Table.{Space}
 use Rattle.wast_grammar.specs.Tokens.{Name}
 use Rattle.wast_grammar.specs.Spelling.{same_name}
@@ -12,7 +12,7 @@ use Rattle.wast_fields.specs.FieldTree.{Field, Content, Fields, Pieces, Module}
 use Rattle.wast_meaning.specs.Demands.{all_demands}
 use Rattle.wast_meaning.specs.Modules.{content_fields}
 use Rattle.wast_meaning.specs.Numbered.{resolved}
-use Rattle.wast_meaning.specs.Written.{by_counter, written_out}
+use Rattle.wast_meaning.specs.Written.{by_counter, takes_name, written_out}
 use Rattle.wast_meaning.specs.Made.{made}
 use Rattle.wast_resolve.specs.Resolving.{Means, resolver_spaces}
 use Rattle.wast_resolve.specs.declared.whole.Names.{Names}
@@ -28,13 +28,18 @@ module _ (counter : ℕ) (fs : List (Field Name ℕ)) where
   abbrev pub resolved_by : List (Field Name ℕ)
   resolved_by = resolved same_name (by_counter made counter fs) fs
 
+-- how far the counter has come then
+abbrev pub counter_after : ℕ → List (Field Name ℕ) → ℕ
+counter_after counter fs = counter + count_by takes_name fs
+
 -- the index spaces in which names are looked up
 abbrev pub names_spaces : Names → Space → names.Space Name
 names_spaces n = resolver_spaces n.resolver
 
--- Fields that meet all demands, what they become, and what their names mean.
-abbrev pub AreResolved : ℕ → List (Field Name ℕ) → List (Field Name ℕ) → Names → Type 0
-AreResolved counter old new n = (first_unmet is_met (demands_by counter old) ≡ None) × (new ≡ resolved_by counter old) × Means (names_spaces n) (written_by counter old)
+-- Fields that meet all demands, how far the counter comes, what they become, and what their names mean.
+abbrev pub AreResolved : ℕ → List (Field Name ℕ) → ℕ → List (Field Name ℕ) → Names → Type 0
+AreResolved counter old after new n =
+    (first_unmet is_met (demands_by counter old) ≡ None) × (new ≡ resolved_by counter old) × Means (names_spaces n) (written_by counter old) × (after ≡ counter_after counter old)
 
 -- of a module only its fields change, and pieces of a binary don't
 abbrev pub content_by : ℕ → Content Name ℕ → Content Name ℕ

@@ -61,9 +61,11 @@ impl<'a> InPlace<Vec<ModuleField<'a>>> for Expands {
 
     ghost takes = { λ w s old. Unit {0} };
 
-    ghost done = { λ w s old new a. map field_tree new.items ≡ expanded same_name (map field_tree old.items) };
+    ghost done = { λ w s old after new a. map field_tree new.items ≡ expanded same_name (map field_tree old.items) };
 
     ghost refused = { λ w s old e. Unit {0} };
+
+    ghost leaves = { λ s after. Unit {0} };
 
     fn run(&self, _state: &mut (), fields: &mut Vec<ModuleField<'a>>) -> Result<(), AllocError> {
         expand_in_place(self.alloc, fields)

@@ -13,16 +13,20 @@ pub(crate) trait InPlace<T> {
     /// What may be given.
     ghost takes: { Self → Self.State → T → Type 0 };
 
-    /// What becomes of it, with the answer.
-    ghost done: { Self → Self.State → T → T → Self.Answer → Type 0 };
+    /// What becomes of it and of what else is changed, with the answer.
+    ghost done: { Self → Self.State → T → Self.State → T → Self.Answer → Type 0 };
 
     /// With what it is refused.
     ghost refused: { Self → Self.State → T → Self.Refusal → Type 0 };
 
+    /// What else the work leaves, on both outcomes.
+    ghost leaves: { Self.State → Self.State → Type 0 };
+
     /// Does the work; refused, the value may be gone.
     fn run(&self, state: &mut Self::State, value: &mut T) -> Result<Self::Answer, Self::Refusal>
         requires { takes self.now state.old value.old }
-        ensures { MatchResult result (λ a. done self.now state.old value.old value.new a) (λ e. refused self.now state.old value.old e) };
+        ensures answered { MatchResult result (λ a. done self.now state.old value.old state.new value.new a) (λ e. refused self.now state.old value.old e) }
+        ensures left { leaves state.old state.new };
 }
 
 /// Works on a value that is given, and gives it back with the answer. Who calls this has no value of its own that is lent, which spares
@@ -33,7 +37,8 @@ pub(crate) fn by_value<T, W: InPlace<T>>(
     value: T,
 ) -> (T, Result<W::Answer, W::Refusal>)
     requires { W.takes work.now state.old value }
-    ensures { MatchResult result.1 (λ a. W.done work.now state.old value result.0 a) (λ e. W.refused work.now state.old value e) }
+    ensures answered { MatchResult result.1 (λ a. W.done work.now state.old value state.new result.0 a) (λ e. W.refused work.now state.old value e) }
+    ensures left { W.leaves state.old state.new }
 {
     let mut value = value;
     let answer = work.run(state, &mut value);

@@ -25,6 +25,7 @@
 //! ```
 //!
 //! [`resolve()`] writes fields out first, and does both; [`ResolveModule`] does so with a module in its place, which keeps why it is refused.
+//! It also tells whether a module, one that is made by hand too, is well formed.
 //! So `(memory (export "m") (data "ab"))` becomes
 //!
 //! ```text

@@ -1,23 +1,26 @@
 //! Modules, resolved.
-ghost use Rattle.std.specs.Prelude.{◌≡◌, ◌⊎◌, ℕ, ◌+◌, ◌^◌, ◌<◌, [], None, Some, length, IfErr, IfOk, OnOk};
+ghost use Rattle.std.specs.Prelude.{◌≡◌, ◌⊎◌, ℕ, ◌+◌, ◌^◌, ◌<◌, ◌≤◌, [], None, Some, length, slice_get, IfErr, IfOk, OnOk};
 ghost use Rattle.wast_grammar.specs.Tokens.{Name};
+ghost use Rattle.wast_grammar.specs.Spelling.{same_name};
 ghost use Rattle.wast_parser.specs.Problem.{Problem};
 ghost use Rattle.wast_parser.specs.Reading.{out_of_memory};
 ghost use Rattle.wast_core.specs.ModuleViews.{content_tree, module_tree};
 ghost use Rattle.wast_fields.specs.FieldTree as spec;
 ghost use Rattle.wast_names.specs.Demand.{Answers};
-ghost use Rattle.wast_meaning.specs.Modules.{content_fields};
+ghost use Rattle.wast_meaning.specs.Modules.{content_fields, module_breaches};
+ghost use Rattle.wast_bound.specs.Bound.{is_made};
 ghost use Rattle.wast_resolve.specs.Resolving.{Means};
-ghost use Rattle.wast_resolve.specs.Whole.{IsRefused, content_by, demands_by, module_by, module_demands_by, names_spaces, written_by};
+ghost use Rattle.wast_resolve.specs.Whole.{IsRefused, content_by, counter_after, demands_by, module_by, module_demands_by, names_spaces, written_by};
 
 use crate::names::Resolver;
 use crate::whole::{Names, resolve_in_place};
 use std::alloc::Global;
+use wast_bound::first_breach_of;
 use wast_core::{Module, ModuleKind};
-use wast_parser::{Error, Gensym};
+use wast_parser::{Error, Gensym, Span};
 use wast_spaces::Spaces;
 
-/// A module whose names can be resolved.
+/// A module whose names can be resolved, and which may be well formed.
 pub trait ResolveModule<'a> {
     /// What contracts see of it.
     ghost tree: { Self → spec.Module Name ℕ };
@@ -34,8 +37,18 @@ pub trait ResolveModule<'a> {
         ensures answers { (tree self.old).refusal ≡ None → Answers result (module_demands_by gensym.old (tree self.old)) }
         ensures resolved { OnOk result (((tree self.old).refusal ≡ None) × (tree self.new ≡ module_by gensym.old (tree self.old))) }
         ensures names { IfOk result (λ n. Means (names_spaces n) (written_by gensym.old (content_fields (tree self.old).content))) }
+        ensures counted { OnOk result (gensym.new ≡ counter_after gensym.old (content_fields (tree self.old).content)) }
+        ensures rises { gensym.old ≤ gensym.new }
         ensures refused { IfErr result (IsRefused (tree self.new)) }
         ensures kept { (why : Problem) → (tree self.old).refusal ≡ Some why → tree self.new ≡ tree self.old };
+
+    /// Where the keyword of the first field stands that isn't well formed, if there is one (3.4.13, 6.5.6, 6.6.1 and 6.6.14, and the
+    /// proposals on branch hints and page sizes). In fields that are, alignments are powers of two below 65536, in bytes; branch hints rise,
+    /// each stands on an instruction, and their values are below 128; constant expressions close each block that they open, and no other;
+    /// a memory with its segment inline has pages of 2 to a power below 64 bytes; no start function stands behind another; and each name
+    /// that is made up means something wherever it is mentioned. Takes no memory, and changes nothing.
+    fn well_formed(&self) -> Option<Span>
+        ensures { result ≡ slice_get (module_breaches same_name is_made (tree self.now)) 0 };
 }
 
 impl<'a> ResolveModule<'a> for Module<'a> {
@@ -46,6 +59,10 @@ impl<'a> ResolveModule<'a> for Module<'a> {
             Some(why) => Err(copy_of(alloc, why)),
             None => resolve_first(alloc, self, gensym),
         }
+    }
+
+    fn well_formed(&self) -> Option<Span> {
+        first_breach_of(self)
     }
 }
 
@@ -59,6 +76,8 @@ fn resolve_first<'a>(
     ensures answers { Answers result (module_demands_by gensym.old (module_tree «module».old)) }
     ensures resolved { OnOk result (module_tree «module».new ≡ module_by gensym.old (module_tree «module».old)) }
     ensures names { IfOk result (λ n. Means (names_spaces n) (written_by gensym.old (content_fields (content_tree «module».old.kind)))) }
+    ensures counted { OnOk result (gensym.new ≡ counter_after gensym.old (content_fields (content_tree «module».old.kind))) }
+    ensures rises { gensym.old ≤ gensym.new }
     ensures refused { IfErr result (IsRefused (module_tree «module».new)) }
 {
     match resolve_content(alloc, &mut module.kind, gensym) {
@@ -81,6 +100,8 @@ fn resolve_content<'a>(
     ensures answers { Answers result (demands_by gensym.old (content_fields (content_tree content.old))) }
     ensures resolved { OnOk result (content_tree content.new ≡ content_by gensym.old (content_tree content.old)) }
     ensures names { IfOk result (λ n. Means (names_spaces n) (written_by gensym.old (content_fields (content_tree content.old)))) }
+    ensures counted { OnOk result (gensym.new ≡ counter_after gensym.old (content_fields (content_tree content.old))) }
+    ensures rises { gensym.old ≤ gensym.new }
 {
     match content {
         ModuleKind::Text(fields) => resolve_in_place(alloc, fields, gensym),

@@ -103,9 +103,11 @@ impl<'a> InPlace<Vec<ModuleField<'a>>> for Numbers {
 
     ghost takes = { λ w s old. Unit {0} };
 
-    ghost done = { λ w s old new r. AreNumbered (map field_tree old.items) (map field_tree new.items) r };
+    ghost done = { λ w s old after new r. AreNumbered (map field_tree old.items) (map field_tree new.items) r };
 
     ghost refused = { λ w s old e. Refuses (demands same_name (map field_tree old.items)) e };
+
+    ghost leaves = { λ s after. Unit {0} };
 
     fn run(
         &self,

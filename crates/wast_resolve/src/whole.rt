@@ -1,5 +1,5 @@
 //! Whole lists of fields, resolved.
-ghost use Rattle.std.specs.Prelude.{◌≡◌, ◌+◌, ◌^◌, ◌<◌, [], None, map, length, IfOk, OnErr, OnOk};
+ghost use Rattle.std.specs.Prelude.{◌≡◌, ◌+◌, ◌^◌, ◌<◌, ◌≤◌, [], None, map, length, IfOk, OnErr, OnOk};
 ghost use Rattle.wasm_encoder_base.specs.Table.{Functions, Globals, Memories, Tables};
 ghost use Rattle.wast_grammar.specs.Spelling.{same_name};
 ghost use Rattle.wast_parser.specs.Identifiers.{index_tree};
@@ -11,7 +11,7 @@ ghost use Rattle.wast_meaning.specs.Implied.{implied};
 ghost use Rattle.wast_meaning.specs.Numbered.{expanded, numbered};
 ghost use Rattle.wast_meaning.specs.Spaces.{space_word};
 ghost use Rattle.wast_resolve.specs.Resolving.{Means, ns_space, resolver_spaces};
-ghost use Rattle.wast_resolve.specs.Whole.{AreResolved, demands_by, names_spaces, resolved_by, written_by};
+ghost use Rattle.wast_resolve.specs.Whole.{AreResolved, counter_after, demands_by, names_spaces, resolved_by, written_by};
 
 use crate::expanded::expand_in_place;
 use crate::in_place::{InPlace, by_value};
@@ -100,6 +100,8 @@ pub fn resolve<'a>(
     ensures answers { Answers result (demands_by gensym.old (map field_tree fields.entry.items)) }
     ensures resolved { IfOk result (λ r. map field_tree r.0.items ≡ resolved_by gensym.old (map field_tree fields.entry.items)) }
     ensures names { IfOk result (λ r. Means (names_spaces r.1) (written_by gensym.old (map field_tree fields.entry.items))) }
+    ensures counted { OnOk result (gensym.new ≡ counter_after gensym.old (map field_tree fields.entry.items)) }
+    ensures rises { gensym.old ≤ gensym.new }
 {
     match by_value(&Resolves { alloc }, gensym, fields) {
         (fields, Ok(names)) => Ok((fields, names)),
@@ -125,9 +127,11 @@ impl<'a> InPlace<Vec<ModuleField<'a>>> for Resolves {
 
     ghost takes = { λ w s old. s + length old.items < 2 ^ 32 };
 
-    ghost done = { λ w s old new n. AreResolved s (map field_tree old.items) (map field_tree new.items) n };
+    ghost done = { λ w s old after new n. AreResolved s (map field_tree old.items) after (map field_tree new.items) n };
 
     ghost refused = { λ w s old e. Refuses (demands_by s (map field_tree old.items)) e };
+
+    ghost leaves = { λ s after. s ≤ after };
 
     fn run(
         &self,
@@ -148,6 +152,8 @@ pub(crate) fn resolve_in_place<'a>(
     ensures answers { Answers result (demands_by gensym.old (map field_tree fields.old.items)) }
     ensures resolved { OnOk result (map field_tree fields.new.items ≡ resolved_by gensym.old (map field_tree fields.old.items)) }
     ensures names { IfOk result (λ n. Means (names_spaces n) (written_by gensym.old (map field_tree fields.old.items))) }
+    ensures counted { OnOk result (gensym.new ≡ counter_after gensym.old (map field_tree fields.old.items)) }
+    ensures rises { gensym.old ≤ gensym.new }
 {
     match expand_written(alloc, fields, gensym) {
         Ok(()) => number_expanded(alloc, fields),
@@ -162,7 +168,9 @@ fn expand_written<'a>(
     gensym: &mut Gensym,
 ) -> Result<(), AllocError>
     requires { gensym.old + length fields.old.items < 2 ^ 32 }
-    ensures { OnOk result (map field_tree fields.new.items ≡ expanded same_name (written_by gensym.old (map field_tree fields.old.items))) }
+    ensures expanded { OnOk result (map field_tree fields.new.items ≡ expanded same_name (written_by gensym.old (map field_tree fields.old.items))) }
+    ensures counted { OnOk result (gensym.new ≡ counter_after gensym.old (map field_tree fields.old.items)) }
+    ensures rises { gensym.old ≤ gensym.new }
 {
     match run_in_place(alloc, fields, gensym) {
         Ok(()) => expand_in_place(alloc, fields),

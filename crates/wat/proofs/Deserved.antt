@@ -3,22 +3,28 @@ use Rattle.std.proofs.Common.{ℕ, ◌≡◌, ◌<◌, ◌^◌, true, false, inl
 use Rattle.std.specs.Prelude.{MatchResult}
 use Rattle.std.specs.Str.{IsUtf8}
 use Rattle.wast_grammar.specs.Tokens.{Name}
+use Rattle.wast_parser.specs.Problem.{Problem, is_memory}
+use Rattle.wast_parser.specs.Significant.{TextToken}
+use Rattle.wast_names.specs.Demand.{Tells}
+use Rattle.wast_fields.specs.FieldTree.{Content, Fields, Pieces, Module}
+use Rattle.wast_core.specs.ModuleSyntax.{wat}
+use Rattle.wasm_layout.specs.AbstractModule.{AbstractModule}
+use Rattle.wast_meant.specs.Means as worths
+use Rattle.wast_encode.specs.Encoded.{StandsFor, IsBinaryOf}
+use Rattle.wast_encode.specs.Encoded as encoded
+use Rattle.wast_encode.specs.declared.fault.EncodeFault.{EncodeFault}
+use Rattle.wast_encode.specs.declared.fault.EncodeFault.TheVariants as encoding
+use Rattle.wat_verdict.specs.Spells.{Spells}
+use Rattle.wat_verdict.specs.Naming.{unmet_demand}
+use Rattle.wat_verdict.specs.Verdict.{NotUtf8, Fails, Accepts, Assembles, tree_breach}
+use Rattle.wat_verdict.proofs.Unmet.{told_unmet}
+use Rattle.wat_verdict.proofs.Verdict.{one_condition}
 use Rattle.wat.specs.declared.fault.Fault.{Fault}
 use Rattle.wat.specs.declared.fault.Fault.TheVariants as faults
-use Rattle.wast_parser.specs.Problem.{Problem, is_memory}
-use Rattle.wast_names.specs.Demand.{Tells}
-use Rattle.wast_fields.specs.FieldTree.{Module}
-use Rattle.wast_well_formed.specs.Breaches.{written_breach}
-use Rattle.wat_profile.specs.Profile.{Func, profile}
-use Rattle.wat_profile.specs.StandsFor.{meant}
-use Rattle.wat_verdict.specs.Spells.{Spells}
 use Rattle.wat.specs.Unspelled.{IsUnspelled}
-use Rattle.wat.specs.Headline.{NotUtf8, Fails, Accepts, Assembles, Deserves}
+use Rattle.wat.specs.Headline.{Deserves}
 use Rattle.wat.specs.NoText.{IsNoText}
-use Rattle.wat.specs.Judged.{IsLaid, IsJudged, IsAnswered, IsTold}
-use Rattle.wat_verdict.specs.Naming.{unmet_demand}
-use Rattle.wat_verdict.proofs.Unmet.{told_unmet}
-use Rattle.wat.proofs.Verdict.{one_condition}
+use Rattle.wat.specs.Judged.{IsEncoded, IsJudged, IsAnswered, IsTold, as_fault}
 
 pub no_text : (bytes : List ℕ) (f : Fault) → IsNoText bytes f → Deserves bytes f
 no_text bytes faults.TooLong t = t
@@ -47,35 +53,50 @@ told_not_utf8 bytes (faults.Uncovered span form) n t h = absurd t
 told_not_utf8 bytes faults.TooLarge n t h = absurd t
 told_not_utf8 bytes (faults.Write written) n t h = absurd t
 
+-- A TREE THAT A TEXT SPELLS is none that was refused
+pub unrefused : (tree : Module Name ℕ) (ts : List TextToken) → wat.spells tree ts → tree.refusal ≡ None
+unrefused tree ts s = elim s [
+  | inl m ↦ sym (ap (λ (x : Module Name ℕ). x.refusal) m.4.1)
+  | inr m ↦ sym (ap (λ (x : Module Name ℕ). x.refusal) m.1)
+]
+
+-- what encoding answers of a well formed tree
+pub judged_of : (tree : Module Name ℕ) (f : EncodeFault) → tree_breach tree ≡ None → encoded.Deserves 0 tree f → IsJudged tree (as_fault f)
+judged_of tree (encoding.Unmet error) b d = (b, d)
+judged_of tree (encoding.Uncovered span form) b d = (b, d.0, d.1)
+judged_of tree encoding.TooLarge b d = d
+judged_of tree encoding.Memory b d = tt
+
 module _ (bytes : List ℕ) (short : length bytes < 2 ^ 32) (utf8 : IsUtf8 bytes) where
   module _ (tree : Module Name ℕ) (s : Spells bytes tree) where
-    -- a well formed tree of today's profile whose demands are met, with its functions
-    accepted : written_breach tree ≡ None → unmet_demand tree ≡ None → (fs : List Func) → profile tree ≡ Some fs → Accepts bytes (meant fs)
-    accepted formed met fs found =
-        record { short = short; utf8 = utf8; means = record { tree = tree; spelled = s; stands_for = record { funcs = fs; in_profile = found; is_meant = refl } }; well_formed = formed; all_met = met }
+    -- it means the module that its tree stands for
+    accepted : (m : AbstractModule (List ℕ)) → StandsFor 0 tree m → Accepts bytes (worths.Stands m)
+    accepted m f = record { short = short; utf8 = utf8; worth = record { tree = tree; spelled = s; module_meant = f.module_meant; is_meant = f.is_meant; named = f.named } }
 
-    assembled_tree : (binary : List ℕ) → IsLaid tree binary → Assembles bytes binary
-    assembled_tree binary l = (meant l.2.0, accepted l.0 l.1 l.2.0 l.2.1, record { lays = l.2.2 })
+    assembled_content : (c : Content Name ℕ) → tree.content ≡ c → (binary : List ℕ) → IsBinaryOf 0 tree c binary → Assembles bytes binary
+    assembled_content (Fields fs) e binary b = (worths.Stands b.0, accepted b.0 b.1, (b.2, λ plain. b.3 (plain tree s)))
+    assembled_content (Pieces pieces) e binary b =
+        (worths.Pieces binary, record { short = short; utf8 = utf8; worth = record { tree = tree; spelled = s; pieces = pieces; are_content = e; joined = b } }, refl)
 
-    unmet : (error : Problem) → written_breach tree ≡ None → Tells (unmet_demand tree) error → Deserves bytes (faults.Unmet error)
+    unmet : (error : Problem) → tree_breach tree ≡ None → Tells (unmet_demand tree) error → Deserves bytes (faults.Unmet error)
     unmet error formed t =
         let d = told_unmet tree (unmet_demand tree) error refl t in
         (d.0, d.1, (short, utf8, (tree, s, formed, d.2)), d.3)
 
     judged : (f : Fault) → IsJudged tree f → Deserves bytes f
-    judged faults.TooLong j = absurd j.2
-    judged (faults.NotUtf8 offset) j = absurd j.2
-    judged (faults.Spelling error) j = absurd j.2
+    judged faults.TooLong j = absurd j
+    judged (faults.NotUtf8 offset) j = absurd j
+    judged (faults.Spelling error) j = absurd j
     judged faults.Memory j = tt
-    judged faults.Read j = j.2
+    judged faults.Read j = j
     judged (faults.NotWellFormed span) j = (short, utf8, (tree, s, j))
     judged (faults.Unmet error) j = unmet error j.0 j.1
-    judged (faults.Uncovered span form) j = ((short, utf8, (tree, s, j.0, j.1, j.2.0, j.2.1)), j.2.2)
-    judged faults.TooLarge j = (meant j.2.0, accepted j.0 j.1 j.2.0 j.2.1, j.2.2)
-    judged (faults.Write written) j = j.2
+    judged (faults.Uncovered span form) j = (short, utf8, (tree, s, j.0, j.1, j.2))
+    judged faults.TooLarge j = (j.0, accepted j.0 j.1, j.2)
+    judged (faults.Write written) j = j
 
   pub assembled : (binary : List ℕ) → IsAnswered bytes binary → Assembles bytes binary
-  assembled binary a = assembled_tree a.0 a.1 binary a.2
+  assembled binary a = assembled_content a.0 a.1 a.0.content refl binary a.2
 
   pub deserved : (f : Fault) → IsTold bytes f → Deserves bytes f
   deserved (faults.Spelling error) t = ((short, utf8, t.1), t.0)
@@ -98,7 +119,7 @@ misspelled text error m u = elim u [
 
 -- a fault of the tree that a text spells
 pub told_of : (text : List ℕ) (tree : Module Name ℕ) → Spells text tree → (f : Fault) → IsJudged tree f → IsTold text f
-told_of text tree s (faults.Spelling error) j = absurd j.2
+told_of text tree s (faults.Spelling error) j = absurd j
 told_of text tree s faults.Memory j = tt
 told_of text tree s faults.TooLong j = (tree, s, j)
 told_of text tree s (faults.NotUtf8 offset) j = (tree, s, j)

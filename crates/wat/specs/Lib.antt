@@ -1,7 +1,6 @@
 pub mod Headline
 pub mod Judged
 pub mod Laws
-pub mod Means
 pub mod NoText
 pub mod Program
 pub mod Render
@@ -18,8 +17,7 @@ pub use Rattle.wast_parser.specs.Productions
 pub use Rattle.wast_parser_base.specs.Problem
 pub use Rattle.wast_parser_base.specs.Snippet
 pub use Rattle.wat_io.specs.Counted
-pub use Rattle.wat_profile.specs.AbstractModule
-pub use Rattle.wat_profile.specs.Layout
-pub use Rattle.wat_profile.specs.Parts
-pub use Rattle.wat_profile.specs.Profile
-pub use Rattle.wat_profile.specs.StandsFor
+pub use Rattle.wat_verdict.specs.Naming
+pub use Rattle.wat_verdict.specs.Registered
+pub use Rattle.wat_verdict.specs.Spells
+pub use Rattle.wat_verdict.specs.Verdict

@@ -1,6 +1,6 @@
 -- What the first step of `assemble` answers. No part of a promise.
 use Rattle.std.specs.Prelude.{ℕ, List}
-use Rattle.wat.specs.Headline.{Fails, TooLong, NotUtf8}
+use Rattle.wat_verdict.specs.Verdict.{Fails, TooLong, NotUtf8}
 use Rattle.wat.specs.declared.fault.Fault.{Fault}
 use Rattle.wat.specs.declared.fault.Fault.TheVariants as faults
 

@@ -2,7 +2,8 @@
 use Rattle.std.specs.Prelude.{◌≡◌, ℕ, ◌≤◌, List, [], length, take, Option, Result, Ok, Err, IfSome}
 use Rattle.std.specs.Io.KnownBytes.{Appends, Consumes}
 use Rattle.wat_io.specs.Counted.{one_more}
-use Rattle.wat.specs.Headline.{Assembles, Deserves}
+use Rattle.wat_verdict.specs.Verdict.{Assembles}
+use Rattle.wat.specs.Headline.{Deserves}
 use Rattle.wat.specs.declared.fault.Fault.{Fault}
 use Rattle.wat.specs.declared.fault.Fault.TheVariants as faults
 

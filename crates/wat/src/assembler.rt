@@ -1,35 +1,37 @@
 //! From the bytes of a text to the bytes of a binary.
 
-ghost use Rattle.std.specs.Prelude.{◌≡◌, ◌<◌, ◌^◌, ℕ, false, length, map, None, Err, MatchResult};
+ghost use Rattle.std.specs.Prelude.{◌≡◌, ◌+◌, ◌<◌, ◌≤◌, ◌^◌, ℕ, false, true, length, None, Some, Err, MatchResult, IfErr, IfOk, OnOk};
 ghost use Rattle.std.specs.Str.{IsUtf8};
-ghost use Rattle.wat.specs.Headline.{Assembles, Deserves, Fails, TooLong, NotUtf8};
-ghost use Rattle.wat.specs.NoText.{IsNoText};
+ghost use Rattle.wast_parser.specs.Problem.{Problem};
 ghost use Rattle.wast_parser.specs.Table.{IsTable};
-ghost use Rattle.wast_core.specs.ModuleViews.{field_tree, module_tree};
-ghost use Rattle.wat.specs.Judged.{IsAnswered, IsEncoded, IsJudged, IsLaid, IsNotEncoded, IsTold, IsUnmet, IsUnresolved};
-ghost use Rattle.wat_verdict.specs.Naming.{unmet_demand, unmet_in};
+ghost use Rattle.wast_meaning.specs.Modules.{content_fields};
+ghost use Rattle.wast_resolve.specs.Whole.{counter_after, module_by};
+ghost use Rattle.wast_encode.specs.Encoded as encoded;
+ghost use Rattle.wast_encode.specs.Encoded.{IsRefusedFor, LeavesFor};
+ghost use Rattle.wat_verdict.specs.Verdict.{Assembles, Fails, TooLong, NotUtf8, tree_breach};
+ghost use Rattle.wat.specs.Headline.{Deserves};
+ghost use Rattle.wat.specs.NoText.{IsNoText};
+ghost use Rattle.wat.specs.Judged.{IsAnswered, IsEncoded, IsJudged, IsTold, as_fault};
 ghost use Rattle.wat.specs.TextViews.{wat_tree};
 
 use crate::fault::Fault;
 use crate::text::{Wat, parse_text};
 use std::alloc::Global;
-use wasm_encoder_base::EncodeError;
-use wast_core::{Module, ModuleField, ModuleKind};
-use wast_demands::check_fields;
-use wast_parser::{Gensym, ParseBuffer};
-use wast_well_formed::first_breach_written;
-use wat_profile::{encode, profiled};
+use wast_core::{Module, ModuleKind};
+use wast_encode::{EncodeFault, EncodeOptions};
+use wast_parser::{Gensym, ParseBuffer, Span};
+use wast_resolve::ResolveModule;
 
 /// The binary of the module that a text spells.
 ///
-/// Answers a binary exactly where, memory found and no count or length of the binary past 4294967295, `input` is
-/// a UTF-8 text of at most 4294967295 bytes that spells a module of today's profile: functions with inline exports, whose
-/// bodies are `nop`, `drop` and `i32.const`; else the fault of the first condition that fails. A module that is spelled and isn't well
-/// formed is `NotWellFormed`, with the place of the keyword of the first field that isn't. One in which a name or a type use doesn't
-/// stand for what it must is `Unmet`, by an error that tells the first demand of names that isn't met. Any other one outside the profile is
-/// `Uncovered`, with the form `not yet` and the place of its word `module`, or else of its first field's keyword. `TooLarge` comes
-/// exactly where, memory found, a count or length of the binary meant is past 4294967295, and `Memory` where a growth found no memory.
-/// The length and UTF-8 are tested without memory.
+/// Answers a binary exactly where, memory found and no count or length of the binary past 4294967295, `input` is a UTF-8 text of at most
+/// 4294967295 bytes that spells a well formed module all of whose demands of names are met and all of whose forms have a binary; of a
+/// `binary` module the answer is its pieces, joined. Else it answers the fault of the first condition that fails. A module that is spelled and isn't
+/// well formed is `NotWellFormed`, with the place of the keyword of the first field that isn't. One in which a name or a type use doesn't
+/// stand for what it must is `Unmet`, by an error that tells the first demand of names that isn't met. One with a form that isn't written to
+/// binaries is `Uncovered`, with the first, and the place of the keyword of its field. `TooLarge` comes exactly where, memory found, a count
+/// or length of the binary meant is past 4294967295, and `Memory` where a growth found no memory. The length and UTF-8 are tested without
+/// memory.
 pub fn assemble(alloc: Global, input: &[u8]) -> Result<Vec<u8>, Fault>
     ensures answers { MatchResult result (λ binary. Assembles input.now binary.items) (λ fault. Deserves input.now fault) }
     ensures too_long { Fails input.now TooLong → result ≡ Err Fault.TooLong }
@@ -46,6 +48,31 @@ pub fn assemble(alloc: Global, input: &[u8]) -> Result<Vec<u8>, Fault>
     binary_of_text(alloc, &buffer)
 }
 
+/// The binary of a text that is read, as [`EncodeOptions::encode_module`] makes that of a module, which it answers and leaves: the text is resolved then,
+/// also where it is refused for what comes behind its demands of names, or it keeps why it was refused. The text is well formed, and there is room for a name
+/// of `gensym` for each of its fields.
+pub fn encode_wat(
+    alloc: Global,
+    options: &EncodeOptions,
+    wat: &mut Wat<'_>,
+    gensym: &mut Gensym,
+) -> Result<Vec<u8>, EncodeFault>
+    requires formed { tree_breach (wat_tree wat.old) ≡ None }
+    requires room { gensym.old + length (content_fields (wat_tree wat.old).content) < 2 ^ 32 }
+    ensures binary { IfOk result (λ binary. encoded.IsBinaryOf gensym.old (wat_tree wat.old) (wat_tree wat.old).content binary.items) }
+    ensures fault { (wat_tree wat.old).refusal ≡ None → IfErr result (encoded.Deserves gensym.old (wat_tree wat.old)) }
+    ensures resolved { OnOk result (((wat_tree wat.old).refusal ≡ None) × (wat_tree wat.new ≡ module_by gensym.old (wat_tree wat.old))) }
+    ensures left { (wat_tree wat.old).refusal ≡ None → IfErr result (LeavesFor gensym.old (wat_tree wat.old) (wat_tree wat.new)) }
+    ensures refused { (why : Problem) → (wat_tree wat.old).refusal ≡ Some why → IfErr result (IsRefusedFor why) }
+    ensures kept { (why : Problem) → (wat_tree wat.old).refusal ≡ Some why → wat_tree wat.new ≡ wat_tree wat.old }
+    ensures counted { OnOk result (gensym.new ≡ counter_after gensym.old (content_fields (wat_tree wat.old).content)) }
+    ensures rises { gensym.old ≤ gensym.new }
+{
+    match wat {
+        Wat::Module(module) => options.encode_module(alloc, module, gensym),
+    }
+}
+
 /// The binary of the module that the text of a buffer spells.
 fn binary_of_text<'a>(alloc: Global, buffer: &'a ParseBuffer<'a>) -> Result<Vec<u8>, Fault>
     requires { IsTable false buffer.now.text buffer.now.tokens buffer.now.fault }
@@ -58,71 +85,51 @@ fn binary_of_text<'a>(alloc: Global, buffer: &'a ParseBuffer<'a>) -> Result<Vec<
     }
 }
 
-/// The binary of a text that is read.
+/// The binary of a text that is read. A new counter has names for as many fields as 4294967295, and no text is long enough for more.
 fn binary_of(alloc: Global, text: &mut Wat<'_>) -> Result<Vec<u8>, Fault>
-    ensures { MatchResult result (λ binary. IsLaid (wat_tree text.old) binary.items) (λ fault. IsJudged (wat_tree text.old) fault) }
+    requires { (wat_tree text.old).refusal ≡ None }
+    ensures { MatchResult result (λ binary. IsEncoded (wat_tree text.old) binary.items) (λ fault. IsJudged (wat_tree text.old) fault) }
 {
-    let Wat::Module(module) = text;
-    binary_of_module(alloc, module)
-}
-
-/// The binary of a module that a text spells.
-fn binary_of_module(alloc: Global, module: &mut Module<'_>) -> Result<Vec<u8>, Fault>
-    ensures { MatchResult result (λ binary. IsLaid (module_tree «module».old) binary.items) (λ fault. IsJudged (module_tree «module».old) fault) }
-{
-    if let Some(place) = first_breach_written(module) {
+    if let Some(place) = first_breach(text) {
         return Err(Fault::NotWellFormed(place));
     }
-    // The profile is that of the tree as written, and what it answers comes behind the demands of names.
-    let binary = encoded(alloc, module);
-    match resolve(alloc, module) {
-        Ok(()) => binary,
-        Err(fault) => Err(fault),
-    }
-}
-
-/// The binary of a module of today's profile, whose names aren't resolved.
-fn encoded(alloc: Global, module: &Module<'_>) -> Result<Vec<u8>, Fault>
-    ensures { MatchResult result (λ binary. IsEncoded (module_tree «module».now) binary.items) (λ fault. IsNotEncoded (module_tree «module».now) fault) }
-{
-    let funcs = match profiled(alloc, module) {
-        Ok(Some(funcs)) => funcs,
-        Ok(None) => {
-            return Err(Fault::Uncovered {
-                span: module.span,
-                form: "not yet",
-            });
-        }
-        Err(_) => return Err(Fault::Memory),
-    };
-    match encode(alloc, &funcs) {
-        Ok(binary) => Ok(binary),
-        Err(EncodeError::TooLarge) => Err(Fault::TooLarge),
-        Err(EncodeError::Memory) => Err(Fault::Memory),
-    }
-}
-
-/// Tests the demands of names of a module that a text spells; its fields are written out for that.
-fn resolve(alloc: Global, module: &mut Module<'_>) -> Result<(), Fault>
-    ensures { MatchResult result (λ _. unmet_demand (module_tree «module».old) ≡ None) (λ fault. IsUnresolved (module_tree «module».old) fault) }
-{
-    match &mut module.kind {
-        ModuleKind::Text(fields) => test(alloc, fields),
-        ModuleKind::Binary(_) => Ok(()),
-    }
-}
-
-/// The same of its fields. A new counter has names for as many as 4294967295, and no text is long enough for more.
-fn test(alloc: Global, fields: &mut Vec<ModuleField<'_>>) -> Result<(), Fault>
-    ensures { MatchResult result (λ _. unmet_in (map field_tree fields.old.items) ≡ None) (λ fault. IsUnmet (unmet_in (map field_tree fields.old.items)) fault) }
-{
-    if fields.len() > 4294967295 {
+    if !is_numbered(text) {
         return Err(Fault::Memory);
     }
-    match check_fields(alloc, fields, &mut Gensym::new()) {
-        Ok(()) => Ok(()),
-        Err(error) if error.is_memory() => Err(Fault::Memory),
-        Err(error) => Err(Fault::Unmet(error)),
+    match encode_wat(alloc, &EncodeOptions::new(), text, &mut Gensym::new()) {
+        Ok(binary) => Ok(binary),
+        Err(fault) => Err(fault_of(fault)),
+    }
+}
+
+/// Where the keyword of the first field stands that isn't well formed.
+fn first_breach(text: &Wat<'_>) -> Option<Span>
+    ensures { result ≡ tree_breach (wat_tree text.now) }
+{
+    let Wat::Module(module) = text;
+    module.well_formed()
+}
+
+/// Whether the fields of a text can be numbered.
+fn is_numbered(text: &Wat<'_>) -> bool
+    ensures { result ≡ true → length (content_fields (wat_tree text.now).content) < 2 ^ 32 }
+{
+    let Wat::Module(module) = text;
+    match &module.kind {
+        ModuleKind::Text(fields) => fields.len() <= 4294967295,
+        ModuleKind::Binary(_) => true,
+    }
+}
+
+/// The fault that a fault of encoding is.
+fn fault_of(fault: EncodeFault) -> Fault
+    ensures { result ≡ as_fault fault }
+{
+    match fault {
+        EncodeFault::Unmet(error) => Fault::Unmet(error),
+        EncodeFault::Uncovered { span, form } => Fault::Uncovered { span, form },
+        EncodeFault::TooLarge => Fault::TooLarge,
+        EncodeFault::Memory => Fault::Memory,
     }
 }
 

@@ -27,7 +27,7 @@ pub enum Fault {
     /// A name or a type use doesn't stand for what it must.
     #[error("{0}")]
     Unmet(Error),
-    /// A form that isn't written to binaries; `not yet` where a module is spelled, and isn't assembled today.
+    /// A form that isn't written to binaries: what it is called, in an instruction its mnemonic, and the place of its field.
     #[error("uncovered form: {form}")]
     Uncovered { span: Span, form: &'static str },
     /// A count or length of the binary is past 4294967295.

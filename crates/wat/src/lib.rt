@@ -2,7 +2,7 @@
 //!
 //! [`assemble`] answers the binary of the module that a text spells, or else the first condition that the text fails;
 //! [`run`] does so from a reader to a writer, [`run_program`] as a program does, and [`render`] tells a fault. [`Wat`] is a text as a
-//! tree, which a parser reads.
+//! tree, which a parser reads, and [`encode_wat`] makes its binary.
 //!
 //! The text `(module (func (export "a")))` gives these bytes, which is a row of `wat_rows`:
 //!
@@ -22,12 +22,13 @@ mod renderer;
 mod runner;
 mod text;
 
-pub use assembler::assemble;
+pub use assembler::{assemble, encode_wat};
 pub use fault::Fault;
 pub use program::run_program;
 pub use renderer::render;
 pub use runner::run;
 pub use text::Wat;
+pub use wast_encode::{EncodeFault, EncodeOptions};
 pub use wast_lexer::Span;
 pub use wast_parser_base::Error;
 pub use wat_io::Counted;

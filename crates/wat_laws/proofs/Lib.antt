@@ -2,5 +2,12 @@ pub mod FlatParts
 pub mod FlatTexts
 pub mod Folding
 pub mod HintPlaces
+pub mod LexedTexts
+pub mod PlacedFields
+pub mod PlacedMeaning
 pub mod Rewrites
 pub mod Standing
+pub mod WrittenExamples
+pub mod WrittenFormed
+pub mod WrittenNames
+pub mod WrittenOut

@@ -3,6 +3,8 @@
 ghost use Rattle.wat_laws.specs.HintExamples.{HintExample};
 ghost use Rattle.wat_laws.specs.HintPlaces.{HintPlaces};
 ghost use Rattle.wat_laws.specs.Laws.{EachFlat, Folding};
+ghost use Rattle.wat_laws.specs.Written.{WrittenOut};
+ghost use Rattle.wat_laws.specs.WrittenExamples.{WrittenExamples};
 
 use wast_mnemonics::laws::every_word;
 
@@ -27,3 +29,17 @@ pub fn folding()
 {
     every_word();
 }
+
+/// A text and one that spells its fields *written out* are both accepted or both aren't, though they may fail different conditions; and
+/// where they are, the modules that they mean are the same without their names, and so are their binaries without the section of names.
+/// Written out, no import, export or segment stands inside of another field; what has to be said then and has no name takes one that
+/// occurs nowhere else. So `(module (func (export "a")))` is `(module (func $f) (export "a" (func $f)))`.
+pub fn written_out()
+    ensures { WrittenOut }
+{}
+
+/// That pair of texts, and `(module (memory $m (data "ab")))` with
+/// `(module (memory $m 1 1) (data (memory $m) (i32.const 0) "ab"))`, by hand: each second spells what the first does, written out.
+pub fn written_examples()
+    ensures { WrittenExamples }
+{}

@@ -1,5 +1,5 @@
 //! Laws of whole texts and of binaries (WebAssembly Core Specification 3.0), and no code: where a branch hint and its instruction stand in a
-//! binary, and what a text is worth of which bodies of functions are written flat.
+//! binary, and what a text is worth of which bodies of functions are written flat, or fields are written out.
 //!
 //! # What has to be believed
 //!
@@ -8,7 +8,8 @@
 //! | `HintPlaces` | that a module has a hint, and where in a binary it is listed and its instruction begins |
 //! | `Flat` | which tokens are those of a text with bodies written flat |
 //! | `Laws` | the statements of `folding` |
-//! | `HintExamples` | a hint by hand |
+//! | `Written` | texts of which one spells the fields of the other written out, and the statement of `written_out` |
+//! | `HintExamples`, `WrittenExamples` | a hint, and two such pairs of texts, by hand |
 #![tactic(auto)]
 
 pub mod laws;

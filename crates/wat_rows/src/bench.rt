@@ -128,7 +128,7 @@ fn measure_parser(rt: &HostRuntime, text: &str) -> io::Result<()>
     let start = Instant::now(rt)?;
     let answer = match assemble(rt.alloc(), text.as_bytes()) {
         Ok(_) => "a binary",
-        Err(Fault::Uncovered { .. }) => "a form that is not encoded yet",
+        Err(Fault::Uncovered { .. }) => "an uncovered form",
         Err(_) => "a fault",
     };
     let bytes = speed(text.len(), start.elapsed(rt)?);

@@ -5,6 +5,7 @@
 //! - of a text, its binary in hexadecimal, or the fault in one line;
 //! - of `spelled: TEXT`, whether the text is spelled, whatever else is wrong with it;
 //! - of `rendered: TEXT`, the fault as the program tells it;
+//! - of `pair: TEXT ~~ TEXT`, whether their binaries are equal, or equal without name sections, or the faults;
 //! - of `at N: TEXT`, a fault at the byte N of this text, told so;
 //! - of `faults:`, each fault in one line;
 //! - of a line that begins with `#` nothing: it names what the rows below it are of.
@@ -13,6 +14,7 @@
 #![tactic(auto)]
 
 mod bench;
+mod pairs;
 
 use std::alloc::{AllocError, Global};
 use std::{env, io};
@@ -50,6 +52,8 @@ fn answer(rt: &HostRuntime, row: &str) -> io::Result<()> {
         print_spelled(rt, text)
     } else if let Some(text) = row.strip_prefix("rendered: ") {
         print_rendered(rt, text)
+    } else if let Some((first, second)) = pair_of(row) {
+        print_pair(rt, first, second)
     } else if let Some((place, text)) = place_of(row) {
         print_fault_at(rt, place, text)
     } else {
@@ -61,6 +65,11 @@ fn answer(rt: &HostRuntime, row: &str) -> io::Result<()> {
 fn place_of(row: &str) -> Option<(usize, &str)> {
     let (place, text) = row.strip_prefix("at ")?.split_once(": ")?;
     Some((place.parse().ok()?, text))
+}
+
+/// The texts of a row that begins so.
+fn pair_of(row: &str) -> Option<(&str, &str)> {
+    row.strip_prefix("pair: ")?.split_once(" ~~ ")
 }
 
 /// The bytes that a row stands for.
@@ -99,6 +108,12 @@ fn print_spelled(rt: &HostRuntime, row: &str) -> io::Result<()> {
         Err(Fault::Memory) => println!(rt; "out of memory"),
         _ => println!(rt; "spelled"),
     }
+}
+
+fn print_pair(rt: &HostRuntime, first: &str, second: &str) -> io::Result<()> {
+    let first = bytes_of(rt.alloc(), first)?;
+    let second = bytes_of(rt.alloc(), second)?;
+    pairs::print_likeness(rt, first.as_slice(), second.as_slice())
 }
 
 fn print_hexadecimal(rt: &HostRuntime, bytes: &[u8]) -> io::Result<()> {

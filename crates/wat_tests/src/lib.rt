@@ -8,3 +8,5 @@ mod failing;
 mod memory;
 #[cfg(test)]
 mod runs;
+#[cfg(test)]
+mod trees;

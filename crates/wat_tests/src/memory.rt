@@ -42,9 +42,9 @@ fn many_comments(rt: HostRuntime) -> Result<(), Fail> {
 #[test]
 fn refused_growths_of_a_binary(rt: HostRuntime) -> Result<(), Fail> {
     let text =
-        b"(module (@\"\\61\") (func (export \"a\") nop i32.const 1 drop) (func (export \"\\62\")))";
+        b"(module (@\"\\61\") (@custom \"c\" \"x\") (memory (export \"\\6d\") (data \"ab\")) (func $f (param i32) (block $l (br $l))))";
     match assemble(rt.alloc(), text) {
-        Ok(binary) => assert_eq!(rt; binary.len(), 43),
+        Ok(binary) => assert_eq!(rt; binary.len(), 79),
         Err(fault) => {
             assert!(rt; matches!(&fault, Fault::Memory));
             return Err(fault.into());

@@ -9,14 +9,14 @@ use Rattle.wast_resolve.proofs.whole.resolve_in_place.Goals as goal
 pub returns-in-Ok-clause-answers : goal.returns-in-Ok-clause-answers
 returns-in-Ok-clause-answers c =
     let written = written_by c.args.gensym.now (map field_tree c.args.fields.now.items) in
-    answers_before written _ c.in-Ok.ensures c.number_expanded.result c.number_expanded.ensures.answers
+    answers_before written _ c.in-Ok.ensures.expanded c.number_expanded.result c.number_expanded.ensures.answers
 
 pub returns-in-Ok-clause-resolved : goal.returns-in-Ok-clause-resolved
 returns-in-Ok-clause-resolved c =
     let written = written_by c.args.gensym.now (map field_tree c.args.fields.now.items) in
-    numbers_before written _ c.in-Ok.ensures c.number_expanded.result _ c.number_expanded.ensures.numbered
+    numbers_before written _ c.in-Ok.ensures.expanded c.number_expanded.result _ c.number_expanded.ensures.numbered
 
 pub returns-in-Ok-clause-names : goal.returns-in-Ok-clause-names
 returns-in-Ok-clause-names c =
     let written = written_by c.args.gensym.now (map field_tree c.args.fields.now.items) in
-    IfOk-weaker c.number_expanded.result _ (λ n. Means (names_spaces n) written) (λ n. means_before written _ c.in-Ok.ensures (names_spaces n)) c.number_expanded.ensures.names
+    IfOk-weaker c.number_expanded.result _ (λ n. Means (names_spaces n) written) (λ n. means_before written _ c.in-Ok.ensures.expanded (names_spaces n)) c.number_expanded.ensures.names

@@ -1,0 +1,11 @@
+pub mod Alike
+pub mod Formed
+pub mod Function
+pub mod Kept
+pub mod Looks
+pub mod Open
+pub mod Scopes
+pub mod TypeWalk
+pub mod TypesMeant
+pub mod Unnamed
+pub mod Walked

@@ -1,0 +1,3 @@
+mod Again
+mod FormedAgain
+mod Tested

@@ -1,5 +1,0 @@
-use Rattle.wat.proofs.Verdict.{one_verdict}
-use Rattle.wat.proofs.laws.one_verdict.Goals as goal
-
-pub returns : goal.returns
-returns c = one_verdict

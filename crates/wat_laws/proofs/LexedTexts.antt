@@ -1,0 +1,66 @@
+-- Texts by hand, cut into tokens by computation.
+use Rattle.std.proofs.Common.{◌≡◌, ℕ, zero, suc, ◌+◌, ◌-◌, Bool, true, false, List, [], ◌∷◌, ◌++◌, length, Option, Some, None, refl, sym, ◌∙◌, ap, subst, arith, length-append}
+use Rattle.std.specs.Prelude.{option_map}
+use Rattle.std.proofs.Math.Seq.{take-append_seam}
+use Rattle.wast_lexer.specs.declared.token.TokenKind.{TokenKind}
+use Rattle.wast_lexer.specs.Kinds.{is_open}
+use Rattle.wast_lexer.specs.Lexeme.{Lexeme}
+use Rattle.wast_lexer.specs.Tiling.{Begins, Tiles, ends}
+use Rattle.wast_lexer.specs.Scan.{front, next}
+use Rattle.wast_lexer.proofs.ScanLaws.{sound}
+use Rattle.wast_grammar.specs.Tokens.{is_whole}
+use Rattle.wast_grammar.specs.Significant.{TextToken, AreSignificant, significant}
+use Rattle.wast_grammar.proofs.SignificantLaws.{significant_law}
+use Rattle.wat_verdict.specs.Registered.{registered}
+
+abbrev lexeme : TokenKind → List ℕ → ℕ → Lexeme
+lexeme kind text place = record { kind = kind; text = text; place = place }
+
+-- the tokens that the scan finds, so many at most
+abbrev pub lexemes : ℕ → Bool → ℕ → List ℕ → Option (List Lexeme)
+lexemes n opened from [] = Some []
+lexemes zero opened from (c ∷ s) = None
+lexemes (suc n) opened from (c ∷ s) = elim (next false opened (c ∷ s)) [
+  | Some x ↦ option_map (λ ls. lexeme x.0 (front (c ∷ s) x.1) from ∷ ls) (lexemes n (ends is_open (front (c ∷ s) x.1)) (from + length (front (c ∷ s) x.1)) x.1)
+  | None ↦ None
+]
+
+front_of : (w r : List ℕ) → front (w ++ r) r ≡ w
+front_of w r = let n : length (w ++ r) - length r ≡ length w = omega (arith, length-append w r) in rw n (take-append_seam w r)
+
+some_same : {A : Type 0} (x y : A) → Some x ≡ Some y → x ≡ y
+some_same x y e = cc
+
+mapped : {A B : Type 0} (f : A → B) (o : Option A) (y : B) → option_map f o ≡ Some y → (x : A) × (o ≡ Some x) × (f x ≡ y)
+mapped f None y e = absurd (cc)
+mapped f (Some x) y e = (x, refl, some_same (f x) y e)
+
+tiled : (n : ℕ) (opened : Bool) (from : ℕ) (text : List ℕ) (ls : List Lexeme) → lexemes n opened from text ≡ Some ls → Tiles false opened from text ls
+tiled zero opened from [] ls e = subst (Tiles false opened from []) (some_same [] ls e) refl
+tiled (suc n) opened from [] ls e = subst (Tiles false opened from []) (some_same [] ls e) refl
+tiled zero opened from (c ∷ s) ls e = absurd (cc)
+tiled (suc n) opened from (c ∷ s) ls e = by_case (next false opened (c ∷ s)) refl e (λ o f r more. tiled n o f r more)
+  where
+    by_case : (o : Option (TokenKind × List ℕ)) → next false opened (c ∷ s) ≡ o →
+        (elim o [
+          | Some x ↦ option_map (λ ls. lexeme x.0 (front (c ∷ s) x.1) from ∷ ls) (lexemes n (ends is_open (front (c ∷ s) x.1)) (from + length (front (c ∷ s) x.1)) x.1)
+          | None ↦ None
+        ]) ≡ Some ls → ((o : Bool) (f : ℕ) (r : List ℕ) (more : List Lexeme) → lexemes n o f r ≡ Some more → Tiles false o f r more) → Tiles false opened from (c ∷ s) ls
+    by_case None h e rest = absurd (cc)
+    by_case (Some (k, r)) h e rest =
+        let found = sound false opened (c ∷ s) k r h in
+        let w = front (c ∷ s) r in
+        let is : w ≡ found.0 = ap (λ t. front t r) found.1 ∙ front_of found.0 r in
+        let behind = mapped (λ ls. lexeme k w from ∷ ls) (lexemes n (ends is_open w) (from + length w) r) ls e in
+        subst (Tiles false opened from (c ∷ s)) behind.2 (
+          r,
+          refl,
+          found.1 ∙ ap (λ v. v ++ r) (sym is),
+          subst (λ v. Begins false opened k v r) (sym is) found.2,
+          rest (ends is_open w) (from + length w) r behind.0 behind.1,
+        )
+
+pub text_tokens : (text : List ℕ) (ts : List TextToken) → option_map (significant registered false) (lexemes (length text) false 0 text) ≡ Some ts → is_whole ts ≡ true → AreSignificant false registered text ts
+text_tokens text ts e whole =
+    let found = mapped (significant registered false) (lexemes (length text) false 0 text) ts e in
+    (found.0, tiled (length text) false 0 text found.0 found.1, (significant_law registered found.0 ts).1 (found.2, whole))
