@@ -1,5 +1,5 @@
 -- A hint stands with the place of its instruction.
-use Rattle.std.proofs.Common.{ℕ, zero, suc, ◌≡◌, ◌<◌, ◌+◌, List, [], ◌∷◌, ◌++◌, map, length, take, drop, slice_get, Some, refl, ap, ◌∙◌, subst, append_assoc, flat_map, length-append}
+use Rattle.std.proofs.Common.{ℕ, zero, suc, ◌≡◌, ◌<◌, ◌+◌, List, [], ◌∷◌, ◌++◌, map, length, take, drop, slice_get, Some, refl, sym, ap, ◌∙◌, subst, append_assoc, flat_map, length-append}
 use Rattle.std.proofs.lemmas.List.{map-append}
 use Rattle.std.proofs.Math.Seq.{drop-append-add}
 use Rattle.std.specs.List.{AllByRecursion}
@@ -13,14 +13,16 @@ use Rattle.wasm_encoder_custom.specs.Custom.{custom_body}
 use Rattle.wasm_encoder_custom.specs.BranchHints as binary
 use Rattle.wasm_encoder_custom.specs.BranchHints.{function_hints_bytes, hints_section}
 use Rattle.wasm_encoder_custom.specs.declared.branch_hints.BranchHint.{BranchHint}
-use Rattle.wasm_layout.specs.Section.{Codes}
+use Rattle.wasm_layout.specs.Section.{Hints, Codes}
 use Rattle.wasm_layout.specs.AbstractModule.{AbstractModule, Hint, FunctionHints}
+use Rattle.wasm_layout.specs.Present.{has_any}
 use Rattle.wasm_layout.specs.Layout.{Known, section, piece_bytes, contents_of, function_at, placed, placed_hints}
 use Rattle.wasm_layout.specs.IsModule.{IsHint, AreHints}
 use Rattle.wasm_layout.specs.Laws.{HintStands, bodies_bytes}
 use Rattle.wasm_layout.specs.Lays.{Lays}
 use Rattle.wasm_layout.proofs.HintPlaces as layouts
-use Rattle.wat_laws.specs.HintPlaces.{HasHint, HintPlaces, HintPlaced}
+use Rattle.wat_laws.specs.HintPlaces.{HasHint, SectionStands, ListsHint, BodyStarts, HintPlaces, HintPlaced}
+use Rattle.wat_laws.proofs.SectionPlaces.{before_hints, behind_hints, before_codes, behind_codes, any_around, section_stands}
 
 -- LISTS: an item behind others
 item_behind : {A : Type 0} (xs : List A) (x : A) (ys : List A) → slice_get (xs ++ (x ∷ ys)) (length xs) ≡ Some x
@@ -57,8 +59,11 @@ at_place body k after =
     ∙ ap (drop (length (flat_map instr_bytes (take k body.instructions)))) (append_assoc (flat_map instr_bytes body.instructions) (0x0B ∷ []) after)
     ∙ past_items instr_bytes body.instructions k (0x0B ∷ after)
 
-regrouped : (b h w l n e s y z t : List ℕ) (c : ℕ) → b ++ (h ++ (w ++ ((c ∷ (l ++ (n ++ (e ++ ((s ++ y) ++ z))))) ++ t))) ≡ ((b ++ (h ++ w)) ++ (c ∷ (l ++ (n ++ (e ++ s))))) ++ (y ++ (z ++ t))
-regrouped b h w l n e s y z t c = simp append_assoc
+lead_is : (l n e s y z : List ℕ) (c : ℕ) → (c ∷ (l ++ (n ++ (e ++ s)))) ++ (y ++ z) ≡ c ∷ (l ++ (n ++ (e ++ ((s ++ y) ++ z))))
+lead_is l n e s y z c = simp append_assoc
+
+regrouped : (f l y z t : List ℕ) → f ++ ((l ++ (y ++ z)) ++ t) ≡ (f ++ l) ++ (y ++ (z ++ t))
+regrouped f l y z t = simp append_assoc
 
 module _ (b : List ℕ) (m : AbstractModule (List ℕ)) (f k v : ℕ) (x : Lays b m) (h : HasHint m f k v) where
   abbrev this : Hint
@@ -79,10 +84,14 @@ module _ (b : List ℕ) (m : AbstractModule (List ℕ)) (f k v : ℕ) (x : Lays 
   abbrev body : Body
   body = stands.function.body
 
+  -- THE SECTION OF HINTS
+  hints_stand : SectionStands b m Hints
+  hints_stand = section_stands b m before_hints Hints behind_hints refl (ap has_any h.is ∙ any_around h.before these h.after) x.bytes
+
   abbrev entry : List BranchHint → binary.FunctionHints
   entry hints = record { function_index = f; hints = hints }
 
-  -- what the section of hints lists
+  -- what it lists
   abbrev of_all : FunctionHints → binary.FunctionHints
   of_all g = placed_hints (function_at m) g
 
@@ -95,17 +104,53 @@ module _ (b : List ℕ) (m : AbstractModule (List ℕ)) (f k v : ℕ) (x : Lays 
   abbrev hints_piece : List binary.FunctionHints → List ℕ
   hints_piece all = 0x00 ∷ sized (custom_body (hints_section (listed function_hints_bytes all)))
 
+  lists : ListsHint b m f (place_of body k) v
+  lists = record {
+    stands = hints_stand;
+    others = map of_all h.before;
+    more = map of_all h.after;
+    earlier = map (placed body) h.front;
+    later = map (placed body) h.back;
+    is_section = ap hints_piece (sym listing);
+    in_bytes = append_assoc (uleb (place_of body k)) (0x01 ∷ []) (uleb v) ∙ ap (λ z. uleb (place_of body k) ++ (0x01 ∷ z)) (uleb-last v small);
+  }
+
+  -- THE SECTION OF CODES
+  codes_stand : SectionStands b m Codes
+  codes_stand = section_stands b m before_codes Codes behind_codes refl (ap has_any stands.functions ∙ any_around stands.earlier stands.function stands.later) x.bytes
+
+  abbrev lead : List ℕ
+  lead = 0x0A ∷ (uleb (length (contents_of m Codes)) ++ (uleb (length m.functions) ++ (bodies_bytes stands.earlier ++ uleb (length (body_bytes body)))))
+
+  codes_are : lead ++ (body_bytes body ++ bodies_bytes stands.later) ≡ piece_bytes (Known (section m Codes))
+  codes_are =
+      lead_is (uleb (length (contents_of m Codes))) (uleb (length m.functions)) (bodies_bytes stands.earlier) (uleb (length (body_bytes body))) (body_bytes body) (bodies_bytes stands.later) 0x0A
+      ∙ ap (λ z. 0x0A ∷ (uleb (length (contents_of m Codes)) ++ z)) (sym stands.bodies)
+
   abbrev front : List ℕ
-  front = (stands.before ++ (hints_piece (map of_all m.hints) ++ stands.between)) ++ (0x0A ∷ (uleb (length (contents_of m Codes)) ++ (uleb (length m.functions) ++ (bodies_bytes stands.earlier ++ uleb (length (body_bytes body))))))
+  front = codes_stand.front
 
   abbrev behind : List ℕ
-  behind = bodies_bytes stands.later ++ stands.after
+  behind = bodies_bytes stands.later ++ flat_map piece_bytes codes_stand.after
 
-  body_starts : b ≡ front ++ (body_bytes body ++ behind)
+  body_starts : b ≡ (front ++ lead) ++ (body_bytes body ++ behind)
   body_starts =
-      stands.sections
-      ∙ ap (λ z. stands.before ++ (hints_piece (map of_all m.hints) ++ (stands.between ++ ((0x0A ∷ (uleb (length (contents_of m Codes)) ++ z)) ++ stands.after)))) stands.bodies
-      ∙ regrouped stands.before (hints_piece (map of_all m.hints)) stands.between (uleb (length (contents_of m Codes))) (uleb (length m.functions)) (bodies_bytes stands.earlier) (uleb (length (body_bytes body))) (body_bytes body) (bodies_bytes stands.later) stands.after 0x0A
+      codes_stand.bytes
+      ∙ ap (λ z. front ++ (z ++ flat_map piece_bytes codes_stand.after)) (sym codes_are)
+      ∙ regrouped front lead (body_bytes body) (bodies_bytes stands.later) (flat_map piece_bytes codes_stand.after)
+
+  starts : BodyStarts b m f stands.function (length front + length lead)
+  starts = record {
+    earlier = stands.earlier;
+    later = stands.later;
+    functions = stands.functions;
+    is_numbered = stands.is_numbered;
+    lead = lead;
+    is_lead = refl;
+    is_section = codes_are;
+    stands = codes_stand;
+    is_start = refl;
+  }
 
   placed_hint : HintPlaced b m f k v
   placed_hint =
@@ -114,32 +159,13 @@ module _ (b : List ℕ) (m : AbstractModule (List ℕ)) (f k v : ℕ) (x : Lays 
         function = stands.function;
         instruction = stands.instruction;
         is_instruction = stands.is_instruction;
-        lists = record {
-          before = stands.before;
-          after = stands.between ++ (piece_bytes (Known (section m Codes)) ++ stands.after);
-          others = map of_all h.before;
-          more = map of_all h.after;
-          front = map (placed body) h.front;
-          back = map (placed body) h.back;
-          section = stands.sections ∙ ap (λ z. stands.before ++ (hints_piece z ++ (stands.between ++ (piece_bytes (Known (section m Codes)) ++ stands.after)))) listing;
-          in_bytes = append_assoc (uleb (place_of body k)) (0x01 ∷ []) (uleb v) ∙ ap (λ z. uleb (place_of body k) ++ (0x01 ∷ z)) (uleb-last v small);
-        };
-        start = length front;
-        starts = record {
-          earlier = stands.earlier;
-          later = stands.later;
-          functions = stands.functions;
-          is_numbered = stands.is_numbered;
-          before = stands.before ++ (hints_piece (map of_all m.hints) ++ stands.between);
-          front = front;
-          is_front = refl;
-          is_start = refl;
-          after = stands.after;
-          bytes = body_starts;
-        };
+        lists = lists;
+        start = length front + length lead;
+        starts = starts;
         rest = flat_map instr_bytes from.0 ++ (0x0B ∷ behind);
-        begins = ap (drop (length front + place_of body k)) body_starts
-            ∙ drop-append-add front (body_bytes body ++ behind) (place_of body k)
+        begins = ap (λ n. drop (n + place_of body k) b) (sym (length-append front lead))
+            ∙ ap (drop (length (front ++ lead) + place_of body k)) body_starts
+            ∙ drop-append-add (front ++ lead) (body_bytes body ++ behind) (place_of body k)
             ∙ at_place body k behind
             ∙ ap (λ is. flat_map instr_bytes is ++ (0x0B ∷ behind)) from.1
             ∙ append_assoc (instr_bytes stands.instruction) (flat_map instr_bytes from.0) (0x0B ∷ behind);

@@ -1,6 +1,9 @@
--- Texts by hand, cut into tokens by computation.
-use Rattle.std.proofs.Common.{◌≡◌, ℕ, zero, suc, ◌+◌, ◌-◌, Bool, true, false, List, [], ◌∷◌, ◌++◌, length, Option, Some, None, refl, sym, ◌∙◌, ap, subst, arith, length-append}
-use Rattle.std.specs.Prelude.{option_map}
+-- Texts by hand, cut into tokens by computation, and tokens and trees by hand.
+use Rattle.std.proofs.Common.{◌≡◌, ◌<◌, ◌^◌, ℕ, zero, suc, ◌+◌, ◌-◌, Bool, true, false, List, [], ◌∷◌, ◌++◌, length, Option, Some, None, refl, sym, ◌∙◌, ap, subst, arith, length-append}
+use Rattle.std.specs.Prelude.{option_map, codes}
+use Rattle.std.specs.Str.{is_utf8}
+use Rattle.std.proofs.lemmas.Str.{IsUtf8-from_is_utf8}
+use Prim.Native.String.{String}
 use Rattle.std.proofs.Math.Seq.{take-append_seam}
 use Rattle.wast_lexer.specs.declared.token.TokenKind.{TokenKind}
 use Rattle.wast_lexer.specs.Kinds.{is_open}
@@ -8,10 +11,12 @@ use Rattle.wast_lexer.specs.Lexeme.{Lexeme}
 use Rattle.wast_lexer.specs.Tiling.{Begins, Tiles, ends}
 use Rattle.wast_lexer.specs.Scan.{front, next}
 use Rattle.wast_lexer.proofs.ScanLaws.{sound}
-use Rattle.wast_grammar.specs.Tokens.{is_whole}
+use Rattle.wast_grammar.specs.Tokens.{Name, Id, Word, Integer, is_whole}
 use Rattle.wast_grammar.specs.Significant.{TextToken, AreSignificant, significant}
 use Rattle.wast_grammar.proofs.SignificantLaws.{significant_law}
+use Rattle.wast_fields.specs.FieldTree.{Field, Fields, Module}
 use Rattle.wat_verdict.specs.Registered.{registered}
+use Rattle.wat_laws.specs.Bounds.{WithinBounds}
 
 abbrev lexeme : TokenKind → List ℕ → ℕ → Lexeme
 lexeme kind text place = record { kind = kind; text = text; place = place }
@@ -64,3 +69,21 @@ pub text_tokens : (text : List ℕ) (ts : List TextToken) → option_map (signif
 text_tokens text ts e whole =
     let found = mapped (significant registered false) (lexemes (length text) false 0 text) ts e in
     (found.0, tiled (length text) false 0 text found.0 found.1, (significant_law registered found.0 ts).1 (found.2, whole))
+
+-- TEXTS within bounds
+pub within_bounds : (text other : List ℕ) → length text < 2 ^ 32 → length other < 2 ^ 32 → is_utf8 text ≡ true → is_utf8 other ≡ true → WithinBounds text other
+within_bounds text other short also utf8 too = record { short = (short, also); utf8 = (IsUtf8-from_is_utf8 text utf8, IsUtf8-from_is_utf8 other too) }
+
+-- TOKENS by hand
+abbrev pub id : String → ℕ → TextToken
+id name place = Id (Some (codes name, 0)) place
+
+abbrev pub word : String → ℕ → TextToken
+word w place = Word (codes w) place
+
+abbrev pub integer : ℕ → String → ℕ → TextToken
+integer n w place = Integer (record { minus = false; size = n }) (codes w) place
+
+-- TREES by hand
+abbrev pub of_fields : List (Field Name ℕ) → Module Name ℕ
+of_fields fs = record { place = 1; id = None; given = None; content = Fields fs; refusal = None }

@@ -1,3 +1,4 @@
+pub mod FlatExamples
 pub mod FlatParts
 pub mod FlatTexts
 pub mod Folding
@@ -5,8 +6,12 @@ pub mod HintPlaces
 pub mod LexedTexts
 pub mod PlacedFields
 pub mod PlacedMeaning
+pub mod RenamedExamples
 pub mod Rewrites
+pub mod SameWorth
+pub mod SectionPlaces
 pub mod Standing
+pub mod Unnamed
 pub mod WrittenExamples
 pub mod WrittenFormed
 pub mod WrittenNames

@@ -4,11 +4,9 @@ use Rattle.std.specs.Prelude.{codes, if◌then◌else◌}
 use Rattle.std.proofs.lemmas.Bool.{cases_Bool}
 use std.Equiv.{Iso}
 use Rattle.std.specs.Str.{is_utf8, chars}
-use Rattle.std.proofs.lemmas.Str.{IsUtf8-from_is_utf8}
 use lib.Utf8
 use Rattle.wasm_encoder_base.specs.Table.{table}
-use Prim.Native.String.{String}
-use Rattle.wast_grammar.specs.Tokens.{Name, Open, Close, Id, Word, Integer, Text}
+use Rattle.wast_grammar.specs.Tokens.{Name, Open, Close, Text}
 use Rattle.wast_grammar.specs.Significant.{TextToken}
 use Rattle.wast_grammar.specs.Alike.{move}
 use Rattle.wast_grammar.proofs.GrammarLaws.{all_spelled}
@@ -16,24 +14,15 @@ use Rattle.wast_parser.specs.Identifiers.{ByName}
 use Rattle.wast_mnemonics.specs.TextTable.{text_table}
 use Rattle.wast_exports.specs.Exports as exports
 use Rattle.wast_data.specs.DataTree as values
-use Rattle.wast_fields.specs.FieldTree.{Func, Memory, MemoryOf, ActiveData, Field, Define, ExportField, DataField, Fields, Module}
+use Rattle.wast_fields.specs.FieldTree.{Func, Memory, MemoryOf, ActiveData, Field, Define, ExportField, DataField}
 use Rattle.wast_core.specs.ModuleSyntax.{wat}
 use Rattle.wast_core.proofs.ModuleLaws.{wat_laws}
 use Rattle.wast_meaning.specs.Written.{zero_offset, exactly}
 use Rattle.wat_laws.specs.Written.{Places, WrittenTokens, WrittenTexts}
 use Rattle.wat_laws.specs.WrittenExamples.{WrittenExamples}
-use Rattle.wat_laws.proofs.LexedTexts.{text_tokens}
+use Rattle.wat_laws.proofs.LexedTexts.{text_tokens, within_bounds, id, word, integer, of_fields}
 
 -- TOKENS
-abbrev id : String → ℕ → TextToken
-id name place = Id (Some (codes name, 0)) place
-
-abbrev word : String → ℕ → TextToken
-word w place = Word (codes w) place
-
-abbrev integer : ℕ → String → ℕ → TextToken
-integer n w place = Integer (record { minus = false; size = n }) (codes w) place
-
 abbrev memory_inline : List TextToken
 memory_inline =
     Open 0 ∷ word "module" 1 ∷ Open 8 ∷ word "memory" 9 ∷ id "m" 16 ∷ Open 19 ∷ word "data" 20 ∷ Text (codes "ab") 25 ∷ Close 29 ∷ Close 30 ∷ Close 31 ∷ []
@@ -86,9 +75,6 @@ abbrev no_move : Iso ℕ ℕ
 no_move = record { fun = λ p. p; inv = λ p. p; rinv = λ p. refl; linv = λ p. refl }
 
 -- TREES
-abbrev of_fields : List (Field Name ℕ) → Module Name ℕ
-of_fields fs = record { place = 1; id = None; given = None; content = Fields fs; refusal = None }
-
 abbrev at_places : ℕ → ℕ → ℕ → Places ℕ
 at_places field name reference = record { field = field; item = 0; name = name; reference = reference; heap = 0 }
 
@@ -159,8 +145,6 @@ export = record {
 memory_texts : WrittenTexts (codes "(module (memory $m (data \"ab\")))") (codes "(module (memory $m 1 1) (data (memory $m) (i32.const 0) \"ab\"))")
 unfolding is_utf8 chars lib.Utf8.encode
 memory_texts = record {
-  short = (omega arith, omega arith);
-  utf8 = (IsUtf8-from_is_utf8 _ refl, IsUtf8-from_is_utf8 _ refl);
   tokens = memory_inline;
   others = memory_written;
   significant = (text_tokens _ memory_inline refl refl, text_tokens _ memory_written refl refl);
@@ -170,8 +154,6 @@ memory_texts = record {
 export_texts : WrittenTexts (codes "(module (func (export \"a\")))") (codes "(module (func $f) (export \"a\" (func $f)))")
 unfolding is_utf8 chars lib.Utf8.encode
 export_texts = record {
-  short = (omega arith, omega arith);
-  utf8 = (IsUtf8-from_is_utf8 _ refl, IsUtf8-from_is_utf8 _ refl);
   tokens = export_inline;
   others = export_written;
   significant = (text_tokens _ export_inline refl refl, text_tokens _ export_written refl refl);
@@ -179,4 +161,8 @@ export_texts = record {
 }
 
 pub examples : WrittenExamples
-examples = record { memory = memory_texts; export = export_texts }
+unfolding is_utf8 chars lib.Utf8.encode
+examples = record {
+  memory = (memory_texts, within_bounds _ _ (omega arith) (omega arith) refl refl);
+  export = (export_texts, within_bounds _ _ (omega arith) (omega arith) refl refl);
+}

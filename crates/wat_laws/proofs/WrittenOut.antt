@@ -1,9 +1,8 @@
 -- A text means what one means that spells its fields written out, names aside.
-use Rattle.std.proofs.Common.{◌≡◌, ℕ, Bool, true, false, List, [], ◌∷◌, ◌++◌, map, Option, Some, None, is_some, refl, sym, ◌∙◌, ap, subst}
-use Rattle.std.specs.Prelude.{◌&&◌, not, slice_get, option_map}
+use Rattle.std.proofs.Common.{◌≡◌, ℕ, Bool, true, false, List, [], ◌∷◌, ◌++◌, map, Option, Some, None, refl, sym, ◌∙◌, ap, subst}
+use Rattle.std.specs.Prelude.{◌&&◌, not, slice_get}
 use Rattle.std.specs.List.{flat_map, list_all}
 use std.Equiv.{Iso, iso_to_equiv}
-use std.Path.{fun_ext}
 use Rattle.wast_grammar.specs.Tokens.{Name}
 use Rattle.wast_grammar.specs.Spelling.{same_name}
 use Rattle.wast_grammar.specs.Significant.{TextToken}
@@ -33,13 +32,13 @@ use Rattle.wast_conversions.specs.Covered.{Form}
 use Rattle.wast_meant.specs.Binary.{bytes_of, module_with, in_bytes}
 use Rattle.wast_meant.specs.Covered.{first_form, uncovered}
 use Rattle.wast_meant.specs.Meaning.{meant}
-use Rattle.wast_meant.specs.Means.{is_made, Worth, Stands}
-use Rattle.wast_meant.specs.NamesMeant.{GivenName, Identifier, Bytes, given_name}
+use Rattle.wast_meant.specs.Means.{is_made, Worth, Stands, IsWorth}
+use Rattle.wast_meant.specs.NamesMeant.{GivenName, given_name}
 use Rattle.wast_meant_laws.proofs.Bare.{bare_with, names_apart}
 use Rattle.wat_verdict.specs.Registered.{registered}
 use Rattle.wat_verdict.specs.Spells.{Spells}
 use Rattle.wat_verdict.specs.Naming.{naming, unmet_demand}
-use Rattle.wat_verdict.specs.Verdict.{tree_breach, tree_uncovered, Accepts}
+use Rattle.wat_verdict.specs.Verdict.{tree_breach, tree_uncovered}
 use Rattle.wat_verdict.specs.Alike.{SameBare}
 use Rattle.wat_verdict.proofs.Free.{Known, Kept, free}
 use Rattle.wat_verdict.proofs.Placed.{AreRead, text_read}
@@ -47,31 +46,18 @@ use Rattle.wat_verdict.proofs.Told.{name_shown, content_worth, summary, told, to
 use Rattle.wat_verdict.proofs.Alike.{known_by}
 use Rattle.wat_verdict.proofs.OneSpelling.{one_spelling}
 use Rattle.wat_verdict.proofs.Verdict.{IsSound, worth_in, tree_worth, worth_tree, worth_of}
-use Rattle.wat_laws.specs.Written.{Places, placed, as_they_were, all_placed, WrittenTokens, WrittenTexts, WrittenOut}
+use Rattle.wat_laws.specs.Bounds.{WithinBounds}
+use Rattle.wat_laws.specs.Written.{Places, placed, as_they_were, all_placed, WrittenTokens, WrittenTexts, MeanAlike, WrittenOut}
 use Rattle.wat_laws.proofs.PlacedFields.{by_defined, none_too, demands_same, covered_too, covered_back}
 use Rattle.wat_laws.proofs.PlacedMeaning.{resolved_placed, bare_same}
+use Rattle.wat_laws.proofs.SameWorth.{some_same, none_both, shown, same_worth, sound_same}
 use Rattle.wat_laws.proofs.WrittenFormed.{unformed, written_unformed, placed_unformed, no_breach_formed, formed_no_breach, spelled_fields}
 use Rattle.wat_laws.proofs.WrittenNames.{other_made, Renames, renames, written_so}
 
--- OPTIONS
-mapped_none : {A B : Type 0} (f : A → B) (o : Option A) → option_map f o ≡ None → o ≡ None
-mapped_none f None e = refl
-mapped_none f (Some x) e = absurd (cc)
-
-some_none : {A : Type 0} (o : Option A) → is_some o ≡ false → o ≡ None
-some_none None e = refl
-some_none (Some x) e = absurd (cc)
-
-some_same : {A : Type 0} (x y : A) → Some x ≡ Some y → x ≡ y
-some_same x y e = cc
-
+-- LISTS
 none_first : {A : Type 0} (xs : List A) → slice_get xs 0 ≡ None → xs ≡ []
 none_first [] e = refl
 none_first (x ∷ xs) e = absurd (cc)
-
--- where both map to the same, one is none where the other is
-none_both : {A C B : Type 0} (f : A → B) (g : C → B) (o : Option A) (u : Option C) → option_map f o ≡ option_map g u → u ≡ None → o ≡ None
-none_both f g o u e h = mapped_none f o (e ∙ ap (option_map g) h)
 
 -- FIELDS AT OTHER PLACES in which nothing stands inline
 module _ {N P : Type 0} where
@@ -102,29 +88,6 @@ shown_bare f m = bare_with bytes_of m ∙ sym (bare_with f m)
 
 same_module : (m n : AbstractModule (List ℕ)) → Stands m ≡ Stands n → m ≡ n
 same_module m n e = cc
-
--- WHAT TREES ARE, of which the same is told
-abbrev shown : Known Name
-shown = known_by (λ n. n.0)
-
-shown_bytes : (g : GivenName Name) → name_shown shown g ≡ bytes_of g
-shown_bytes (Identifier n) = refl
-shown_bytes (Bytes bytes) = refl
-
-worth_shown : (name : Option (GivenName Name)) (c : Content Name ℕ) → content_worth shown name c ≡ worth_in name c
-worth_shown name (Fields fs) = ap (λ f. Stands (module_with f (meant same_name is_made name (resolved same_name (naming fs) fs)))) (fun_ext shown_bytes)
-worth_shown name (fields.Pieces pieces) = refl
-
-module _ (t u : Module Name ℕ) (same : summary shown u ≡ summary shown t) where
-  same_worth : tree_worth u ≡ tree_worth t
-  same_worth = sym (worth_shown (given_name is_made u.given u.id) u.content) ∙ ap (λ s. s.worth) same ∙ worth_shown (given_name is_made t.given t.id) t.content
-
-  sound_same : IsSound t → IsSound u
-  sound_same s = record {
-    formed = some_none (tree_breach u) (ap (λ s. s.breached) same ∙ ap is_some s.formed);
-    met = none_both _ _ (unmet_demand u) (unmet_demand t) (ap (λ s. s.complaint) same) s.met;
-    covered = none_both _ _ (tree_uncovered u) (tree_uncovered t) (ap (λ s. s.form) same) s.covered;
-  }
 
 -- the same is told of tokens at other places
 abbrev at_places : Iso ℕ ℕ → List TextToken → List TextToken
@@ -329,29 +292,35 @@ module _ (text other : List ℕ) (x : WrittenTexts text other) where
       let u = spelled_told shown x.others (summary shown y.out) (sym (told_moved y.moving x.others) ∙ told_spelled shown (at_places y.moving x.others) y.out y.out_spelled) in
       record { tree = u.0; spells = record { tokens = x.others; significant = x.significant.1; spelled = u.1 }; same = u.2 }
 
-  forth : (w : Worth) → Accepts text w → (v : Worth) × Accepts other v × SameBare w v
+  forth : (w : Worth) → IsWorth Spells text w → (v : Worth) × IsWorth Spells other v × SameBare w v
   forth w a =
-      let t = worth_tree text w a.worth in
+      let t = worth_tree text w a in
       let u = counterpart in
       let same = one_spelling text t.tree x.written.tree t.spelled spelled in
       let sound = sound_forth x.tokens x.others read x.written (subst IsSound same t.sound) in
       let worth = sym (same_worth x.written.out u.tree u.same) in (
         tree_worth u.tree,
-        record { short = x.short.1; utf8 = x.utf8.1; worth = worth_of other u.tree u.spells (sound_same x.written.out u.tree u.same sound) },
+        worth_of other u.tree u.spells (sound_same x.written.out u.tree u.same sound),
         subst (λ v. SameBare v (tree_worth u.tree)) (sym (t.is ∙ ap tree_worth same)) (subst (SameBare (tree_worth x.written.tree)) worth (worth_forth x.tokens x.others read x.written)),
       )
 
-  back_too : (w : Worth) → Accepts other w → (v : Worth) × Accepts text v × SameBare w v
+  back_too : (w : Worth) → IsWorth Spells other w → (v : Worth) × IsWorth Spells text v × SameBare w v
   back_too w a =
-      let t = worth_tree other w a.worth in
+      let t = worth_tree other w a in
       let u = counterpart in
       let same = one_spelling other t.tree u.tree t.spelled u.spells in
       let sound = sound_back x.tokens x.others read x.written (sound_same u.tree x.written.out (sym u.same) (subst IsSound same t.sound)) in
       let worth = t.is ∙ ap tree_worth same ∙ same_worth x.written.out u.tree u.same in (
         tree_worth x.written.tree,
-        record { short = x.short.0; utf8 = x.utf8.0; worth = worth_of text x.written.tree spelled sound },
+        worth_of text x.written.tree spelled sound,
         subst (λ v. SameBare v (tree_worth x.written.tree)) (sym worth) (worth_back x.tokens x.others read x.written),
       )
 
+  accepted : WithinBounds text other → MeanAlike text other
+  accepted bounds = record {
+    forth = λ w a. (let v = forth w a.worth in (v.0, record { short = bounds.short.1; utf8 = bounds.utf8.1; worth = v.1 }, v.2));
+    back = λ w a. (let v = back_too w a.worth in (v.0, record { short = bounds.short.0; utf8 = bounds.utf8.0; worth = v.1 }, v.2));
+  }
+
 pub written_out_alike : WrittenOut
-written_out_alike text other x = record { forth = forth text other x; back = back_too text other x }
+written_out_alike text other x = record { forth = forth text other x; back = back_too text other x; accepted = accepted text other x }

@@ -1,19 +1,19 @@
 -- Folding: a text, and the same with bodies of functions written flat.
-use Rattle.std.specs.Prelude.{ℕ, ◌≡◌, ◌<◌, ◌^◌, false, List, [], length}
-use Rattle.std.specs.Str.{IsUtf8}
+use Rattle.std.specs.Prelude.{ℕ, ◌≡◌, ◌↔◌, false, List, []}
 use Rattle.wast_grammar.specs.Tokens.{Name}
 use Rattle.wast_grammar.specs.Significant.{TextToken, AreSignificant}
 use Rattle.wast_grammar.specs.Alike.{Alike, Same, names}
 use Rattle.wast_fields.specs.FieldTree.{Expr, Module}
 use Rattle.wast_fields.specs.DefinitionSyntax.{expr}
+use Rattle.wast_meant.specs.Means.{Worth, IsWorth}
 use Rattle.wat_verdict.specs.Registered.{registered}
+use Rattle.wat_verdict.specs.Spells.{Spells}
 use Rattle.wat_verdict.specs.Alike.{Agree}
+use Rattle.wat_laws.specs.Bounds.{WithinBounds}
 use Rattle.wat_laws.specs.Flat.{IsFlat, wat}
 
 -- Two texts that lex: one spells a tree, and the other has its tokens, but that bodies of functions are written flat, wherever they stand.
 pub record Flattened (text other : List ℕ) : Type 0 where
-  pub short : (length text < 2 ^ 32) × (length other < 2 ^ 32)
-  pub utf8 : IsUtf8 text × IsUtf8 other
   pub tree : Module Name ℕ
   pub tokens : List TextToken
   pub flat : List TextToken
@@ -23,9 +23,14 @@ pub record Flattened (text other : List ℕ) : Type 0 where
   pub alike : Alike flat others
   pub same : Same (names flat others)
 
--- They fail the same condition, places aside, or mean the same and get the same binary.
+-- They are worth the same: they mean one module, or nothing. Within bounds they fail the same condition, places aside, or get the same
+-- binary.
+pub record WorthSame (text other : List ℕ) : Type 0 where
+  pub worth : (w : Worth) → IsWorth Spells text w ↔ IsWorth Spells other w
+  pub agree : WithinBounds text other → Agree text other
+
 abbrev pub Folding : Type 0
-Folding = (text other : List ℕ) → Flattened text other → Agree text other
+Folding = (text other : List ℕ) → Flattened text other → WorthSame text other
 
 -- Each body without hints can be written flat.
 abbrev pub EachFlat : Type 0

@@ -1,6 +1,10 @@
+pub mod Bounds
 pub mod Flat
+pub mod FlatExamples
 pub mod HintExamples
 pub mod HintPlaces
 pub mod Laws
+pub mod RenamedExamples
+pub mod Unnamed
 pub mod Written
 pub mod WrittenExamples

@@ -1,6 +1,5 @@
 -- Texts of which one spells the fields of the other written out: without inline parts (WebAssembly 3.0, 6.6.4 to 6.6.9, abbreviations).
-use Rattle.std.specs.Prelude.{ℕ, ◌≡◌, ◌<◌, ◌^◌, true, false, List, map, length, None, option_map}
-use Rattle.std.specs.Str.{IsUtf8}
+use Rattle.std.specs.Prelude.{ℕ, ◌≡◌, true, false, List, map, None, option_map}
 use std.Equiv.{Iso}
 use Rattle.wast_grammar.specs.Tokens.{Name}
 use Rattle.wast_grammar.specs.Spelling.{same_name}
@@ -13,10 +12,12 @@ use Rattle.wast_fields.specs.FieldTree.{Defined, Table, Memory, ElemMode, Passiv
 use Rattle.wast_core.specs.ModuleSyntax.{wat}
 use Rattle.wast_meaning.specs.Written.{written_out}
 use Rattle.wast_meaning.specs.Fresh.{taken_from, are_new, is_fresh}
-use Rattle.wast_meant.specs.Means.{Worth}
+use Rattle.wast_meant.specs.Means.{Worth, IsWorth}
 use Rattle.wat_verdict.specs.Registered.{registered}
+use Rattle.wat_verdict.specs.Spells.{Spells}
 use Rattle.wat_verdict.specs.Verdict.{Accepts}
 use Rattle.wat_verdict.specs.Alike.{SameBare}
+use Rattle.wat_laws.specs.Bounds.{WithinBounds}
 
 -- PLACES. What a field is written out as stands where the field stands, all of it; in a text each part has a place of its own.
 pub record Places (P : Type 0) : Type 0 where
@@ -112,8 +113,6 @@ pub record WrittenTokens (tokens others : List TextToken) : Type 0 where
 
 -- TEXTS that lex, with such significant tokens
 pub record WrittenTexts (text other : List ℕ) : Type 0 where
-  pub short : (length text < 2 ^ 32) × (length other < 2 ^ 32)
-  pub utf8 : IsUtf8 text × IsUtf8 other
   pub tokens : List TextToken
   pub others : List TextToken
   pub significant : AreSignificant false registered text tokens × AreSignificant false registered other others
@@ -124,5 +123,11 @@ pub record MeanAlike (text other : List ℕ) : Type 0 where
   pub forth : (w : Worth) → Accepts text w → (v : Worth) × Accepts other v × SameBare w v
   pub back : (w : Worth) → Accepts other w → (v : Worth) × Accepts text v × SameBare w v
 
+-- Both mean a module or none does, and the modules are the same without their names. Within bounds it is so of what is accepted.
+pub record WorthAlike (text other : List ℕ) : Type 0 where
+  pub forth : (w : Worth) → IsWorth Spells text w → (v : Worth) × IsWorth Spells other v × SameBare w v
+  pub back : (w : Worth) → IsWorth Spells other w → (v : Worth) × IsWorth Spells text v × SameBare w v
+  pub accepted : WithinBounds text other → MeanAlike text other
+
 abbrev pub WrittenOut : Type 0
-WrittenOut = (text other : List ℕ) → WrittenTexts text other → MeanAlike text other
+WrittenOut = (text other : List ℕ) → WrittenTexts text other → WorthAlike text other
