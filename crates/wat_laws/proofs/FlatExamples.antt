@@ -250,7 +250,7 @@ arms_texts = record {
   others = others;
   significant = (text_tokens _ (text_of body_ts) refl refl, text_tokens _ others refl refl);
   rewritten = rewritten;
-  alike = (tt, refl, tt, refl, refl, (refl, refl), refl, refl, refl, refl, refl, tt, tt, tt);
+  alike = (tt, (refl, (tt, (refl, (refl, ((refl, refl), (refl, (refl, (refl, (refl, (refl, (tt, (tt, tt)))))))))))));
   same = tt;
 }
 

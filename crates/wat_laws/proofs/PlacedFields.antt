@@ -13,8 +13,9 @@ use Rattle.wast_names.specs.Space as names
 use Rattle.wast_names.specs.Space.{name_in, denoted, last_counts}
 use Rattle.wast_value_types.specs.ValueTree.{HeapType, Abstract, Concrete, Exact, TableType}
 use Rattle.wast_core_types.specs.TypeTree.{Sig}
-use Rattle.wast_imports.specs.ImportTree.{ImportItems, Single, Group1, Group2}
-use Rattle.wast_fields.specs.FieldTree.{Defined, Imported, Func, Table, TableOf, Memory, MemoryOf, Global, Tag, Elements, ElemMode, PassiveElem, DeclaredElem, ActiveElem, DataMode, PassiveData, ActiveData, Field, TypeField, RecField, ImportField, Define, ExportField, StartField, ElemField, DataField, CustomField, field_place}
+use Rattle.wast_exports.specs.Exports as exports
+use Rattle.wast_imports.specs.ImportTree.{Imports, ImportItems, Single, Group1, Group2}
+use Rattle.wast_fields.specs.FieldTree.{Defined, Imported, Func, Table, TableOf, Memory, MemoryOf, Global, Tag, Definition, Elem, Data, Elements, ElemMode, PassiveElem, DeclaredElem, ActiveElem, DataMode, PassiveData, ActiveData, Field, TypeField, RecField, ImportField, Define, ExportField, StartField, ElemField, DataField, CustomField, field_place}
 use Rattle.wast_meaning.specs.Written.{space_of_kind, kind_of_type, kind_of}
 use Rattle.wast_meaning.specs.Mentions.{Part, Says, Refers, part_mentions, says, heap_mentions, import_mentions, elem_mode_parts, data_mode_parts, elements_parts}
 use Rattle.wast_meaning.specs.Spaces.{Bound, same_space, space_word, bound_segment, items, items_in, ids_in, fields_at, denotes, listed}
@@ -76,7 +77,21 @@ module _ {N P : Type 0} where
   by_defined k p h (Global t init) = refl
   by_defined k p h (Tag u) = refl
 
-  -- each field
+  -- EACH FIELD: imports, definitions, exports and segments alone have other places in them
+  pub by_field : {A : Type 0} (k : Field N P → A) (w : Places P)
+      → ((i : Imports N P) → k (placed w (ImportField i)) ≡ k (ImportField i)) → ((d : Definition N P) → k (placed w (Define d)) ≡ k (Define d))
+      → ((e : exports.Export N P) → k (placed w (ExportField e)) ≡ k (ExportField e)) → ((e : Elem N P) → k (placed w (ElemField e)) ≡ k (ElemField e))
+      → ((d : Data N P) → k (placed w (DataField d)) ≡ k (DataField d)) → (f : Field N P) → k (placed w f) ≡ k f
+  by_field k w imported defined exported elements datas (TypeField t) = refl
+  by_field k w imported defined exported elements datas (RecField r) = refl
+  by_field k w imported defined exported elements datas (ImportField i) = imported i
+  by_field k w imported defined exported elements datas (Define d) = defined d
+  by_field k w imported defined exported elements datas (ExportField e) = exported e
+  by_field k w imported defined exported elements datas (StartField s) = refl
+  by_field k w imported defined exported elements datas (ElemField e) = elements e
+  by_field k w imported defined exported elements datas (DataField d) = datas d
+  by_field k w imported defined exported elements datas (CustomField c) = refl
+
   pub same_each : {A : Type 0} (h : Field N P → List A) → ((w : Places P) (f : Field N P) → h (placed w f) ≡ h f) → (xs : List (Places P × Field N P)) → flat_map h (all_placed xs) ≡ flat_map h (as_they_were xs)
   same_each h same [] = refl
   same_each h same (x ∷ xs) = two (λ a b. a ++ b) (same x.0 x.1) (same_each h same xs)
@@ -88,15 +103,7 @@ module _ {N P : Type 0} where
 
   -- TYPES and uses of them
   types_at : (w : Places P) (f : Field N P) → written_types (placed w f) ≡ written_types f
-  types_at w (TypeField t) = refl
-  types_at w (RecField r) = refl
-  types_at w (ImportField i) = refl
-  types_at w (Define d) = refl
-  types_at w (ExportField e) = refl
-  types_at w (StartField s) = refl
-  types_at w (ElemField e) = refl
-  types_at w (DataField d) = refl
-  types_at w (CustomField c) = refl
+  types_at w f = by_field written_types w (λ i. refl) (λ d. refl) (λ e. refl) (λ e. refl) (λ d. refl) f
 
   abbrev uses_of : P → List (Part N P) → List (P × Sig N P)
   uses_of p xs = map (λ s. (p, s)) (flat_map sig_of_mention (flat_map part_mentions xs))
@@ -130,15 +137,13 @@ module _ {N P : Type 0} where
   define_uses w p id given es (Tag u) = refl
 
   uses_at : (w : Places P) (f : Field N P) → used_sigs (placed w f) ≡ used_sigs f
-  uses_at w (TypeField t) = refl
-  uses_at w (RecField r) = refl
-  uses_at w (ImportField i) = ap (λ ms. uses_of i.place (says ms)) (import_at w i.items)
-  uses_at w (Define d) = define_uses w d.place d.id d.given d.exports d.defined
-  uses_at w (ExportField e) = refl
-  uses_at w (StartField s) = refl
-  uses_at w (ElemField e) = elem_uses e.place w.reference e.mode e.elements
-  uses_at w (DataField d) = data_uses d.place w.reference d.mode
-  uses_at w (CustomField c) = refl
+  uses_at w f =
+      by_field used_sigs w
+      (λ i. ap (λ ms. uses_of i.place (says ms)) (import_at w i.items))
+      (λ d. define_uses w d.place d.id d.given d.exports d.defined)
+      (λ e. refl)
+      (λ e. elem_uses e.place w.reference e.mode e.elements)
+      (λ d. data_uses d.place w.reference d.mode) f
 
   -- ITEMS, by space, name and the names of fields
   abbrev pub unplaced : Bound N P → Unplaced N P
@@ -163,17 +168,15 @@ module _ {N P : Type 0} where
   import_items w place from (Group2 names i) = refl
 
   items_same : (w : Places P) (f : Field N P) → map unplaced (items (placed w f)) ≡ map unplaced (items f)
-  items_same w (TypeField t) = refl
-  items_same w (RecField r) = refl
-  items_same w (ImportField i) = import_items w i.place i.from i.items
-  items_same w (Define d) =
-      ap (λ k. item_of (space_of_kind k) (bound_segment (defined_at w.heap d.defined)) (name_in (option_map (named_at w.name) d.id))) (kind_at w.heap d.defined)
-      ∙ two (λ bs n. item_of (space_of_kind (kind_of d.defined)) bs n) (segment_at w.heap d.defined) (name_at w.name d.id)
-  items_same w (ExportField e) = refl
-  items_same w (StartField s) = refl
-  items_same w (ElemField e) = refl
-  items_same w (DataField d) = refl
-  items_same w (CustomField c) = refl
+  items_same w f =
+      by_field (λ x. map unplaced (items x)) w
+      (λ i. import_items w i.place i.from i.items)
+      (λ d. ap (λ k. item_of (space_of_kind k) (bound_segment (defined_at w.heap d.defined)) (name_in (option_map (named_at w.name) d.id))) (kind_at w.heap d.defined)
+      ∙ two (λ bs n. item_of (space_of_kind (kind_of d.defined)) bs n) (segment_at w.heap d.defined) (name_at w.name d.id))
+      (λ e. refl)
+      (λ e. refl)
+      (λ d. refl)
+      f
 
   pub bounds_same : (xs : List (Places P × Field N P)) → map unplaced (flat_map items (all_placed xs)) ≡ map unplaced (flat_map items (as_they_were xs))
   bounds_same [] = refl
@@ -305,26 +308,10 @@ module _ {N P : Type 0} where
   define_order w before p id given es (Tag u) = refl
 
   order_at : (w : Places P) (before : Option Space) (f : Field N P) → order_demand before (placed w f) ≡ order_demand before f
-  order_at w before (TypeField t) = refl
-  order_at w before (RecField r) = refl
-  order_at w before (ImportField i) = refl
-  order_at w before (Define d) = define_order w before d.place d.id d.given d.exports d.defined
-  order_at w before (ExportField e) = refl
-  order_at w before (StartField s) = refl
-  order_at w before (ElemField e) = refl
-  order_at w before (DataField d) = refl
-  order_at w before (CustomField c) = refl
+  order_at w before f = by_field (order_demand before) w (λ i. refl) (λ d. define_order w before d.place d.id d.given d.exports d.defined) (λ e. refl) (λ e. refl) (λ d. refl) f
 
   nearest_at : (w : Places P) (before : Option Space) (f : Field N P) → nearest before (placed w f) ≡ nearest before f
-  nearest_at w before (TypeField t) = refl
-  nearest_at w before (RecField r) = refl
-  nearest_at w before (ImportField i) = refl
-  nearest_at w before (Define d) = by_defined (λ x. nearest before (Define (record d { defined = x }))) w.heap (λ t. refl) d.defined
-  nearest_at w before (ExportField e) = refl
-  nearest_at w before (StartField s) = refl
-  nearest_at w before (ElemField e) = refl
-  nearest_at w before (DataField d) = refl
-  nearest_at w before (CustomField c) = refl
+  nearest_at w before f = by_field (nearest before) w (λ i. refl) (λ d. by_defined (λ x. nearest before (Define (record d { defined = x }))) w.heap (λ t. refl) d.defined) (λ e. refl) (λ e. refl) (λ d. refl) f
 
   orders_same : (before : Option Space) (xs : List (Places P × Field N P)) → walked order_demand nearest before (all_placed xs) ≡ walked order_demand nearest before (as_they_were xs)
   orders_same before [] = refl
@@ -397,15 +384,13 @@ module _ {N P : Type 0} where
       data_said p (ActiveData (Some (ByName id)) offset) = refl
 
       field_said : (w : Places P) (f : Field N P) → map unplaced_demand (field_demands eq s (placed w f)) ≡ map unplaced_demand (field_demands eq s f)
-      field_said w (TypeField t) = refl
-      field_said w (RecField r) = refl
-      field_said w (ImportField i) = ap (λ ms. of_parts (says ms)) (import_at w i.items)
-      field_said w (Define d) = by_defined (λ x. map unplaced_demand (field_demands eq s (Define (record d { defined = x })))) w.heap (λ t. heap_said w.heap t.element.heap_type) d.defined
-      field_said w (ExportField e) = index_said (space_of_kind e.kind) w.reference e.item
-      field_said w (StartField x) = refl
-      field_said w (ElemField e) = elem_said w.reference e.mode e.elements
-      field_said w (DataField d) = data_said w.reference d.mode
-      field_said w (CustomField c) = refl
+      field_said w f =
+          by_field (λ x. map unplaced_demand (field_demands eq s x)) w
+          (λ i. ap (λ ms. of_parts (says ms)) (import_at w i.items))
+          (λ d. by_defined (λ x. map unplaced_demand (field_demands eq s (Define (record d { defined = x })))) w.heap (λ t. heap_said w.heap t.element.heap_type) d.defined)
+          (λ e. index_said (space_of_kind e.kind) w.reference e.item)
+          (λ e. elem_said w.reference e.mode e.elements)
+          (λ d. data_said w.reference d.mode) f
 
       fields_said : (xs : List (Places P × Field N P)) → map unplaced_demand (flat_map (field_demands eq s) (all_placed xs)) ≡ map unplaced_demand (flat_map (field_demands eq s) (as_they_were xs))
       fields_said [] = refl
@@ -452,15 +437,13 @@ module _ {N P : Type 0} where
   data_formed p (ActiveData memory offset) = refl
 
   forms_at : (w : Places P) (f : Field N P) → field_forms (placed w f) ≡ field_forms f
-  forms_at w (TypeField t) = refl
-  forms_at w (RecField r) = refl
-  forms_at w (ImportField i) = import_formed w i.items
-  forms_at w (Define d) = by_defined defined_forms w.heap (λ t. ap (λ l. (form_if t.shared (codes "shared type") ++ l) ++ []) (heap_formed w.heap t.element.heap_type)) d.defined
-  forms_at w (ExportField e) = refl
-  forms_at w (StartField s) = refl
-  forms_at w (ElemField e) = ap (λ l. l ++ elements_forms e.elements) (elem_formed w.reference e.mode)
-  forms_at w (DataField d) = ap (λ l. l ++ flat_map data_forms d.values) (data_formed w.reference d.mode)
-  forms_at w (CustomField c) = refl
+  forms_at w f =
+      by_field field_forms w
+      (λ i. import_formed w i.items)
+      (λ d. by_defined defined_forms w.heap (λ t. ap (λ l. (form_if t.shared (codes "shared type") ++ l) ++ []) (heap_formed w.heap t.element.heap_type)) d.defined)
+      (λ e. refl)
+      (λ e. ap (λ l. l ++ elements_forms e.elements) (elem_formed w.reference e.mode))
+      (λ d. ap (λ l. l ++ flat_map data_forms d.values) (data_formed w.reference d.mode)) f
 
   forms_same : (xs : List (Places P × Field N P)) → form_alone (first_form (all_placed xs)) ≡ form_alone (first_form (as_they_were xs))
   forms_same [] = refl

@@ -30,7 +30,7 @@ use Rattle.wast_meant.specs.CustomsMeant.{customs_in, at_place, gaps_from, stops
 use Rattle.wast_meant.specs.Meaning.{without_customs, meant}
 use Rattle.wast_meant_laws.proofs.Bare.{there_with, bare_so}
 use Rattle.wat_laws.specs.Written.{Places, named_at, referred_at, heap_at, table_at, items_at, elem_mode_at, data_mode_at, placed, as_they_were, all_placed}
-use Rattle.wat_laws.proofs.PlacedFields.{by_defined, same_each, placed_spaces, implied_same, taken_same, scope_same}
+use Rattle.wat_laws.proofs.PlacedFields.{by_defined, by_field, same_each, placed_spaces, implied_same, taken_same, scope_same}
 
 -- OTHER INDICES, by the place of the field: the index at another place becomes the same at that place
 module _ {N P : Type 0} (cs : P → Changes N P) (moves : (p q : P) (s : Space) (r : P) (i : Reference N P) → (cs p).outside.index s (referred_at r i) ≡ referred_at r ((cs q).outside.index s i)) where
@@ -207,15 +207,7 @@ module _ {N P : Type 0} where
       ap (λ h. segments.WithoutInit (record { element_type = record { nullable = t.element.nullable; heap_type = h }; limits = limits_meant t.limits t.shared None }) ∷ []) (heap_same p t.element.heap_type)
 
   types_same : (w : Places P) (f : Field N P) → types_of (placed w f) ≡ types_of f
-  types_same w (TypeField t) = refl
-  types_same w (RecField r) = refl
-  types_same w (ImportField i) = refl
-  types_same w (Define d) = refl
-  types_same w (ExportField e) = refl
-  types_same w (StartField s) = refl
-  types_same w (ElemField e) = refl
-  types_same w (DataField d) = refl
-  types_same w (CustomField c) = refl
+  types_same w f = by_field types_of w (λ i. refl) (λ d. refl) (λ e. refl) (λ e. refl) (λ d. refl) f
 
   import_same : (w : Places P) (from : List ℕ) (is : ImportItems N P) → import_of from (items_at w is) ≡ import_of from is
   import_same w from (Single name i) = refl
@@ -223,15 +215,7 @@ module _ {N P : Type 0} where
   import_same w from (Group2 names i) = refl
 
   imports_same : (w : Places P) (f : Field N P) → imports_of (placed w f) ≡ imports_of f
-  imports_same w (TypeField t) = refl
-  imports_same w (RecField r) = refl
-  imports_same w (ImportField i) = ap (λ x. x ∷ []) (import_same w i.from i.items)
-  imports_same w (Define d) = refl
-  imports_same w (ExportField e) = refl
-  imports_same w (StartField s) = refl
-  imports_same w (ElemField e) = refl
-  imports_same w (DataField d) = refl
-  imports_same w (CustomField c) = refl
+  imports_same w f = by_field imports_of w (λ i. ap (λ x. x ∷ []) (import_same w i.from i.items)) (λ d. refl) (λ e. refl) (λ e. refl) (λ d. refl) f
 
   export_same : (place p : P) (name : List ℕ) (kind : exports.ExportKind) (r : P) (i : Reference N P) →
       exports_of (ExportField (record { place = place; name = name; kind = kind; item = referred_at r i })) ≡ exports_of (ExportField (record { place = p; name = name; kind = kind; item = i }))
@@ -239,26 +223,10 @@ module _ {N P : Type 0} where
   export_same place p name kind r (ByName id) = refl
 
   exports_same : (w : Places P) (f : Field N P) → exports_of (placed w f) ≡ exports_of f
-  exports_same w (TypeField t) = refl
-  exports_same w (RecField r) = refl
-  exports_same w (ImportField i) = refl
-  exports_same w (Define d) = refl
-  exports_same w (ExportField e) = export_same w.field e.place e.name e.kind w.reference e.item
-  exports_same w (StartField s) = refl
-  exports_same w (ElemField e) = refl
-  exports_same w (DataField d) = refl
-  exports_same w (CustomField c) = refl
+  exports_same w f = by_field exports_of w (λ i. refl) (λ d. refl) (λ e. export_same w.field e.place e.name e.kind w.reference e.item) (λ e. refl) (λ d. refl) f
 
   starts_same : (w : Places P) (f : Field N P) → starts_of (placed w f) ≡ starts_of f
-  starts_same w (TypeField t) = refl
-  starts_same w (RecField r) = refl
-  starts_same w (ImportField i) = refl
-  starts_same w (Define d) = refl
-  starts_same w (ExportField e) = refl
-  starts_same w (StartField s) = refl
-  starts_same w (ElemField e) = refl
-  starts_same w (DataField d) = refl
-  starts_same w (CustomField c) = refl
+  starts_same w f = by_field starts_of w (λ i. refl) (λ d. refl) (λ e. refl) (λ e. refl) (λ d. refl) f
 
   element_same : (r : P) (m : ElemMode N P) (es : Elements N P) → element_of (elem_mode_at r m) es ≡ element_of m es
   element_same r PassiveElem es = refl
@@ -270,15 +238,7 @@ module _ {N P : Type 0} where
   element_same r (ActiveElem (Some (ByName id)) offset) (Expressions t es) = refl
 
   elements_same : (w : Places P) (f : Field N P) → elements_of (placed w f) ≡ elements_of f
-  elements_same w (TypeField t) = refl
-  elements_same w (RecField r) = refl
-  elements_same w (ImportField i) = refl
-  elements_same w (Define d) = refl
-  elements_same w (ExportField e) = refl
-  elements_same w (StartField s) = refl
-  elements_same w (ElemField e) = ap (λ x. x ∷ []) (element_same w.reference e.mode e.elements)
-  elements_same w (DataField d) = refl
-  elements_same w (CustomField c) = refl
+  elements_same w f = by_field elements_of w (λ i. refl) (λ d. refl) (λ e. refl) (λ e. ap (λ x. x ∷ []) (element_same w.reference e.mode e.elements)) (λ d. refl) f
 
   data_same : (r : P) (m : DataMode N P) (bytes : List ℕ) → data_of (data_mode_at r m) bytes ≡ data_of m bytes
   data_same r PassiveData bytes = refl
@@ -287,15 +247,7 @@ module _ {N P : Type 0} where
   data_same r (ActiveData (Some (ByName id)) offset) bytes = refl
 
   datas_same : (w : Places P) (f : Field N P) → datas_of (placed w f) ≡ datas_of f
-  datas_same w (TypeField t) = refl
-  datas_same w (RecField r) = refl
-  datas_same w (ImportField i) = refl
-  datas_same w (Define d) = refl
-  datas_same w (ExportField e) = refl
-  datas_same w (StartField s) = refl
-  datas_same w (ElemField e) = refl
-  datas_same w (DataField d) = ap (λ x. x ∷ []) (data_same w.reference d.mode (values_of d.values))
-  datas_same w (CustomField c) = refl
+  datas_same w f = by_field datas_of w (λ i. refl) (λ d. refl) (λ e. refl) (λ e. refl) (λ d. ap (λ x. x ∷ []) (data_same w.reference d.mode (values_of d.values))) f
 
   import_bodies : (w : Places P) (is : ImportItems N P) → imported (items_at w is) ≡ imported is
   import_bodies w (Single name i) = refl
@@ -303,26 +255,10 @@ module _ {N P : Type 0} where
   import_bodies w (Group2 names i) = refl
 
   bodies_same : (w : Places P) (f : Field N P) → bodies_in (placed w f) ≡ bodies_in f
-  bodies_same w (TypeField t) = refl
-  bodies_same w (RecField r) = refl
-  bodies_same w (ImportField i) = ap (flat_map imported_function) (import_bodies w i.items)
-  bodies_same w (Define d) = by_defined defined_function w.heap (λ t. refl) d.defined
-  bodies_same w (ExportField e) = refl
-  bodies_same w (StartField s) = refl
-  bodies_same w (ElemField e) = refl
-  bodies_same w (DataField d) = refl
-  bodies_same w (CustomField c) = refl
+  bodies_same w f = by_field bodies_in w (λ i. ap (flat_map imported_function) (import_bodies w i.items)) (λ d. by_defined defined_function w.heap (λ t. refl) d.defined) (λ e. refl) (λ e. refl) (λ d. refl) f
 
   customs_same : (w : Places P) (f : Field N P) → customs_in (placed w f) ≡ customs_in f
-  customs_same w (TypeField t) = refl
-  customs_same w (RecField r) = refl
-  customs_same w (ImportField i) = refl
-  customs_same w (Define d) = refl
-  customs_same w (ExportField e) = refl
-  customs_same w (StartField s) = refl
-  customs_same w (ElemField e) = refl
-  customs_same w (DataField d) = refl
-  customs_same w (CustomField c) = refl
+  customs_same w f = by_field customs_in w (λ i. refl) (λ d. refl) (λ e. refl) (λ e. refl) (λ d. refl) f
 
   module _ (eq : N → N → Bool) (is_made : N → Bool) (name : Option (GivenName N)) where
     -- without names and custom sections

@@ -28,7 +28,7 @@ renamed = record {
   short = (omega arith, omega arith);
   utf8 = (IsUtf8-from_is_utf8 _ refl, IsUtf8-from_is_utf8 _ refl);
   significant = (text_tokens _ (exported "f" "f") refl refl, text_tokens _ (exported "g" "g") refl refl);
-  alike = (tt, refl, tt, refl, tt, tt, tt, refl, refl, tt, refl, tt, tt, tt, tt, tt);
+  alike = (tt, (refl, (tt, (refl, (tt, (tt, (tt, (refl, (refl, (tt, (refl, (tt, (tt, (tt, (tt, tt)))))))))))))));
 }
 
 parted : AlikeTexts (codes "(module (func $f) (export \"a\" (func $f)))") (codes "(module (func $f) (export \"a\" (func $g)))") (exported "f" "f") (exported "f" "g")
@@ -37,7 +37,7 @@ parted = record {
   short = (omega arith, omega arith);
   utf8 = (IsUtf8-from_is_utf8 _ refl, IsUtf8-from_is_utf8 _ refl);
   significant = (text_tokens _ (exported "f" "f") refl refl, text_tokens _ (exported "f" "g") refl refl);
-  alike = (tt, refl, tt, refl, tt, tt, tt, refl, refl, tt, refl, tt, tt, tt, tt, tt);
+  alike = (tt, (refl, (tt, (refl, (tt, (tt, (tt, (refl, (refl, (tt, (refl, (tt, (tt, (tt, (tt, tt)))))))))))))));
 }
 
 merged : AlikeTexts (codes "(module (func $f) (func $g))") (codes "(module (func $f) (func $f))") (two "f" "g") (two "f" "f")
@@ -46,7 +46,7 @@ merged = record {
   short = (omega arith, omega arith);
   utf8 = (IsUtf8-from_is_utf8 _ refl, IsUtf8-from_is_utf8 _ refl);
   significant = (text_tokens _ (two "f" "g") refl refl, text_tokens _ (two "f" "f") refl refl);
-  alike = (tt, refl, tt, refl, tt, tt, tt, refl, tt, tt, tt, tt);
+  alike = (tt, (refl, (tt, (refl, (tt, (tt, (tt, (refl, (tt, (tt, (tt, tt)))))))))));
 }
 
 -- names that differ
@@ -59,7 +59,7 @@ differ e = let same = ap first_byte e in omega (arith, same)
 
 pub examples : RenamedExamples
 examples = record {
-  renamed = record { tokens = _; others = _; alike = renamed; holds = (((λ e. refl, λ e. refl), tt), tt, tt) };
+  renamed = record { tokens = _; others = _; alike = renamed; holds = (((λ e. refl, λ e. refl), tt), (tt, tt)) };
   merged = record { tokens = _; others = _; alike = merged; holds = λ m. differ (m.0.0.1 refl) };
   parted = record { tokens = _; others = _; alike = parted; holds = λ m. differ (m.0.0.0 refl) };
 }

@@ -25,7 +25,7 @@ use Rattle.wast_meaning.specs.WellFormed.{part_formed, page_formed, pages_formed
 use Rattle.wast_meaning.proofs.Settled.{left, right, two, front, back}
 use Rattle.wast_resolve_laws.proofs.Outlined.{OwnQuiet, parts_out}
 use Rattle.wat_laws.specs.Written.{Places, heap_at, elem_mode_at, data_mode_at, placed, as_they_were, all_placed}
-use Rattle.wat_laws.proofs.PlacedFields.{by_defined, same_each, import_at}
+use Rattle.wat_laws.proofs.PlacedFields.{by_defined, by_field, same_each, import_at}
 
 nil_front : {A : Type 0} (xs ys : List A) → xs ++ ys ≡ [] → xs ≡ []
 nil_front [] ys e = refl
@@ -99,15 +99,13 @@ module _ {N P : Type 0} where
   data_marked p (ActiveData (Some i) offset) = refl
 
   field_marked : (w : Places P) (f : Field N P) → flat_map marked (parts (placed w f)) ≡ flat_map marked (parts f)
-  field_marked w (TypeField t) = refl
-  field_marked w (RecField r) = refl
-  field_marked w (ImportField i) = ap (λ ms. flat_map marked (says ms)) (import_at w i.items)
-  field_marked w (Define d) = by_defined (λ x. flat_map marked (defined_parts x)) w.heap (λ t. heap_marked (heap_at w.heap t.element.heap_type) ∙ sym (heap_marked t.element.heap_type)) d.defined
-  field_marked w (ExportField e) = refl
-  field_marked w (StartField s) = refl
-  field_marked w (ElemField e) = elem_marked w.reference e.mode e.elements
-  field_marked w (DataField d) = data_marked w.reference d.mode
-  field_marked w (CustomField c) = refl
+  field_marked w f =
+      by_field (λ x. flat_map marked (parts x)) w
+      (λ i. ap (λ ms. flat_map marked (says ms)) (import_at w i.items))
+      (λ d. by_defined (λ x. flat_map marked (defined_parts x)) w.heap (λ t. heap_marked (heap_at w.heap t.element.heap_type) ∙ sym (heap_marked t.element.heap_type)) d.defined)
+      (λ e. refl)
+      (λ e. elem_marked w.reference e.mode e.elements)
+      (λ d. data_marked w.reference d.mode) f
 
   pub placed_unformed : (xs : List (Places P × Field N P)) → unformed (all_placed xs) ≡ unformed (as_they_were xs)
   placed_unformed xs = same_each (λ f. flat_map marked (parts f)) field_marked xs

@@ -48,7 +48,7 @@ use Rattle.wat_verdict.proofs.OneSpelling.{one_spelling}
 use Rattle.wat_verdict.proofs.Verdict.{IsSound, worth_in, tree_worth, worth_tree, worth_of}
 use Rattle.wat_laws.specs.Bounds.{WithinBounds}
 use Rattle.wat_laws.specs.Written.{Places, placed, as_they_were, all_placed, WrittenTokens, WrittenTexts, MeanAlike, WrittenOut}
-use Rattle.wat_laws.proofs.PlacedFields.{by_defined, none_too, demands_same, covered_too, covered_back}
+use Rattle.wat_laws.proofs.PlacedFields.{by_defined, by_field, none_too, demands_same, covered_too, covered_back}
 use Rattle.wat_laws.proofs.PlacedMeaning.{resolved_placed, bare_same}
 use Rattle.wat_laws.proofs.SameWorth.{some_same, none_both, shown, same_worth, sound_same}
 use Rattle.wat_laws.proofs.WrittenFormed.{unformed, written_unformed, placed_unformed, no_breach_formed, formed_no_breach, spelled_fields}
@@ -62,15 +62,8 @@ none_first (x ∷ xs) e = absurd (cc)
 -- FIELDS AT OTHER PLACES in which nothing stands inline
 module _ {N P : Type 0} where
   plain_at : (w : Places P) (f : Field N P) → is_plain (placed w f) ≡ is_plain f
-  plain_at w (TypeField t) = refl
-  plain_at w (RecField r) = refl
-  plain_at w (ImportField i) = refl
-  plain_at w (Define d) = ap (λ b. not (has_any d.exports) && b) (by_defined stands_alone w.heap (λ t. refl) d.defined)
-  plain_at w (ExportField e) = refl
-  plain_at w (StartField s) = refl
-  plain_at w (ElemField e) = refl
-  plain_at w (DataField d) = refl
-  plain_at w (CustomField c) = refl
+  plain_at w f =
+      by_field is_plain w (λ i. refl) (λ d. ap (λ b. not (has_any d.exports) && b) (by_defined stands_alone w.heap (λ t. refl) d.defined)) (λ e. refl) (λ e. refl) (λ d. refl) f
 
   all_plain : (xs : List (Places P × Field N P)) → list_all is_plain (all_placed xs) ≡ list_all is_plain (as_they_were xs)
   all_plain [] = refl

@@ -1,5 +1,5 @@
 -- Texts by hand whose identifiers differ: by a renaming, and by none.
-use Rattle.std.specs.Prelude.{List, codes}
+use Rattle.std.specs.Prelude.{ℕ, List, codes}
 use Rattle.wast_grammar.specs.Significant.{TextToken}
 use Rattle.wast_grammar.specs.Alike.{Matched, names}
 use Rattle.wat_verdict.specs.Alike.{AlikeTexts}
