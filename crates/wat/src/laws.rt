@@ -6,7 +6,10 @@ ghost use Rattle.wat.specs.Laws.{OneTree};
 
 pub use wasm_encoder::laws::one_section;
 pub use wasm_layout::laws::{one_binary, one_reading};
-pub use wat_laws::laws::{flat_examples, folding, hint_example, hint_places, renamed_examples, without_names, written_examples, written_out};
+pub use wat_laws::laws::{
+    flat_examples, folding, hint_example, hint_places, renamed_examples, without_names,
+    written_examples, written_out,
+};
 pub use wat_verdict::laws::{equal_binaries, one_meaning, one_verdict, renaming, tokens_decide};
 
 /// The bytes that a string stands for are those that the definition of tokens reads.

@@ -10,6 +10,7 @@ use Rattle.wasm_encoder_base.specs.Uncovered.{uncovered}
 use Rattle.wast_grammar.specs.Tokens.{Name, Open, Close}
 use Rattle.wast_grammar.specs.Significant.{TextToken}
 use Rattle.wast_grammar.specs.Look.{at}
+use Rattle.wast_grammar.specs.Twins as twins
 use Rattle.wast_grammar.specs.Grammar as grammar
 use Rattle.wast_grammar.specs.Grammar.{Syntax, wide, paren, led, seq}
 use Rattle.wast_grammar.specs.Recursion.{deep}
@@ -26,12 +27,13 @@ use Rattle.wast_core_instr.proofs.InstructionLaws.{instruction_laws}
 use Rattle.wast_expressions.specs.Items.{Items, Done, Plain, Folded, IfElse, unfolded}
 use Rattle.wast_expressions.specs.Expressions.{Heads, OfArms, Inside, Operand, Arms, Group, Alone, Grouped, group_tests, items_over, inside, group_step, items}
 use Rattle.wast_expressions.specs.Laws.{kept, kept_heads, kept_made, WrittenFlat}
+use Rattle.wast_exports.specs.Exports.{inline_export}
 use Rattle.wast_imports.specs.ImportSyntax.{head}
 use Rattle.wast_fields.specs.FieldTree.{Expr, Function, Func, Definition, Define, Fields}
 use Rattle.wast_fields.specs.DefinitionSyntax.{expr}
 use Rattle.wast_fields.specs.FuncSyntax as plain
 use Rattle.wast_fields.proofs.ExpressionLaws.{expr_laws}
-use Rattle.wat_laws.specs.Flat.{IsFlat, function, func, content, wat}
+use Rattle.wat_laws.specs.Flat.{unchanged, IsFlat, function, func, content, wat}
 use Rattle.wat_laws.specs.Laws.{Flattened}
 use Rattle.wat_laws.specs.FlatExamples.{FlatExamples}
 use Rattle.wat_laws.proofs.LexedTexts.{text_tokens, within_bounds, word, integer, of_fields}
@@ -159,11 +161,8 @@ else_spelled =
     (word "else" 44 ∷ trap_ts, 43, 60, refl, (word "else" 44 ∷ [], trap_ts, refl, (word "else" 44, refl, refl), row))
 
 arms_spelled : (inside K kh (groups_of 1) OfArms).spells arms (condition_ts ++ then_ts ++ else_ts)
-arms_spelled = (
-  (condition ∷ [], (None, (alone (nop_i, nop_ts), Some (44, alone (trap_i, trap_ts))))),
-  refl,
-  (condition_ts, then_ts ++ else_ts, refl, (condition_ts, [], refl, condition_spelled, refl), ([], then_ts ++ else_ts, refl, refl, (then_ts, else_ts, refl, then_spelled, else_spelled))),
-)
+arms_spelled =
+    ((condition ∷ [], (None, (alone (nop_i, nop_ts), Some (44, alone (trap_i, trap_ts))))), refl, (condition_ts, then_ts ++ else_ts, refl, (condition_ts, [], refl, condition_spelled, refl), ([], then_ts ++ else_ts, refl, refl, (then_ts, else_ts, refl, then_spelled, else_spelled))))
 
 group_spelled : (groups_of 2).spells group body_ts
 unfolding table uleb leb digits
@@ -180,14 +179,7 @@ abbrev made_ts : List TextToken
 made_ts = word "else" 44 ∷ trap_ts ++ word "end" 61 ∷ []
 
 flat : WrittenFlat (unfolded (kept_made instruction_made) parts) flat_ts
-flat = (
-  [], if_ts ++ nop_ts ++ made_ts, refl, refl,
-  ([], nop_ts ++ made_ts, refl, refl,
-  ([], made_ts, refl, refl,
-  ([], trap_ts ++ word "end" 61 ∷ [], refl, refl,
-  ([], word "end" 61 ∷ [], refl, refl,
-  ([], [], refl, refl, refl))))),
-)
+flat = ([], if_ts ++ nop_ts ++ made_ts, refl, refl, ([], nop_ts ++ made_ts, refl, refl, ([], made_ts, refl, refl, ([], trap_ts ++ word "end" 61 ∷ [], refl, refl, ([], word "end" 61 ∷ [], refl, refl, ([], [], refl, refl, refl))))))
 
 body_flat : IsFlat body body_ts flat_ts
 body_flat = record { folded = folded; no_hints = refl; parts = parts; spelled = items_spelled; unfolds = refl; flat = flat }
@@ -214,32 +206,26 @@ locals_spelled = ([], refl, refl)
 function_flat : function own body_ts flat_ts
 function_flat = ((no_use, ([], body)), refl, ([], body_ts, [], flat_ts, refl, refl, (use_spelled, refl), ([], body_ts, [], flat_ts, refl, refl, (locals_spelled, refl), body_flat)))
 
+func_parts : twins.next (unchanged head.spells) (λ _. twins.next (unchanged inline_export.spells) (λ _. twins.seen Func function)) ((None, None), ([], Func own)) body_ts flat_ts
+func_parts = ([], body_ts, [], flat_ts, refl, refl, (head_spelled, refl), ([], body_ts, [], flat_ts, refl, refl, (refl, refl), (own, refl, function_flat)))
+
 func_flat : func definition (func_of body_ts) (func_of flat_ts)
-func_flat = (
-  word "func" 9 ∷ body_ts,
-  word "func" 9 ∷ flat_ts,
-  8,
-  62,
-  refl,
-  refl,
-  ((9, ((None, None), ([], Func own))), refl, (word "func" 9 ∷ [], body_ts, word "func" 9 ∷ [], flat_ts, refl, refl, (word "func" 9, refl, refl, refl),
-  ([], body_ts, [], flat_ts, refl, refl, (head_spelled, refl), ([], body_ts, [], flat_ts, refl, refl, (refl, refl), (own, refl, function_flat))))),
-)
+func_flat =
+    let keyword = word "func" 9 in
+    (keyword ∷ body_ts, keyword ∷ flat_ts, 8, 62, refl, refl, ((9, ((None, None), ([], Func own))), refl, (keyword ∷ [], body_ts, keyword ∷ [], flat_ts, refl, refl, (keyword, refl, refl, refl), func_parts)))
 
 content_flat : content (Fields (Define definition ∷ [])) (func_of body_ts) (func_of flat_ts)
 content_flat = (Define definition ∷ [], refl, (refl, (func_of body_ts, [], func_of flat_ts, [], refl, refl, inl (definition, refl, func_flat), (refl, refl))))
 
+module_parts : twins.next (unchanged head.spells) (λ _. content) ((None, None), Fields (Define definition ∷ [])) (func_of body_ts) (func_of flat_ts)
+module_parts = ([], func_of body_ts, [], func_of flat_ts, refl, refl, (head_spelled, refl), content_flat)
+
 rewritten : wat (of_fields (Define definition ∷ [])) (text_of body_ts) (text_of flat_ts)
-rewritten = inl (
-  word "module" 1 ∷ func_of body_ts,
-  word "module" 1 ∷ func_of flat_ts,
-  0,
-  63,
-  refl,
-  refl,
-  ((1, ((None, None), Fields (Define definition ∷ []))), refl, (word "module" 1 ∷ [], func_of body_ts, word "module" 1 ∷ [], func_of flat_ts, refl, refl, (word "module" 1, refl, refl, refl),
-  ([], func_of body_ts, [], func_of flat_ts, refl, refl, (head_spelled, refl), content_flat))),
-)
+rewritten =
+    let keyword = word "module" 1 in
+    let one = func_of body_ts in
+    let two = func_of flat_ts in
+    inl (keyword ∷ one, keyword ∷ two, 0, 63, refl, refl, ((1, ((None, None), Fields (Define definition ∷ []))), refl, (keyword ∷ [], one, keyword ∷ [], two, refl, refl, (keyword, refl, refl, refl), module_parts)))
 
 arms_texts : Flattened (codes "(module (func (if (local.get 0) (then nop) (else unreachable))))") (codes "(module (func local.get 0 if nop else unreachable end))")
 unfolding is_utf8 chars lib.Utf8.encode
