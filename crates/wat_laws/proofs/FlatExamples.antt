@@ -144,7 +144,7 @@ abbrev groups_of : ℕ → Syntax Name ℕ (Group ℕ Kept)
 groups_of n = wide (group_tests kh) false [] (deep (group_tests kh) false [] (group_step K kh) n)
 
 -- an instruction by itself
-alone_spelled : (i : Kept) (ts : List TextToken) → K.spells i ts → at (kh.own i) [] ≡ false → (items_over K kh (groups_of 1)).spells (alone i) (ts ++ [])
+alone_spelled : (i : Kept) (ts : List TextToken) → K.spells i ts → at {N = Name} {P = ℕ} (kh.own i) [] ≡ false → (items_over K kh (groups_of 1)).spells (alone i) (ts ++ [])
 alone_spelled i ts s own = ((None, Alone i) ∷ [], refl, (ts, [], refl, (refl, ([], ts, refl, refl, inl (i, refl, s))), refl, own))
 
 condition_spelled : (groups_of 1).spells condition condition_ts
