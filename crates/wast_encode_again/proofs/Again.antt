@@ -12,7 +12,7 @@ use Rattle.wast_fields.specs.FieldTree.{Field, Content, Fields, Pieces, Module}
 use Rattle.wast_core.specs.ModuleViews.{field_tree, content_tree}
 use Rattle.wast_core.specs.declared.module.ModuleKind.{ModuleKind}
 use Rattle.wast_core.specs.declared.module.ModuleKind.TheVariants as contents
-use Rattle.wast_meaning.specs.Made.{made}
+use Rattle.wast_meaning.specs.Made.{made, is_made}
 use Rattle.wast_meaning.specs.Modules.{content_fields}
 use Rattle.wast_meaning.specs.WellFormed.{breaches}
 use Rattle.wast_meaning.specs.Written.{by_counter}
@@ -23,7 +23,6 @@ use Rattle.wasm_layout.specs.Present.{is_called, is_present}
 use Rattle.wast_meant.specs.Binary.{in_bytes}
 use Rattle.wast_meant.specs.CustomsMeant.{custom_of, customs_in}
 use Rattle.wast_meant.specs.Meaning.{without_customs, meant}
-use Rattle.wast_meant.specs.Means.{is_made}
 use Rattle.wast_meant.specs.NamesMeant.{GivenName, given_name}
 use Rattle.wast_meant.specs.Plain.{ArePlain}
 use Rattle.wast_meant_laws.proofs.AtStops.{in_one_gap}

@@ -9,7 +9,7 @@ use Rattle.wast_core.specs.ModuleViews.{module_tree}
 use Rattle.wast_core.specs.declared.module.Module as code
 use Rattle.wast_meaning.specs.Modules.{module_breaches}
 use Rattle.wasm_layout.specs.AbstractModule.{AbstractModule}
-use Rattle.wast_meant.specs.Means.{is_made}
+use Rattle.wast_meaning.specs.Made.{is_made}
 use Rattle.wast_resolve.specs.Whole.{module_by, module_demands_by}
 use Rattle.wast_encode.specs.Encoded.{form_in, StandsFor, IsBinaryOf, Deserves}
 use Rattle.wast_encode.specs.declared.fault.EncodeFault.{EncodeFault}
