@@ -27,7 +27,7 @@ pub record IsAnsweredAs (counter : ℕ) (t : Module Name ℕ) (other : ℕ) (u :
   -- deserves the same faults,
   pub fault : (fault : EncodeFault) → Deserves counter t fault ↔ Deserves other u fault
   -- and has the same binary, and no other: where the tree has one, want of memory is the only fault.
-  pub binary : (bytes : List ℕ) → IsBinaryOf counter t t.content bytes → IsBinaryOf other u u.content bytes
+  pub binary : (bytes : List ℕ) → IsBinaryOf counter t t.content bytes ↔ IsBinaryOf other u u.content bytes
   pub same : (first second : List ℕ) → IsBinaryOf counter t t.content first → IsBinaryOf other u u.content second → first ≡ second
   pub no_fault : (bytes : List ℕ) (fault : EncodeFault) → IsBinaryOf counter t t.content bytes → Deserves other u fault → fault ≡ faults.Memory
 
