@@ -9,7 +9,8 @@ use Rattle.wast_meaning.specs.Demands.{field_demands}
 use Rattle.wast_meaning.specs.Mentions.{parts}
 use Rattle.wast_meaning.specs.Scope.{Scope}
 use Rattle.wast_meaning.specs.WellFormed.{field_formed, part_formed, pages_formed}
-use Rattle.wast_bound.specs.Bound.{is_made, are_kept}
+use Rattle.wast_meaning.specs.Made.{is_made}
+use Rattle.wast_bound.specs.Bound.{are_kept}
 
 grouped : (a b c d : Bool) → (a && b && c && d) ≡ ((a && b && c) && d)
 grouped true true true d = refl

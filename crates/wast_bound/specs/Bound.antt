@@ -13,11 +13,8 @@ use Rattle.wast_fields.specs.FieldTree.{Field, TypeField, RecField}
 use Rattle.wast_parser.specs.Identifiers.{Reference}
 use Rattle.wast_meaning.specs.Spaces.{Bound, same_space, fields_of, items}
 use Rattle.wast_meaning.specs.Scope.{scope_of, members}
+use Rattle.wast_meaning.specs.Made.{is_made}
 use Rattle.wast_meaning.specs.WellFormed.{is_bound, are_bound}
-
--- a name is made up where its generation isn't that of names that are read
-abbrev pub is_made : Name → Bool
-is_made n = not (nat_eq n.1 0)
 
 -- a demand is met, unless it is of another kind or of a name that is read
 abbrev pub is_kept : Demand Name ℕ → Bool

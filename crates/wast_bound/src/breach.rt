@@ -6,7 +6,7 @@ ghost use Rattle.wast_names.specs.Walk.{walked};
 ghost use Rattle.wast_core.specs.ModuleViews.{content_tree, field_tree, module_tree};
 ghost use Rattle.wast_meaning.specs.Modules.{content_fields, module_breaches};
 ghost use Rattle.wast_meaning.specs.WellFormed as spec;
-ghost use Rattle.wast_bound.specs.Bound.{is_made};
+ghost use Rattle.wast_meaning.specs.Made.{is_made};
 
 use crate::known::Known;
 use crate::outside::{Holds, Outside};

@@ -4,7 +4,7 @@ ghost use Rattle.std.specs.List.{flat_map, list_any};
 ghost use Rattle.wast_grammar.specs.Spelling.{same_name};
 ghost use Rattle.wast_parser.specs.Identifiers.{identifier_tree};
 ghost use Rattle.wast_core_types.specs.TypeViews.{item_tree};
-ghost use Rattle.wast_imports.specs.ImportViews.{extern_tree, items_tree, member_tree};
+ghost use Rattle.wast_imports.specs.ImportViews.{items_tree, member_tree};
 ghost use Rattle.wast_imports.specs.ImportViews.{item_tree as imported_tree};
 ghost use Rattle.wast_core.specs.ModuleViews.{content_tree, field_tree};
 ghost use Rattle.wast_names.specs.Position.{bears};
@@ -12,13 +12,10 @@ ghost use Rattle.wast_names.specs.Space.{name_in};
 ghost use Rattle.wast_meaning.specs.Modules.{content_fields};
 ghost use Rattle.wast_meaning.specs.Spaces.{bound_import, bound_imports, bound_type, items, same_space};
 ghost use Rattle.wast_meaning.specs.Views.{space_view};
-ghost use Rattle.wast_meaning.specs.Written.{kind_of_type, space_of_kind};
 ghost use Rattle.wast_bound.specs.Bound.{joins};
 
 use crate::made::is_borne;
-use wast_core::{
-    ImportGroup1Item, ImportItems, ItemKind, ItemSig, ModuleField, ModuleKind, TypeItem,
-};
+use wast_core::{ImportGroup1Item, ImportItems, ItemSig, ModuleField, ModuleKind, TypeItem};
 use wast_meaning::Space;
 use wast_parser::Id;
 
@@ -106,7 +103,7 @@ fn are_members_named(members: &[ImportGroup1Item<'_>], space: Space, id: &Id<'_>
 fn is_import_named(sig: &ItemSig<'_>, space: Space, id: &Id<'_>) -> bool
     ensures { result ≡ joins (space_view space) (identifier_tree id.now).0 (bound_import (imported_tree sig.now)) }
 {
-    is_named(space, space_of(&sig.kind), &sig.id, id)
+    is_named(space, Space::of_import(&sig.kind), &sig.id, id)
 }
 
 /// Whether an item of a space, with this identifier or with none, is of a space and bears a name.
@@ -114,17 +111,4 @@ fn is_named(space: Space, own_space: Space, own: &Option<Id<'_>>, id: &Id<'_>) -
     ensures { result ≡ (same_space (space_view space) (space_view own_space) && bears same_name (identifier_tree id.now).0 (name_in (option_map identifier_tree own.now))) }
 {
     space == own_space && is_borne(own, id)
-}
-
-/// The index space of what is imported.
-fn space_of(kind: &ItemKind<'_>) -> Space
-    ensures { space_view result ≡ space_of_kind (kind_of_type (extern_tree kind.now)) }
-{
-    match kind {
-        ItemKind::Func(_) | ItemKind::FuncExact(_) => Space::Functions,
-        ItemKind::Table(_) => Space::Tables,
-        ItemKind::Memory(_) => Space::Memories,
-        ItemKind::Global(_) => Space::Globals,
-        ItemKind::Tag(_) => Space::Tags,
-    }
 }

@@ -4,7 +4,7 @@ ghost use Rattle.wast_grammar.specs.Spelling.{same_name};
 ghost use Rattle.wast_parser.specs.Identifiers.{identifier_tree};
 ghost use Rattle.wast_names.specs.Position.{bears};
 ghost use Rattle.wast_names.specs.Space.{name_in};
-ghost use Rattle.wast_bound.specs.Bound.{is_made};
+ghost use Rattle.wast_meaning.specs.Made.{is_made};
 
 use wast_parser::Id;
 

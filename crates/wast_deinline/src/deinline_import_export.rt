@@ -25,7 +25,7 @@ use wast_parser::{Gensym, Id, Index, Span};
 /// proportion to what the fields hold, and for each export to the length of its field's name.
 ///
 /// Each field takes one name at most, and there is room for these. Refused for want of memory, and where the data of a memory are 2^64
-/// bytes or more, which no memory holds; names may then have been made.
+/// bytes or more, which no memory holds; names may then have been made, and no more than these fields take.
 pub fn run<'a>(
     alloc: Global,
     fields: Vec<ModuleField<'a>>,
@@ -35,6 +35,7 @@ pub fn run<'a>(
     ensures written { IfOk result (λ out. let trees = map field_tree fields.entry.items in map field_tree out.items ≡ written_out (by_counter made gensym.old trees) trees) }
     ensures counted { OnOk result (gensym.new ≡ gensym.old + count_by takes_name (map field_tree fields.entry.items)) }
     ensures rises { gensym.old ≤ gensym.new }
+    ensures bounded { gensym.new ≤ gensym.old + count_by takes_name (map field_tree fields.entry.items) }
 {
     let mut out = Vec::new(alloc);
     for field in fields {
@@ -53,6 +54,7 @@ pub fn run_in_place<'a>(
     ensures written { OnOk result (map field_tree fields.new.items ≡ written_out (by_counter made gensym.old (map field_tree fields.old.items)) (map field_tree fields.old.items)) }
     ensures counted { OnOk result (gensym.new ≡ gensym.old + count_by takes_name (map field_tree fields.old.items)) }
     ensures rises { gensym.old ≤ gensym.new }
+    ensures bounded { gensym.new ≤ gensym.old + count_by takes_name (map field_tree fields.old.items) }
 {
     let taken = std::mem::replace(fields, Vec::new(alloc));
     match run(alloc, taken, gensym) {

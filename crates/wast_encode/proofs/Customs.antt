@@ -20,7 +20,7 @@ use Rattle.wast_meant.specs.Meaning.{without_customs}
 use Rattle.wast_meant_laws.proofs.AtStops.{in_one_gap}
 use Rattle.wast_meant_laws.proofs.Gaps.{called_same}
 use Rattle.wast_meant.specs.NamesMeant.{given_name}
-use Rattle.wast_meant.specs.Means.{is_made}
+use Rattle.wast_meaning.specs.Made.{is_made}
 use Rattle.wast_encode.specs.Parts.{module_of}
 
 module _ {N P : Type 0} where

@@ -16,19 +16,18 @@ use Rattle.wast_fields.specs.FieldTree.{Field, Content, Fields, Pieces, Module}
 use Rattle.wast_core.specs.ModuleViews.{field_tree, content_tree}
 use Rattle.wast_core.specs.declared.module.ModuleKind.{ModuleKind}
 use Rattle.wast_core.specs.declared.module.ModuleKind.TheVariants as contents
-use Rattle.wast_meaning.specs.Made.{made}
+use Rattle.wast_meaning.specs.Made.{made, is_made}
 use Rattle.wast_meaning.specs.Modules.{content_fields}
 use Rattle.wast_meaning.specs.WellFormed.{breaches}
 use Rattle.wast_meaning.specs.Written.{by_counter}
 use Rattle.wasm_layout.specs.AbstractModule.{AbstractModule}
 use Rattle.wasm_layout.specs.Lays.{Fits, Lays, Reads}
 use Rattle.wast_meant.specs.Meaning.{meant}
-use Rattle.wast_meant.specs.Means.{is_made}
 use Rattle.wast_meant.specs.NamesMeant.{given_name}
 use Rattle.wast_meant.specs.Plain.{IsPlain}
-use Rattle.wast_resolve.specs.Whole.{resolved_by, content_by, module_by, module_demands_by, IsRefused}
+use Rattle.wast_resolve.specs.Whole.{counter_after, resolved_by, content_by, module_by, module_demands_by, IsRefused}
 use Rattle.wast_encode.specs.Can.{CanEncode}
-use Rattle.wast_encode.specs.Encoded.{form_in, StandsFor, IsBinaryOf, Deserves, LeavesFor, IsRefusedFor}
+use Rattle.wast_encode.specs.Encoded.{form_in, StandsFor, IsBinaryOf, Deserves, LeavesFor, CountsFor, IsRefusedFor}
 use Rattle.wast_encode.specs.Faults.{as_fault}
 use Rattle.wast_encode.specs.Parts.{module_of}
 use Rattle.wast_encode.specs.Resolved.{ContentReady, IsToldBy, IsUnlaid, IsUnresolved, IsContentEncoded, IsContentUnencoded, IsEncoded, IsUnencoded}
@@ -90,11 +89,24 @@ module _ (counter : ℕ) (before after : Module Name ℕ) where
   unresolved_deserves faults.TooLarge none u = absurd u
   unresolved_deserves (faults.Uncovered span form) none u = absurd u
 
-  pub unresolved_leaves : (fault : EncodeFault) → IsUnresolved counter before after fault → LeavesFor counter before after fault
-  unresolved_leaves (faults.Unmet error) u = u.1
-  unresolved_leaves faults.Memory u = inr u
-  unresolved_leaves faults.TooLarge u = absurd u
-  unresolved_leaves (faults.Uncovered span form) u = absurd u
+  pub unresolved_leaves : (fault : EncodeFault) → before.refusal ≡ None → IsUnresolved counter before after fault → LeavesFor counter before after fault
+  unresolved_leaves (faults.Unmet error) none u = u.1
+  unresolved_leaves faults.Memory none u = inr (u.0, u.1.0, u.1.1 none)
+  unresolved_leaves faults.TooLarge none u = absurd u
+  unresolved_leaves (faults.Uncovered span form) none u = absurd u
+
+  -- how far the counter comes
+  pub unresolved_counts : (fault : EncodeFault) (n : ℕ) → IsUnresolved counter before after fault → CountsFor counter before n fault
+  unresolved_counts (faults.Unmet error) n u = tt
+  unresolved_counts faults.Memory n u = tt
+  unresolved_counts faults.TooLarge n u = absurd u
+  unresolved_counts (faults.Uncovered span form) n u = absurd u
+
+  pub resolved_counts : (fault : EncodeFault) (n : ℕ) → n ≡ counter_after counter (content_fields before.content) → CountsFor counter before n fault
+  resolved_counts (faults.Unmet error) n is = tt
+  resolved_counts faults.Memory n is = tt
+  resolved_counts faults.TooLarge n is = is
+  resolved_counts (faults.Uncovered span form) n is = is
 
   -- refused after it was resolved
   pub resolved_leaves : after ≡ module_by counter before → (fault : EncodeFault) → ((error : Problem) → fault ≡ faults.Unmet error → ⊥) → LeavesFor counter before after fault
@@ -112,7 +124,7 @@ module _ (counter : ℕ) (before after : Module Name ℕ) where
   one_reason error reason why was kept keeps (inr e) other = absurd (false≢true (sym other ∙ ap (λ (p : Problem). is_memory p.cause) e))
 
   pub refused_again : (why : Problem) (fault : EncodeFault) → before.refusal ≡ Some why → after ≡ before → IsUnresolved counter before after fault → IsRefusedFor why fault
-  refused_again why (faults.Unmet error) was kept u = one_reason error u.1.why why was kept u.1.kept u.1.told u.2
+  refused_again why (faults.Unmet error) was kept u = (one_reason error u.1.why why was kept u.1.kept u.1.told u.2, u.2)
   refused_again why faults.Memory was kept u = tt
   refused_again why faults.TooLarge was kept u = absurd u
   refused_again why (faults.Uncovered span form) was kept u = absurd u
@@ -124,16 +136,17 @@ told_unmet ds why (inl m) other = absurd (false≢true (sym other ∙ ap (λ (p 
 
 -- an error of resolving, as a fault
 pub unresolved : (counter : ℕ) (before after : Module Name ℕ) (why : Problem) (fault : EncodeFault) → IsToldBy why fault
-    → (before.refusal ≡ None → Refuses (module_demands_by counter before) why) → IsRefused after why → IsUnresolved counter before after fault
-unresolved counter before after why (faults.Unmet error) t refuses refused =
+    → (before.refusal ≡ None → Refuses (module_demands_by counter before) why) → IsRefused after why
+    → (before.refusal ≡ None → (reason : Problem) → after.refusal ≡ Some reason → Refuses (module_demands_by counter before) reason) → IsUnresolved counter before after fault
+unresolved counter before after why (faults.Unmet error) t refuses refused cause =
     let ds = module_demands_by counter before in (
       (λ none. subst (Tells (first_unmet is_met ds)) (sym t.0) (told_unmet ds why (refuses none) t.1)),
       subst (IsRefused after) (sym t.0) refused,
       ap (λ (p : Problem). is_memory p.cause) t.0 ∙ t.1,
     )
-unresolved counter before after why faults.Memory t refuses refused = (refused.why, refused.kept)
-unresolved counter before after why faults.TooLarge t refuses refused = absurd t
-unresolved counter before after why (faults.Uncovered span form) t refuses refused = absurd t
+unresolved counter before after why faults.Memory t refuses refused cause = (refused.why, refused.kept, λ none. cause none refused.why refused.kept)
+unresolved counter before after why faults.TooLarge t refuses refused cause = absurd t
+unresolved counter before after why (faults.Uncovered span form) t refuses refused cause = absurd t
 
 -- no demand is told of a module that is resolved
 pub not_unmet : (t : Module Name ℕ) (fault : EncodeFault) → IsUnencoded t fault → (error : Problem) → fault ≡ faults.Unmet error → ⊥

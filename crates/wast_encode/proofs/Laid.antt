@@ -17,7 +17,7 @@ use Rattle.wast_meant.specs.CustomsMeant.{Stop, At, stops}
 use Rattle.wast_meant.specs.NamesMeant.{GivenName, given_name}
 use Rattle.wast_meant.specs.Meaning.{meant}
 use Rattle.wast_meant.specs.Binary.{bytes_of}
-use Rattle.wast_meant.specs.Means.{is_made}
+use Rattle.wast_meaning.specs.Made.{is_made}
 use Rattle.wast_meant.proofs.Renamed.{same_sections, renamed}
 use Rattle.wast_meant_laws.proofs.AtStops.{laid_out, gap_count}
 use Rattle.wast_encode_laws.proofs.Hints.{hint_functions}

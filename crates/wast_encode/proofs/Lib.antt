@@ -2,7 +2,7 @@ mod AtKind
 mod Called
 mod CountPut
 mod Counts
-mod Customs
+pub mod Customs
 mod DataCount
 mod Encoded
 mod Few

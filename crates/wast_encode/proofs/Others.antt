@@ -36,7 +36,7 @@ use Rattle.wast_meant.specs.CustomsMeant.{custom_of, customs_in, At, Of}
 use Rattle.wast_meant.specs.FieldsMeant.{datas_of}
 use Rattle.wast_meant.specs.NamesMeant.{given_name}
 use Rattle.wast_meant.specs.Binary.{bytes_of, naming_with, inner_with, maps_with}
-use Rattle.wast_meant.specs.Means.{is_made}
+use Rattle.wast_meaning.specs.Made.{is_made}
 use Rattle.wast_meant.specs.Meaning.{without_customs}
 use Rattle.wast_meant_laws.proofs.AtStops.{in_one_gap}
 use Rattle.wast_meant_laws.proofs.Gaps.{called_same}

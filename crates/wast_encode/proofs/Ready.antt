@@ -13,7 +13,7 @@ use Rattle.wast_meaning.specs.Numbered.{resolved}
 use Rattle.wast_meaning.specs.WellFormed.{breaches}
 use Rattle.wast_conversions.specs.Resolved.{IfThere}
 use Rattle.wast_meant.specs.Covered.{field_forms, uncovered}
-use Rattle.wast_meant.specs.Means.{is_made}
+use Rattle.wast_meaning.specs.Made.{is_made}
 use Rattle.wast_resolve_laws.proofs.Names.{name_self, name_sound}
 use Rattle.wast_resolve_laws.proofs.Resolved as again
 use Rattle.wast_section_items.specs.Ready.{ExprReady, ConstantReady, DefinedReady, ElementsReady, ElemModeReady, DataModeReady, FieldReady}

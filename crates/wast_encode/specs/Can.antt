@@ -10,7 +10,7 @@ use Rattle.wasm_layout.specs.Layout.{functions_in}
 use Rattle.wast_meant.specs.FieldsMeant.{imports_of, defined_in, function_of, functions_of}
 use Rattle.wast_meant.specs.NamesMeant.{GivenName, bodies_in}
 use Rattle.wast_meant.specs.Meaning.{meant}
-use Rattle.wast_meant.specs.Means.{is_made}
+use Rattle.wast_meaning.specs.Made.{is_made}
 use Rattle.wast_encode_laws.specs.Bounds.{BodiesFit}
 use Rattle.wast_section_items.specs.Ready.{FieldReady}
 

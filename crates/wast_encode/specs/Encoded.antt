@@ -1,15 +1,15 @@
 -- What encoding a tree answers, and what it leaves of the tree.
-use Rattle.std.specs.Prelude.{ℕ, ◌≡◌, ◌⊎◌, List, Option, Some, None}
+use Rattle.std.specs.Prelude.{ℕ, ◌≡◌, ◌⊎◌, false, List, Option, Some, None}
 use Rattle.std.specs.List.{flat_map}
 use Rattle.wast_grammar.specs.Tokens.{Name}
 use Rattle.wast_grammar.specs.Spelling.{same_name}
-use Rattle.wast_parser.specs.Problem.{Problem}
-use Rattle.wast_names.specs.Demand.{Tells, is_met}
+use Rattle.wast_parser.specs.Problem.{Problem, is_memory}
+use Rattle.wast_names.specs.Demand.{Tells, Refuses, is_met}
 use Rattle.wast_names.specs.Walk.{first_unmet}
 use Rattle.wast_fields.specs.FieldTree.{Content, Fields, Pieces, Module}
 use Rattle.wast_meaning.specs.Modules.{content_fields}
 use Rattle.wast_meaning.specs.Written.{by_counter}
-use Rattle.wast_meaning.specs.Made.{made}
+use Rattle.wast_meaning.specs.Made.{made, is_made}
 use Rattle.wasm_layout.specs.AbstractModule.{AbstractModule}
 use Rattle.wasm_layout.specs.Lays.{Fits, Lays, Reads}
 use Rattle.wast_conversions.specs.Covered.{Form}
@@ -17,9 +17,8 @@ use Rattle.wast_meant.specs.NamesMeant.{GivenName}
 use Rattle.wast_meant.specs.Covered.{uncovered}
 use Rattle.wast_meant.specs.Meaning.{Meaning}
 use Rattle.wast_meant.specs.Binary.{in_bytes}
-use Rattle.wast_meant.specs.Means.{is_made}
 use Rattle.wast_meant.specs.Plain.{IsPlain}
-use Rattle.wast_resolve.specs.Whole.{module_by, module_demands_by, IsRefused}
+use Rattle.wast_resolve.specs.Whole.{counter_after, module_by, module_demands_by, IsRefused}
 use Rattle.wast_encode.specs.declared.fault.EncodeFault.{EncodeFault}
 use Rattle.wast_encode.specs.declared.fault.EncodeFault.TheVariants as faults
 
@@ -56,10 +55,16 @@ module _ (counter : ℕ) (t : Module Name ℕ) where
   LeavesFor after (faults.Unmet error) = IsRefused after error
   LeavesFor after (faults.Uncovered span form) = after ≡ module_by counter t
   LeavesFor after faults.TooLarge = after ≡ module_by counter t
-  LeavesFor after faults.Memory = (after ≡ module_by counter t) ⊎ ((why : Problem) × (after.refusal ≡ Some why))
+  LeavesFor after faults.Memory = (after ≡ module_by counter t) ⊎ ((why : Problem) × (after.refusal ≡ Some why) × Refuses (module_demands_by counter t) why)
+
+  -- How far the counter comes where the tree is resolved: as far as names were taken.
+  abbrev pub CountsFor : ℕ → EncodeFault → Type 0
+  CountsFor after (faults.Uncovered span form) = after ≡ counter_after counter (content_fields t.content)
+  CountsFor after faults.TooLarge = after ≡ counter_after counter (content_fields t.content)
+  CountsFor after fault = Unit {0}
 
 -- A tree that was refused before: it is refused for the same reason.
 abbrev pub IsRefusedFor : Problem → EncodeFault → Type 0
-IsRefusedFor why (faults.Unmet error) = error ≡ why
+IsRefusedFor why (faults.Unmet error) = (error ≡ why) × (is_memory error.cause ≡ false)
 IsRefusedFor why faults.Memory = Unit {0}
 IsRefusedFor why fault = ⊥

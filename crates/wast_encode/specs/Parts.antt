@@ -15,7 +15,7 @@ use Rattle.wast_meant.specs.CustomsMeant.{customs_in, at_place, Stop, At, Of}
 use Rattle.wast_meant.specs.NamesMeant.{given_name}
 use Rattle.wast_meant.specs.Meaning.{meant}
 use Rattle.wast_meant.specs.Binary.{in_bytes}
-use Rattle.wast_meant.specs.Means.{is_made}
+use Rattle.wast_meaning.specs.Made.{is_made}
 use Rattle.wast_meant_laws.specs.Stops.{stop_pieces}
 use Rattle.wast_section_items.specs.Sound.{TypeSound, BodySound}
 

@@ -3,7 +3,7 @@ use Rattle.std.specs.Prelude.{ℕ, ◌≡◌, true, false, List, None, Some}
 use Rattle.std.specs.List.{flat_map}
 use Rattle.wast_grammar.specs.Tokens.{Name}
 use Rattle.wast_parser.specs.Problem.{Problem, is_memory}
-use Rattle.wast_names.specs.Demand.{Tells, is_met}
+use Rattle.wast_names.specs.Demand.{Tells, Refuses, is_met}
 use Rattle.wast_names.specs.Walk.{first_unmet}
 use Rattle.wast_fields.specs.FieldTree.{Content, Fields, Pieces, Module}
 use Rattle.wasm_layout.specs.AbstractModule.{AbstractModule}
@@ -27,7 +27,7 @@ IsToldBy why fault = ⊥
 -- A module that isn't resolved: of one that wasn't refused before a demand isn't met, or there was no memory.
 abbrev pub IsUnresolved : ℕ → Module Name ℕ → Module Name ℕ → EncodeFault → Type 0
 IsUnresolved counter before after (faults.Unmet error) = (before.refusal ≡ None → Tells (first_unmet is_met (module_demands_by counter before)) error) × IsRefused after error × (is_memory error.cause ≡ false)
-IsUnresolved counter before after faults.Memory = (why : Problem) × (after.refusal ≡ Some why)
+IsUnresolved counter before after faults.Memory = (why : Problem) × (after.refusal ≡ Some why) × (before.refusal ≡ None → Refuses (module_demands_by counter before) why)
 IsUnresolved counter before after fault = ⊥
 
 -- The binary of a resolved module.

@@ -49,5 +49,5 @@ pub use wast_resolve::{
     Names, Namespace, Ns, ResolveModule, deinline_import_export, names, resolve, resolve_error,
     types,
 };
-pub use wast_section_items::SectionItem;
+pub use wast_section_items::{FuncBody, SectionItem};
 pub use wast_uncovered::uncovered;

@@ -9,11 +9,11 @@ ghost use Rattle.wast_core.specs.ModuleViews.{field_tree, module_tree};
 ghost use Rattle.wast_names.specs.Demand.{is_met};
 ghost use Rattle.wast_names.specs.Walk.{first_unmet};
 ghost use Rattle.wast_meaning.specs.Modules.{content_fields, module_breaches};
-ghost use Rattle.wast_meant.specs.Means.{is_made};
+ghost use Rattle.wast_meaning.specs.Made.{is_made};
 ghost use Rattle.wast_resolve.specs.Whole.{counter_after, module_by, module_demands_by};
 ghost use Rattle.wasm_layout.specs.Lays.{Lays};
 ghost use Rattle.wast_encode.specs.Can.{CanEncode};
-ghost use Rattle.wast_encode.specs.Encoded.{Deserves, IsBinaryOf, IsRefusedFor, LeavesFor};
+ghost use Rattle.wast_encode.specs.Encoded.{CountsFor, Deserves, IsBinaryOf, IsRefusedFor, LeavesFor};
 ghost use Rattle.wast_encode.specs.Parts.{module_of};
 ghost use Rattle.wast_encode.specs.Resolved.{ContentReady, IsEncoded, IsToldBy, IsUnlaid, IsUnresolved, IsUnencoded};
 
@@ -38,10 +38,11 @@ impl EncodeOptions {
     }
 
     /// The binary of a module (6.6.14 and 5.5.17), which is well formed; the pieces of a binary are joined. A field that is referred to and has no
-    /// name takes the next one of `gensym`, and there is room for one a field.
+    /// name takes the next one of `gensym`, and there is room for one a field. Of a module that was refused before nothing is asked.
     ///
     /// A module is refused by its first demand of names that isn't met, with its place and message; else by its first form that has no binary
     /// here, with the place of its field; else as too large exactly where, memory found, a count or a length of its binary is past 4294967295.
+    /// One with 2147483647 or more items, parameters, locals, fields of structures and instructions in all is refused as for want of memory.
     ///
     /// Its names are resolved then, and what stands inline in it is written out, also where it is refused after that: encoded again, it
     /// gives the same answer. `gensym` has come as far as names were taken. A module of which a demand isn't met keeps why, and each later call is refused by a copy of that, or for want
@@ -52,8 +53,8 @@ impl EncodeOptions {
         module: &mut Module<'_>,
         gensym: &mut Gensym,
     ) -> Result<Vec<u8>, EncodeFault>
-        requires formed { module_breaches same_name is_made (module_tree «module».old) ≡ [] }
-        requires room { gensym.old + length (content_fields (module_tree «module».old).content) < 2 ^ 32 }
+        requires formed { (module_tree «module».old).refusal ≡ None → module_breaches same_name is_made (module_tree «module».old) ≡ [] }
+        requires room { (module_tree «module».old).refusal ≡ None → gensym.old + length (content_fields (module_tree «module».old).content) < 2 ^ 32 }
         ensures binary { IfOk result (λ binary. IsBinaryOf gensym.old (module_tree «module».old) (module_tree «module».old).content binary.items) }
         ensures fault { (module_tree «module».old).refusal ≡ None → IfErr result (Deserves gensym.old (module_tree «module».old)) }
         ensures resolved { OnOk result (((module_tree «module».old).refusal ≡ None) × (module_tree «module».new ≡ module_by gensym.old (module_tree «module».old))) }
@@ -61,7 +62,10 @@ impl EncodeOptions {
         ensures refused { (why : Problem) → (module_tree «module».old).refusal ≡ Some why → IfErr result (IsRefusedFor why) }
         ensures kept { (why : Problem) → (module_tree «module».old).refusal ≡ Some why → module_tree «module».new ≡ module_tree «module».old }
         ensures counted { OnOk result (gensym.new ≡ counter_after gensym.old (content_fields (module_tree «module».old).content)) }
+        ensures reached { IfErr result (CountsFor gensym.old (module_tree «module».old) gensym.new) }
         ensures rises { gensym.old ≤ gensym.new }
+        ensures bounded { gensym.new ≤ counter_after gensym.old (content_fields (module_tree «module».old).content) }
+        ensures uncounted { (why : Problem) → (module_tree «module».old).refusal ≡ Some why → gensym.new ≡ gensym.old }
     {
         // Forms are looked for in the fields as they are written; a demand that isn't met is told first.
         let form = uncovered(module);
@@ -81,13 +85,15 @@ fn resolve_names(
     module: &mut Module<'_>,
     gensym: &mut Gensym,
 ) -> Result<(), EncodeFault>
-    requires { gensym.old + length (content_fields (module_tree «module».old).content) < 2 ^ 32 }
+    requires { (module_tree «module».old).refusal ≡ None → gensym.old + length (content_fields (module_tree «module».old).content) < 2 ^ 32 }
     ensures met { (module_tree «module».old).refusal ≡ None → OnOk result (first_unmet is_met (module_demands_by gensym.old (module_tree «module».old)) ≡ None) }
     ensures resolved { OnOk result (((module_tree «module».old).refusal ≡ None) × (module_tree «module».new ≡ module_by gensym.old (module_tree «module».old))) }
     ensures fault { IfErr result (IsUnresolved gensym.old (module_tree «module».old) (module_tree «module».new)) }
     ensures kept { (why : Problem) → (module_tree «module».old).refusal ≡ Some why → module_tree «module».new ≡ module_tree «module».old }
     ensures counted { OnOk result (gensym.new ≡ counter_after gensym.old (content_fields (module_tree «module».old).content)) }
     ensures rises { gensym.old ≤ gensym.new }
+    ensures bounded { gensym.new ≤ counter_after gensym.old (content_fields (module_tree «module».old).content) }
+    ensures uncounted { (why : Problem) → (module_tree «module».old).refusal ≡ Some why → gensym.new ≡ gensym.old }
 {
     match module.resolve(alloc, gensym) {
         Ok(_) => Ok(()),

@@ -12,7 +12,7 @@ use Rattle.wast_fields.specs.FieldTree.{Field, Content, Fields, Pieces, Module}
 use Rattle.wast_core.specs.ModuleViews.{field_tree, content_tree}
 use Rattle.wast_core.specs.declared.module.ModuleKind.{ModuleKind}
 use Rattle.wast_core.specs.declared.module.ModuleKind.TheVariants as contents
-use Rattle.wast_meaning.specs.Made.{made}
+use Rattle.wast_meaning.specs.Made.{made, is_made}
 use Rattle.wast_meaning.specs.Modules.{content_fields}
 use Rattle.wast_meaning.specs.WellFormed.{breaches}
 use Rattle.wast_meaning.specs.Written.{by_counter}
@@ -23,7 +23,6 @@ use Rattle.wasm_layout.specs.Present.{is_called, is_present}
 use Rattle.wast_meant.specs.Binary.{in_bytes}
 use Rattle.wast_meant.specs.CustomsMeant.{custom_of, customs_in}
 use Rattle.wast_meant.specs.Meaning.{without_customs, meant}
-use Rattle.wast_meant.specs.Means.{is_made}
 use Rattle.wast_meant.specs.NamesMeant.{GivenName, given_name}
 use Rattle.wast_meant.specs.Plain.{ArePlain}
 use Rattle.wast_meant_laws.proofs.AtStops.{in_one_gap}
@@ -34,6 +33,7 @@ use Rattle.wast_resolve_laws.proofs.Resolved.{resolved_again, resolved_met}
 use Rattle.wast_encode.specs.Encoded.{form_in, StandsFor, IsBinaryOf, Deserves}
 use Rattle.wast_encode.specs.declared.fault.EncodeFault.{EncodeFault}
 use Rattle.wast_encode.specs.declared.fault.EncodeFault.TheVariants as faults
+use Rattle.wast_encode.proofs.Customs.{resolved_customs}
 use Rattle.wast_encode_laws.specs.Orderings.{are_ordered}
 use Rattle.wast_encode_laws.proofs.Covered.{uncovered_again}
 use Rattle.wast_encode_laws.proofs.Trees.{trees_ordered}
@@ -121,6 +121,16 @@ module _ (counter other : ℕ) (place : ℕ) (id : Option (Named Name ℕ)) (giv
     binary_again : (bytes : List ℕ) → IsBinaryOf counter (tree (Fields fs)) (Fields fs) bytes → IsBinaryOf other (tree (Fields rs)) (Fields rs) bytes
     binary_again bytes b = (b.0, stands_again b.0 b.1, b.2, λ plain. reads bytes b.0 b.1 b.2 plain)
 
+    -- custom fields stay, so what plain fields are resolved to is plain
+    still_uncalled : (called : List ℕ) → is_called called (map custom_of (flat_map customs_in fs) ∷ []) ≡ false → is_called called (map custom_of (flat_map customs_in rs) ∷ []) ≡ false
+    still_uncalled called none = ap (λ cs. is_called called (map custom_of cs ∷ [])) (resolved_customs same_name (by_counter made counter fs) fs) ∙ none
+
+    plain_left : ArePlain fs → ArePlain rs
+    plain_left plain = record { no_names = still_uncalled (codes "name") plain.no_names; no_hints = still_uncalled (codes "metadata.code.branch_hint") plain.no_hints }
+
+    binary_before : (bytes : List ℕ) → IsBinaryOf other (tree (Fields rs)) (Fields rs) bytes → IsBinaryOf counter (tree (Fields fs)) (Fields fs) bytes
+    binary_before bytes b = let s = stood b.0 b.1 in (b.0, s, b.2, λ plain. reads bytes b.0 s b.2 (plain_left plain))
+
     one_binary : (first second : List ℕ) → IsBinaryOf counter (tree (Fields fs)) (Fields fs) first → IsBinaryOf other (tree (Fields rs)) (Fields rs) second → first ≡ second
     one_binary first second b c = b.2.bytes ∙ ap layout (is_that b.0 b.1 ∙ sym (is_that c.0 (stood c.0 c.1))) ∙ sym c.2.bytes
 
@@ -137,7 +147,7 @@ module _ (counter other : ℕ) (place : ℕ) (id : Option (Named Name ℕ)) (giv
       form = form_again;
       stands = λ m. (stands_again m, stood m);
       fault = same_fault counter other (tree (Fields fs)) (tree (Fields rs)) met met_again form_again (λ m. (stands_again m, stood m));
-      binary = binary_again;
+      binary = λ bytes. (binary_again bytes, binary_before bytes);
       same = one_binary;
       no_fault = no_fault;
     }
@@ -163,7 +173,7 @@ module _ (counter other : ℕ) (place : ℕ) (id : Option (Named Name ℕ)) (giv
       form = refl;
       stands = no_module;
       fault = same_fault counter other (tree (Pieces pieces)) (tree (Pieces pieces)) refl refl refl no_module;
-      binary = λ bytes b. b;
+      binary = λ bytes. (λ b. b, λ b. b);
       same = λ first second b c. b ∙ sym c;
       no_fault = λ bytes fault b h. no_fault_of fault h;
     }

@@ -9,7 +9,7 @@ use Rattle.wast_core.specs.ModuleViews.{module_tree}
 use Rattle.wast_core.specs.declared.module.Module as code
 use Rattle.wast_meaning.specs.Modules.{module_breaches}
 use Rattle.wasm_layout.specs.AbstractModule.{AbstractModule}
-use Rattle.wast_meant.specs.Means.{is_made}
+use Rattle.wast_meaning.specs.Made.{is_made}
 use Rattle.wast_resolve.specs.Whole.{module_by, module_demands_by}
 use Rattle.wast_encode.specs.Encoded.{form_in, StandsFor, IsBinaryOf, Deserves}
 use Rattle.wast_encode.specs.declared.fault.EncodeFault.{EncodeFault}
@@ -27,7 +27,7 @@ pub record IsAnsweredAs (counter : ℕ) (t : Module Name ℕ) (other : ℕ) (u :
   -- deserves the same faults,
   pub fault : (fault : EncodeFault) → Deserves counter t fault ↔ Deserves other u fault
   -- and has the same binary, and no other: where the tree has one, want of memory is the only fault.
-  pub binary : (bytes : List ℕ) → IsBinaryOf counter t t.content bytes → IsBinaryOf other u u.content bytes
+  pub binary : (bytes : List ℕ) → IsBinaryOf counter t t.content bytes ↔ IsBinaryOf other u u.content bytes
   pub same : (first second : List ℕ) → IsBinaryOf counter t t.content first → IsBinaryOf other u u.content second → first ≡ second
   pub no_fault : (bytes : List ℕ) (fault : EncodeFault) → IsBinaryOf counter t t.content bytes → Deserves other u fault → fault ≡ faults.Memory
 

@@ -26,14 +26,8 @@ use Rattle.wast_meaning.specs.Scope.{Scope, members}
 use Rattle.wast_meaning.specs.Demands.{says_demands, use_demands, agreements, mention_demands}
 use Rattle.wast_meaning.specs.Changed.{Change, heap_changed, ref_changed, val_changed, storage_changed, field_type_changed, local_changed, sig_changed, inner_changed, type_changed, use_changed, block_changed, catch_changed, handle_changed, target_changed, second_changed, operands_changed, instr_changed}
 use Rattle.wast_meaning.specs.Numbered.{numbering}
-use Rattle.wast_meaning.specs.Settled.{is_number, has_number, says_number, is_settled}
+use Rattle.wast_meaning.specs.Settled.{is_number, has_number, says_number, is_settled, is_typed}
 use Rattle.wast_meaning.proofs.Settled.{left, right}
-
--- a use has its type, or is that of a short block
-abbrev pub is_typed : {N P : Type 0} → Mention N P → Bool
-is_typed (Uses u) = is_some u.index
-is_typed (UsesInBlock u) = is_some u.index || is_short (unwrap_or u.inline no_sig)
-is_typed _ = true
 
 module _ {N P : Type 0} (f : Mention N P → List (Demand N P)) where
   abbrev pub Met : List (Mention N P) → Type 0

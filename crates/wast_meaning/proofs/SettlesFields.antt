@@ -23,10 +23,10 @@ use Rattle.wast_meaning.specs.Demands.{mention_demands, use_demands, instrs_dema
 use Rattle.wast_meaning.specs.Spaces.{space_word, items}
 use Rattle.wast_meaning.specs.Changed.{Changes, ref_changed, val_changed, local_changed, type_changed, use_changed, extern_changed, item_changed, imports_changed, instr_changed, instrs_changed, constant_changed, func_changed, elements_changed, defined_changed, elem_mode_changed, data_mode_changed, field_changed}
 use Rattle.wast_meaning.specs.Numbered.{numbering, numberings, numbered}
-use Rattle.wast_meaning.specs.Settled.{is_settled, are_settled}
+use Rattle.wast_meaning.specs.Settled.{is_settled, is_typed, are_settled, are_typed}
 use Rattle.wast_meaning.proofs.Settled.{left, right}
 use Rattle.wast_meaning.proofs.SettledFields.{said_parts}
-use Rattle.wast_meaning.proofs.Settles.{is_typed, Met, met_front, met_back, each_so, index_so, if_so, heap_so, val_so, locals_so, type_so, use_so, instr_so}
+use Rattle.wast_meaning.proofs.Settles.{Met, met_front, met_back, each_so, index_so, if_so, heap_so, val_so, locals_so, type_so, use_so, instr_so}
 
 -- a test of lists that are joined, and of what lists are mapped to
 module _ {A : Type 0} (q : A → Bool) where
@@ -218,11 +218,7 @@ module _ {N P : Type 0} (eq : N → N → Bool) where
       by_case true h rest = rest h
       by_case false h rest = elim (none-some d (sym h)) [ ]
 
-  -- fields whose uses have their types
-  abbrev pub are_typed : List (Field N P) → Bool
-  are_typed fs = list_all (λ f. list_all is_typed (field_mentions f)) fs
-
-  -- after that each index is a number
+  -- where uses have their types, each index is a number after that
   pub numbered_settles : (fs : List (Field N P)) → first_unmet is_met (demands eq fs) ≡ None → are_typed fs ≡ true → are_settled (numbered eq fs) ≡ true
   numbered_settles fs e t =
       fields_so (scope_of eq fs) fs (aft is_met (order_demands fs ++ item_demands eq (flat_map items fs)) (flat_map (field_demands eq (scope_of eq fs)) fs) (all_met (demands eq fs) e)) t

@@ -32,3 +32,12 @@ module _ {N P : Type 0} where
 
   abbrev pub are_settled : List (Field N P) → Bool
   are_settled fs = list_all (λ f. list_all is_settled (field_mentions f)) fs
+
+  -- a use that needs a type has an index
+  abbrev pub is_typed : Mention N P → Bool
+  is_typed (Uses u) = is_some u.index
+  is_typed (UsesInBlock u) = is_some u.index || is_short (unwrap_or u.inline no_sig)
+  is_typed _ = true
+
+  abbrev pub are_typed : List (Field N P) → Bool
+  are_typed fs = list_all (λ f. list_all is_typed (field_mentions f)) fs

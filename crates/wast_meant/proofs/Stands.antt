@@ -10,7 +10,7 @@ use Rattle.wast_grammar.specs.Tokens.{Name}
 use Rattle.wast_meant.specs.NamesMeant.{GivenName}
 use Rattle.wast_meant.specs.Binary.{in_bytes}
 use Rattle.wast_meant.specs.Meaning.{FieldsMean, meant}
-use Rattle.wast_meant.specs.Means.{is_made}
+use Rattle.wast_meaning.specs.Made.{is_made}
 use Rattle.wast_meant.specs.ExampleTrees.{fresh}
 use Rattle.wast_meant.specs.Examples.{only_f}
 

@@ -23,12 +23,11 @@ use Rattle.wast_meaning.specs.Demands.{all_demands}
 use Rattle.wast_meaning.specs.Numbered.{resolved}
 use Rattle.wast_meaning.specs.WellFormed.{breaches}
 use Rattle.wast_meaning.specs.Written.{by_counter}
-use Rattle.wast_meaning.specs.Made.{made}
+use Rattle.wast_meaning.specs.Made.{made, is_made}
 use Rattle.wasm_layout.specs.Layout.{layout}
 use Rattle.wast_meant.specs.Meaning.{meant}
 use Rattle.wast_meant.specs.Covered.{uncovered}
 use Rattle.wast_meant.specs.Binary.{in_bytes}
-use Rattle.wast_meant.specs.Means.{is_made}
 
 abbrev pub Tree : Type 0
 Tree = Field Name ℕ

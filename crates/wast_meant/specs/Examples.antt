@@ -17,7 +17,7 @@ use Rattle.wast_meaning.specs.Numbered.{resolved}
 use Rattle.wasm_layout.specs.IsModule.{IsModule}
 use Rattle.wast_meant.specs.Binary.{in_bytes}
 use Rattle.wast_meant.specs.Meaning.{FieldsMean, meant}
-use Rattle.wast_meant.specs.Means.{is_made}
+use Rattle.wast_meaning.specs.Made.{is_made}
 use Rattle.wast_meant.specs.ExampleTrees.{Tree, fresh, id, says, num, i32, i64, ref, funcref, local, unnamed, sig, no_use, with_sig, definition, type_item, one_page, one_funcref, ins, plain, const, end, block, expr, define, func_of, func, typed, item, import, custom, Assembles, IsUncovered}
 
 -- the type without parameters and results, a function of it, and the same with code

@@ -6,7 +6,8 @@ use Rattle.wast_fields.specs.FieldTree.{Module}
 use Rattle.wasm_layout.specs.AbstractModule.{AbstractModule}
 use Rattle.wast_meant.specs.NamesMeant.{GivenName}
 use Rattle.wast_meant.specs.Meaning.{Meaning}
-use Rattle.wast_meant.specs.Means.{is_made, Means, Worth, IsWorth}
+use Rattle.wast_meaning.specs.Made.{is_made}
+use Rattle.wast_meant.specs.Means.{Means, Worth, IsWorth}
 
 -- A tree stands for one module at most.
 abbrev pub OneMeaning : Type 0

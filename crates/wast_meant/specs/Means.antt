@@ -1,6 +1,6 @@
 -- What a text is worth, given which trees it spells: the module that its tree stands for, in which identifiers are bytes; or, of a binary in
 -- pieces, these.
-use Rattle.std.specs.Prelude.{ℕ, ◌≡◌, Bool, not, nat_eq, List}
+use Rattle.std.specs.Prelude.{ℕ, ◌≡◌, List}
 use Rattle.std.specs.List.{flat_map}
 use Rattle.wast_grammar.specs.Tokens.{Name}
 use Rattle.wast_grammar.specs.Spelling.{same_name}
@@ -8,15 +8,11 @@ use Rattle.wast_fields.specs.FieldTree as fields
 use Rattle.wast_fields.specs.FieldTree.{Module}
 use Rattle.wast_meaning.specs.Modules.{content_fields}
 use Rattle.wast_meaning.specs.Written.{by_counter}
-use Rattle.wast_meaning.specs.Made.{made}
+use Rattle.wast_meaning.specs.Made.{made, is_made}
 use Rattle.wasm_layout.specs.AbstractModule.{AbstractModule}
 use Rattle.wast_meant.specs.NamesMeant.{GivenName}
 use Rattle.wast_meant.specs.Meaning.{Meaning}
 use Rattle.wast_meant.specs.Binary.{in_bytes}
-
--- names that are made up have a generation
-abbrev pub is_made : Name → Bool
-is_made n = not (nat_eq n.1 0)
 
 -- the names that a new counter makes for a tree
 abbrev pub naming_of : Module Name ℕ → ℕ → Name

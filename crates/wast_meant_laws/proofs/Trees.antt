@@ -5,7 +5,7 @@ use std.Univalence.{iso_to_path}
 use Rattle.wast_grammar.specs.Tokens.{Name}
 use Rattle.wast_grammar.specs.Spelling.{same_name}
 use Rattle.wast_fields.specs.FieldTree.{Content, Module}
-use Rattle.wast_meaning.specs.Made.{made}
+use Rattle.wast_meaning.specs.Made.{made, is_made}
 use Rattle.wast_meaning.specs.Modules.{content_fields}
 use Rattle.wast_meaning.specs.Written.{by_counter}
 use Rattle.wasm_layout.specs.AbstractModule.{AbstractModule}
@@ -15,7 +15,7 @@ use Rattle.wast_resolve_laws.proofs.Renamed.{free}
 use Rattle.wast_resolve_laws.proofs.RenamedFields.{names_kept}
 use Rattle.wast_meant.specs.NamesMeant.{GivenName}
 use Rattle.wast_meant.specs.Meaning.{Meaning}
-use Rattle.wast_meant.specs.Means.{is_made, naming_of}
+use Rattle.wast_meant.specs.Means.{naming_of}
 use Rattle.wast_meant.specs.Binary.{module_with, bytes_of, in_bytes}
 use Rattle.wast_meant.proofs.OneMeaning.{one_meaning}
 use Rattle.wast_meant_laws.specs.Renamed.{Renaming, MadeStay, renamed_by, tree_renamed, given_renamed}

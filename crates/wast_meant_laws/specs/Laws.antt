@@ -19,7 +19,8 @@ use Rattle.wast_meant.specs.CustomsMeant.{customs_in, at_place, stops}
 use Rattle.wast_meant.specs.Covered.{uncovered}
 use Rattle.wast_meant.specs.Meaning.{meant, Meaning}
 use Rattle.wast_meant.specs.Binary.{module_with, in_bytes}
-use Rattle.wast_meant.specs.Means.{is_made, naming_of}
+use Rattle.wast_meaning.specs.Made.{is_made}
+use Rattle.wast_meant.specs.Means.{naming_of}
 use Rattle.wast_meant_laws.specs.Renamed.{Renaming, MadeStay, AreRead, renamed_by, tree_renamed, given_renamed, form_moved}
 use Rattle.wast_meant_laws.specs.Stops.{stop_pieces, is_unnamed}
 

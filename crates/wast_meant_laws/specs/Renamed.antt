@@ -3,11 +3,10 @@ use Rattle.std.specs.Prelude.{◌≡◌, ℕ, List, [], ◌∷◌}
 use std.Equiv.{Iso}
 use Rattle.wast_grammar.specs.Tokens.{Name}
 use Rattle.wast_fields.specs.FieldTree.{Field, Module}
-use Rattle.wast_meaning.specs.Made.{made}
+use Rattle.wast_meaning.specs.Made.{made, is_made}
 use Rattle.wast_resolve_laws.specs.Renamed.{renamed, fields_renamed}
 use Rattle.wast_conversions.specs.Covered.{Form}
 use Rattle.wast_meant.specs.NamesMeant.{GivenName, Identifier, Bytes}
-use Rattle.wast_meant.specs.Means.{is_made}
 
 -- Each name and each place has its counterpart, one to one, and a name is made up where its counterpart is.
 pub record Renaming : Type 0 where

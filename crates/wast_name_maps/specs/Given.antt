@@ -5,7 +5,7 @@ use Rattle.wast_parser.specs.Identifiers.{Named}
 use Rattle.wast_core_types.specs.TypeTree.{Local, Sig}
 use Rattle.wast_meaning.specs.Implied.{no_sig}
 use Rattle.wast_meant.specs.Binary.{bytes_of}
-use Rattle.wast_meant.specs.Means.{is_made}
+use Rattle.wast_meaning.specs.Made.{is_made}
 use Rattle.wast_meant.specs.NamesMeant.{given_name, identifier}
 
 -- what `@name` says, else the identifier, unless that is made up

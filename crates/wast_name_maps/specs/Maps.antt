@@ -8,7 +8,7 @@ use Rattle.wasm_layout.specs.AbstractModule.{NameMaps}
 use Rattle.wasm_layout.specs.Layout.{name_bytes}
 use Rattle.wasm_layout.specs.Present.{has_names}
 use Rattle.wast_meant.specs.Binary.{bytes_of, maps_with}
-use Rattle.wast_meant.specs.Means.{is_made}
+use Rattle.wast_meaning.specs.Made.{is_made}
 use Rattle.wast_meant.specs.NamesMeant.{given_name, names_of}
 
 -- those that `in_bytes` has of a module of these fields, which has this `@name` and this identifier

@@ -3,7 +3,7 @@ ghost use Rattle.std.specs.Prelude.{◌≡◌, ◌∷◌, [], None, map, option_
 ghost use Rattle.std.specs.List.{flat_map};
 ghost use Rattle.wast_parser.specs.Identifiers.{identifier_tree};
 ghost use Rattle.wast_core_types.specs.TypeViews.{name_tree, item_tree};
-ghost use Rattle.wast_imports.specs.ImportViews.{extern_tree, items_tree, member_name_tree, member_tree};
+ghost use Rattle.wast_imports.specs.ImportViews.{items_tree, member_name_tree, member_tree};
 ghost use Rattle.wast_imports.specs.ImportViews.{item_tree as imported_tree};
 ghost use Rattle.wast_fields.specs.ElemViews.{table_definition};
 ghost use Rattle.wast_fields.specs.FieldTree.{Define};
@@ -11,7 +11,6 @@ ghost use Rattle.wast_fields.specs.FieldViews.{memory_definition};
 ghost use Rattle.wast_core.specs.ModuleViews.{field_tree};
 ghost use Rattle.wast_meaning.specs.Spaces.{bound, bound_import, bound_imports, bound_type, items, same_space};
 ghost use Rattle.wast_meaning.specs.Views.{space_view};
-ghost use Rattle.wast_meaning.specs.Written.{kind_of_type, space_of_kind};
 ghost use Rattle.wast_name_maps.specs.Gathered.{bound_names};
 ghost use Rattle.wast_name_maps.specs.Numbered.{BuildsNames, NamesJoin};
 
@@ -20,8 +19,8 @@ use crate::names::Names;
 use std::alloc::Global;
 use wasm_encoder_base::EncodeError;
 use wast_core::{
-    ImportGroup1Item, ImportGroup2Item, ImportItems, Imports, ItemKind, ItemSig, Memory,
-    MemoryKind, ModuleField, Table, TableKind, TypeItem,
+    ImportGroup1Item, ImportGroup2Item, ImportItems, Imports, ItemSig, Memory, MemoryKind,
+    ModuleField, Table, TableKind, TypeItem,
 };
 use wast_meaning::Space;
 use wast_parser::{Id, NameAnnotation};
@@ -155,20 +154,13 @@ fn add_for_each(
 fn add_import(names: &mut Names, space: Space, sig: &ItemSig<'_>) -> Result<(), EncodeError>
     ensures { NamesJoin result names.old names.new (bound_names (space_view space) (bound_import (imported_tree sig.now) ∷ [])) }
 {
-    add(names, space, space_of(&sig.kind), &sig.name, &sig.id)
-}
-
-/// The space of what is imported.
-fn space_of(kind: &ItemKind<'_>) -> Space
-    ensures { space_view result ≡ space_of_kind (kind_of_type (extern_tree kind.now)) }
-{
-    match kind {
-        ItemKind::Func(_) | ItemKind::FuncExact(_) => Space::Functions,
-        ItemKind::Table(_) => Space::Tables,
-        ItemKind::Memory(_) => Space::Memories,
-        ItemKind::Global(_) => Space::Globals,
-        ItemKind::Tag(_) => Space::Tags,
-    }
+    add(
+        names,
+        space,
+        Space::of_import(&sig.kind),
+        &sig.name,
+        &sig.id,
+    )
 }
 
 /// An item of `own`, where that is the space whose names are wanted.

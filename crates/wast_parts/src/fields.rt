@@ -1,11 +1,8 @@
 //! Whole fields.
 ghost use Rattle.std.specs.Prelude.{◌≡◌, map};
 ghost use Rattle.std.specs.List.{flat_map};
-ghost use Rattle.wast_exports.specs.ExportViews.{kind_view};
 ghost use Rattle.wast_core.specs.ModuleViews.{field_tree};
 ghost use Rattle.wast_meaning.specs.Mentions.{parts};
-ghost use Rattle.wast_meaning.specs.Views.{space_view};
-ghost use Rattle.wast_meaning.specs.Written.{space_of_kind};
 ghost use Rattle.wast_mentions.specs.Judging.{Judged};
 
 use crate::definitions::{tell_func, tell_global, tell_table, tell_tag};
@@ -13,7 +10,6 @@ use crate::judge::{PartJudge, PartJudgement};
 use crate::said::{tell_imports, tell_type, tell_types};
 use crate::segments::{tell_data, tell_elem};
 use wast_core::ModuleField;
-use wast_exports::ExportKind;
 use wast_meaning::Space;
 use wast_mentions::Mention;
 
@@ -30,7 +26,7 @@ pub fn tell_parts<'a, J: PartJudge<'a>>(field: &ModuleField<'a>, judge: &J) -> R
         ModuleField::Memory(_) => Ok(()),
         ModuleField::Global(global) => tell_global(global, judge),
         ModuleField::Export(export) => {
-            judge.judge_mention(Mention::Refers(space_of(export.kind), &export.item))
+            judge.judge_mention(Mention::Refers(Space::of_export(export.kind), &export.item))
         }
         ModuleField::Start(start) => {
             judge.judge_mention(Mention::Refers(Space::Functions, &start.func))
@@ -56,17 +52,4 @@ pub fn tell_all_parts<'a, J: PartJudge<'a>>(
         }
     }
     Ok(())
-}
-
-/// The index space of what is exported.
-fn space_of(kind: ExportKind) -> Space
-    ensures { space_view result ≡ space_of_kind (kind_view kind) }
-{
-    match kind {
-        ExportKind::Func => Space::Functions,
-        ExportKind::Table => Space::Tables,
-        ExportKind::Memory => Space::Memories,
-        ExportKind::Global => Space::Globals,
-        ExportKind::Tag => Space::Tags,
-    }
 }

@@ -24,7 +24,7 @@ use Rattle.wast_meaning.specs.Numbered.{numbering, numberings, numbered}
 use Rattle.wast_spaces.specs.declared.spaces.Spaces.{Spaces}
 use Rattle.wast_spaces.specs.Views.{spaces_of}
 use Rattle.wast_resolve.proofs.Unnamed.{nameless_params}
-use Rattle.wast_resolve.specs.Params.{inner_count, param_count}
+use Rattle.wast_resolve.specs.Params.{inner_count, param_count, implied_count, param_counts}
 use Rattle.wast_resolve.specs.Place.{so_many, nameless, sig_with, fields_in, joined, scope_with, here, by_place, numberings_by}
 use Rattle.wast_resolve.specs.Known.{Tells}
 
@@ -73,26 +73,23 @@ inner_so (StructType fs) = refl
 inner_so (ArrayType t) = refl
 inner_so (ContType i) = refl
 
-type_so : (o : Option (TypeItem Name ℕ × Bool)) → params_in (option_map sig_with (option_map param_count o)) ≡ params_in (option_and_then (λ s. s) (option_map (λ t. func_sig t.0.definition.comp.inner) o))
-type_so None = refl
-type_so (Some t) = inner_so t.0.definition.comp.inner
+-- those of types by their numbers, the implied ones behind the others
+implied_so : (is : List (ℕ × Sig Name ℕ)) (k : ℕ)
+    → params_in (option_map sig_with (slice_get (map implied_count is) k)) ≡ params_in (option_and_then (λ s. s) (slice_get (map (λ s. Some s.1) is) k))
+implied_so [] k = refl
+implied_so (u ∷ us) zero = nameless_params u.1.params
+implied_so (u ∷ us) (suc k) = implied_so us k
 
-module _ (fs : List (Field Name ℕ)) (typed : implied same_name fs ≡ []) where
-  abbrev types : List (TypeItem Name ℕ × Bool)
-  types = flat_map written_types fs
-
-  sig_so : (k : ℕ) → sig_at same_name fs k ≡ option_and_then (λ s. s) (option_map (λ t. func_sig t.0.definition.comp.inner) (slice_get types k))
-  sig_so k =
-      ap (λ is. option_and_then (λ s. s) (slice_get (map (λ t. func_sig t.0.definition.comp.inner) types ++ map (λ s. Some s.1) is) k)) typed
-      ∙ ap (λ l. option_and_then (λ s. s) (slice_get l k)) (append-nil (map (λ t. func_sig t.0.definition.comp.inner) types))
-      ∙ ap (option_and_then (λ s. s)) (slice_get-map (λ t. func_sig t.0.definition.comp.inner) types k)
-
-  counted_so : (k : ℕ) → params_in (option_map sig_with (slice_get (map param_count types) k)) ≡ params_in (sig_at same_name fs k)
-  counted_so k = ap (λ o. params_in (option_map sig_with o)) (slice_get-map param_count types k) ∙ type_so (slice_get types k) ∙ ap params_in (sym (sig_so k))
+counted_so : (ts : List (TypeItem Name ℕ × Bool)) (is : List (ℕ × Sig Name ℕ)) (k : ℕ)
+    → params_in (option_map sig_with (slice_get (map param_count ts ++ map implied_count is) k))
+    ≡ params_in (option_and_then (λ s. s) (slice_get (map (λ t. func_sig t.0.definition.comp.inner) ts ++ map (λ s. Some s.1) is) k))
+counted_so [] is k = implied_so is k
+counted_so (t ∷ ts) is zero = inner_so t.0.definition.comp.inner
+counted_so (t ∷ ts) is (suc k) = counted_so ts is k
 
 module _ (s : Spaces) (fs : List (Field Name ℕ)) (t : Tells s fs) where
   abbrev code : Scope Name ℕ
-  code = scope_with s (map param_count (flat_map written_types fs))
+  code = scope_with s (param_counts fs)
 
   alike : Alike_scopes code (scope_of same_name fs)
   alike = record { spaces = t.items; fields = t.fields }
@@ -105,7 +102,7 @@ module _ (s : Spaces) (fs : List (Field Name ℕ)) (t : Tells s fs) where
     where
       by_case : (o : Option ℕ) → params_in (option_and_then code.sig_of o) ≡ params_in (option_and_then (sig_at same_name fs) o)
       by_case None = refl
-      by_case (Some k) = counted_so fs t.typed k
+      by_case (Some k) = counted_so (flat_map written_types fs) (implied same_name fs) k
 
   use_params : (u : TypeUse Name ℕ) → params_of code u ≡ params_of (scope_of same_name fs) u
   use_params u = by_case u.inline
@@ -168,12 +165,12 @@ module _ (s : Spaces) (fs : List (Field Name ℕ)) (t : Tells s fs) where
       numbering_alike (here s (spaces_of s Locals) (label_space same_name before i)) (scope_at same_name (scope_of same_name fs) before i)
       (record { spaces = constant_here (label_space same_name before i); fields = t.fields })
 
-  changes_alike : numberings_by s (map param_count (flat_map written_types fs)) ≡ numberings same_name (scope_of same_name fs)
+  changes_alike : numberings_by s (param_counts fs) ≡ numberings same_name (scope_of same_name fs)
   changes_alike = λ j. record {
     outside = numbering_alike code (scope_of same_name fs) alike j;
     in_constant = λ before i. constant_alike before i j;
     in_function = λ f before i. function_alike f before i j;
   }
 
-  pub as_numbered : map (field_changed (numberings_by s (map param_count (flat_map written_types fs)))) fs ≡ numbered same_name fs
+  pub as_numbered : map (field_changed (numberings_by s (param_counts fs))) fs ≡ numbered same_name fs
   as_numbered = ap (λ cs. map (field_changed cs) fs) changes_alike

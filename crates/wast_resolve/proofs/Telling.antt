@@ -14,7 +14,6 @@ use Rattle.wast_names.proofs.Positions.{numbers_of}
 use Rattle.wast_exports.specs.Exports as exports
 use Rattle.wast_imports.specs.ImportTree.{ImportItems, Single, Group1, Group2}
 use Rattle.wast_fields.specs.FieldTree.{Defined, TableOf, MemoryOf, Field, TypeField, RecField, ImportField, Define, ElemField, DataField}
-use Rattle.wast_meaning.specs.Implied.{implied}
 use Rattle.wast_meaning.specs.Spaces.{Bound, same_space, space_word, bound, bound_type, bound_import, bound_imports, bound_segment, items, items_in, fields_at, denotes}
 use Rattle.wast_meaning.specs.Written.{space_of_kind, kind_of_type, kind_of}
 use Rattle.wast_meaning.proofs.Walked.{tells_so}
@@ -119,5 +118,5 @@ module _ (s : Spaces) (fs : List (Field Name ℕ)) where
       of None = refl
       of (Some b) = numbers_of same_name (space_word Fields) b.fields n
 
-  pub told : spaces_of s ≡ spaces_behind (λ t. names.empty) (flat_map items fs) → fields_of_types s ≡ type_fields (flat_map items fs) → implied same_name fs ≡ [] → Tells s fs
-  told spaces fields typed = record { items = items_told spaces; fields = fields_told fields; typed = typed }
+  pub told : spaces_of s ≡ spaces_behind (λ t. names.empty) (flat_map items fs) → fields_of_types s ≡ type_fields (flat_map items fs) → Tells s fs
+  told spaces fields = record { items = items_told spaces; fields = fields_told fields }

@@ -1,5 +1,5 @@
 -- Fields that are written out, given their types and numbered, one after the other.
-use Rattle.std.proofs.Common.{◌≡◌, ℕ, List, [], Result, subst, ◌∙◌, ap}
+use Rattle.std.proofs.Common.{◌≡◌, ℕ, List, Result, subst, ◌∙◌, ap}
 use Rattle.std.specs.Prelude.{OnOk}
 use Rattle.wasm_encoder_base.specs.Table.{Space}
 use Rattle.wast_grammar.specs.Tokens.{Name}
@@ -9,7 +9,6 @@ use Rattle.wast_names.specs.Demand.{Answers}
 use Rattle.wast_names.specs.Space as names
 use Rattle.wast_fields.specs.FieldTree.{Field}
 use Rattle.wast_meaning.specs.Demands.{demands}
-use Rattle.wast_meaning.specs.Implied.{implied}
 use Rattle.wast_meaning.specs.Numbered.{expanded, numbered}
 use Rattle.wast_meaning.specs.Spaces.{denotes}
 use Rattle.wast_resolve_laws.proofs.DemandsKept as kept
@@ -26,11 +25,8 @@ module _ (written now : List (Field Name ℕ)) (typed : now ≡ expanded same_na
       answers_first r (demands same_name (expanded same_name written)) (demands same_name written) (kept.demands_kept same_name name_self name_sound written)
       (subst (λ fs. Answers r (demands same_name fs)) typed h)
 
-  pub numbers_before : {T E : Type 0} (r : Result T E) (new : List (Field Name ℕ)) → (implied same_name now ≡ [] → OnOk r (new ≡ numbered same_name now))
-      → OnOk r (new ≡ numbered same_name (expanded same_name written))
-  numbers_before r new h =
-      gives r new (numbered same_name now) (numbered same_name (expanded same_name written)) (ap (numbered same_name) typed)
-      (h (ap (implied same_name) typed ∙ types.expanded_implies_none same_name name_self written))
+  pub numbers_before : {T E : Type 0} (r : Result T E) (new : List (Field Name ℕ)) → OnOk r (new ≡ numbered same_name now) → OnOk r (new ≡ numbered same_name (expanded same_name written))
+  numbers_before r new = gives r new (numbered same_name now) (numbered same_name (expanded same_name written)) (ap (numbered same_name) typed)
 
   pub means_before : (spaces : Space → names.Space Name) → Means spaces now → Means spaces written
   means_before spaces h = λ s n. h s n ∙ ap (λ fs. denotes same_name fs s n) typed ∙ types.denotes_kept same_name written s n

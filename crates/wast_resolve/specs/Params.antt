@@ -1,7 +1,11 @@
 -- How many parameters types have.
-use Rattle.std.specs.Prelude.{ℕ, Bool, length}
+use Rattle.std.specs.Prelude.{ℕ, Bool, List, ◌++◌, length, map}
+use Rattle.std.specs.List.{flat_map}
 use Rattle.wast_grammar.specs.Tokens.{Name}
-use Rattle.wast_core_types.specs.TypeTree.{InnerType, FuncType, TypeItem}
+use Rattle.wast_grammar.specs.Spelling.{same_name}
+use Rattle.wast_core_types.specs.TypeTree.{Sig, InnerType, FuncType, TypeItem}
+use Rattle.wast_fields.specs.FieldTree.{Field}
+use Rattle.wast_meaning.specs.Implied.{written_types, implied}
 
 -- one that is no function type has none
 abbrev pub inner_count : InnerType Name ℕ → ℕ
@@ -10,3 +14,10 @@ inner_count _ = 0
 
 abbrev pub param_count : TypeItem Name ℕ × Bool → ℕ
 param_count t = inner_count t.0.definition.comp.inner
+
+abbrev pub implied_count : ℕ × Sig Name ℕ → ℕ
+implied_count t = length t.1.params
+
+-- by their numbers: the types that fields write, then those that uses imply
+abbrev pub param_counts : List (Field Name ℕ) → List ℕ
+param_counts fs = map param_count (flat_map written_types fs) ++ map implied_count (implied same_name fs)

@@ -1,5 +1,5 @@
 -- What names mean in a module that is resolved.
-use Rattle.std.specs.Prelude.{◌≡◌, ℕ, List, [], None}
+use Rattle.std.specs.Prelude.{◌≡◌, ℕ, List, None}
 use Rattle.wasm_encoder_base.specs.Table as table
 use Rattle.wasm_encoder_base.specs.Table.{Space}
 use Rattle.wast_grammar.specs.Tokens.{Name}
@@ -9,7 +9,6 @@ use Rattle.wast_names.specs.Walk.{first_unmet}
 use Rattle.wast_names.specs.Demand.{is_met}
 use Rattle.wast_fields.specs.FieldTree.{Field}
 use Rattle.wast_meaning.specs.Demands.{demands}
-use Rattle.wast_meaning.specs.Implied.{implied}
 use Rattle.wast_meaning.specs.Numbered.{numbered}
 use Rattle.wast_meaning.specs.Spaces.{denotes}
 use Rattle.wast_spaces.specs.Views.{spaces_of}
@@ -34,6 +33,6 @@ resolver_spaces r = spaces_of r.spaces
 abbrev pub Means : (Space → names.Space Name) → List (Field Name ℕ) → Type 0
 Means spaces fs = (space : Space) (name : Name) → (spaces space).look name ≡ denotes same_name fs space name
 
--- Fields that meet all demands, what they become where their uses have their types, and what their names mean.
+-- Fields that meet all demands, what they become, and what their names mean.
 abbrev pub AreNumbered : List (Field Name ℕ) → List (Field Name ℕ) → Resolver → Type 0
-AreNumbered old new r = (first_unmet is_met (demands same_name old) ≡ None) × (implied same_name old ≡ [] → new ≡ numbered same_name old) × Means (resolver_spaces r) old
+AreNumbered old new r = (first_unmet is_met (demands same_name old) ≡ None) × (new ≡ numbered same_name old) × Means (resolver_spaces r) old

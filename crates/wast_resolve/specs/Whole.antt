@@ -58,3 +58,9 @@ pub record IsRefused (after : Module Name ℕ) (p : Problem) : Type 0 where
   pub why : Problem
   pub kept : after.refusal ≡ Some why
   pub told : (p ≡ why) ⊎ (p ≡ out_of_memory)
+
+-- Two modules have one place and one name.
+pub record IsCalledAlike (before after : Module Name ℕ) : Type 0 where
+  pub place : after.place ≡ before.place
+  pub id : after.id ≡ before.id
+  pub given : after.given ≡ before.given

@@ -65,7 +65,7 @@ impl<'a> InPlace<Vec<ModuleField<'a>>> for Expands {
 
     ghost refused = { λ w s old e. Unit {0} };
 
-    ghost leaves = { λ s after. Unit {0} };
+    ghost leaves = { λ s old after. Unit {0} };
 
     fn run(&self, _state: &mut (), fields: &mut Vec<ModuleField<'a>>) -> Result<(), AllocError> {
         expand_in_place(self.alloc, fields)

@@ -2,10 +2,9 @@
 ghost use Rattle.std.specs.Prelude.{◌≡◌, ℕ, IfOk, map};
 ghost use Rattle.wast_grammar.specs.Tokens.{Name};
 ghost use Rattle.wast_fields.specs.FieldTree as spec;
-ghost use Rattle.wast_exports.specs.ExportViews.{export_tree, kind_view};
+ghost use Rattle.wast_exports.specs.ExportViews.{export_tree};
 ghost use Rattle.wast_core.specs.ModuleViews.{field_tree, start_tree};
 ghost use Rattle.wast_meaning.specs.Changed.{field_changed};
-ghost use Rattle.wast_meaning.specs.Views.{space_view};
 ghost use Rattle.wast_meaning.specs.Written.{space_of_kind};
 ghost use Rattle.wasm_encoder_base.specs.Table.{Functions};
 ghost use Rattle.wast_resolve.specs.Rewritten.{together};
@@ -16,7 +15,7 @@ use crate::rewriting::Rewriting;
 use crate::segment::{change_data, change_elem};
 use std::alloc::{AllocError, Global};
 use wast_changed::{Changing, change_imports, change_rec, change_type_item};
-use wast_core::{Export, ExportKind, ModuleField, Start};
+use wast_core::{Export, ModuleField, Start};
 use wast_meaning::Space;
 
 /// A field (6.6.14) with what becomes of its indices. Fails only for want of memory.
@@ -109,20 +108,7 @@ fn change_export<'a, C: Changing<'a>>(change: &C, export: Export<'a>) -> Export<
         span: export.span,
         name: export.name,
         kind: export.kind,
-        item: change.index(space_of(export.kind), export.item),
-    }
-}
-
-/// The index space of what is exported.
-fn space_of(kind: ExportKind) -> Space
-    ensures { space_view result ≡ space_of_kind (kind_view kind) }
-{
-    match kind {
-        ExportKind::Func => Space::Functions,
-        ExportKind::Table => Space::Tables,
-        ExportKind::Memory => Space::Memories,
-        ExportKind::Global => Space::Globals,
-        ExportKind::Tag => Space::Tags,
+        item: change.index(Space::of_export(export.kind), export.item),
     }
 }
 

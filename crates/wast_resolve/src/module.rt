@@ -6,11 +6,11 @@ ghost use Rattle.wast_parser.specs.Problem.{Problem};
 ghost use Rattle.wast_parser.specs.Reading.{out_of_memory};
 ghost use Rattle.wast_core.specs.ModuleViews.{content_tree, module_tree};
 ghost use Rattle.wast_fields.specs.FieldTree as spec;
-ghost use Rattle.wast_names.specs.Demand.{Answers};
+ghost use Rattle.wast_names.specs.Demand.{Answers, Refuses};
 ghost use Rattle.wast_meaning.specs.Modules.{content_fields, module_breaches};
-ghost use Rattle.wast_bound.specs.Bound.{is_made};
+ghost use Rattle.wast_meaning.specs.Made.{is_made};
 ghost use Rattle.wast_resolve.specs.Resolving.{Means};
-ghost use Rattle.wast_resolve.specs.Whole.{IsRefused, content_by, counter_after, demands_by, module_by, module_demands_by, names_spaces, written_by};
+ghost use Rattle.wast_resolve.specs.Whole.{IsCalledAlike, IsRefused, content_by, counter_after, demands_by, module_by, module_demands_by, names_spaces, written_by};
 
 use crate::names::Resolver;
 use crate::whole::{Names, resolve_in_place};
@@ -26,21 +26,25 @@ pub trait ResolveModule<'a> {
     ghost tree: { Self → spec.Module Name ℕ };
 
     /// Writes the fields out, gives each use its type and makes each index the number that it means (6.1.3, 6.6.3), and answers what names
-    /// mean. Pieces of a binary stay as they are. A field that is referred to and has no name takes the next one of `gensym`, and there is
-    /// room for one a field.
+    /// mean. Pieces of a binary stay as they are, and so do place and name of the module. A field that is referred to and has no name takes
+    /// the next one of `gensym`, and there is room for one a field.
     ///
     /// Refuses a module of which a demand of names isn't met, by the first, with its place and message; else only where no memory is found,
     /// or there are more than 4294967295 items of a kind or blocks inside each other. The module then keeps why, and each later call is
-    /// refused by a copy of that, or for want of memory for the copy. The fields of a module that is refused may be gone.
+    /// refused by a copy of that, or for want of memory for the copy; it takes no name. The fields of a module that is refused may be gone.
     fn resolve(&mut self, alloc: Global, gensym: &mut Gensym) -> Result<Names<'a>, Error>
-        requires { gensym.old + length (content_fields (tree self.old).content) < 2 ^ 32 }
+        requires { (tree self.old).refusal ≡ None → gensym.old + length (content_fields (tree self.old).content) < 2 ^ 32 }
         ensures answers { (tree self.old).refusal ≡ None → Answers result (module_demands_by gensym.old (tree self.old)) }
         ensures resolved { OnOk result (((tree self.old).refusal ≡ None) × (tree self.new ≡ module_by gensym.old (tree self.old))) }
         ensures names { IfOk result (λ n. Means (names_spaces n) (written_by gensym.old (content_fields (tree self.old).content))) }
         ensures counted { OnOk result (gensym.new ≡ counter_after gensym.old (content_fields (tree self.old).content)) }
         ensures rises { gensym.old ≤ gensym.new }
+        ensures bounded { gensym.new ≤ counter_after gensym.old (content_fields (tree self.old).content) }
         ensures refused { IfErr result (IsRefused (tree self.new)) }
-        ensures kept { (why : Problem) → (tree self.old).refusal ≡ Some why → tree self.new ≡ tree self.old };
+        ensures cause { (tree self.old).refusal ≡ None → (why : Problem) → (tree self.new).refusal ≡ Some why → Refuses (module_demands_by gensym.old (tree self.old)) why }
+        ensures called { IsCalledAlike (tree self.old) (tree self.new) }
+        ensures kept { (why : Problem) → (tree self.old).refusal ≡ Some why → tree self.new ≡ tree self.old }
+        ensures uncounted { (why : Problem) → (tree self.old).refusal ≡ Some why → gensym.new ≡ gensym.old };
 
     /// Where the keyword of the first field stands that isn't well formed, if there is one (3.4.13, 6.5.6, 6.6.1 and 6.6.14, and the
     /// proposals on branch hints and page sizes). In fields that are, alignments are powers of two below 65536, in bytes; branch hints rise,
@@ -72,13 +76,17 @@ fn resolve_first<'a>(
     module: &mut Module<'a>,
     gensym: &mut Gensym,
 ) -> Result<Names<'a>, Error>
-    requires { gensym.old + length (content_fields (content_tree «module».old.kind)) < 2 ^ 32 }
+    requires unrefused { (module_tree «module».old).refusal ≡ None }
+    requires room { gensym.old + length (content_fields (content_tree «module».old.kind)) < 2 ^ 32 }
     ensures answers { Answers result (module_demands_by gensym.old (module_tree «module».old)) }
     ensures resolved { OnOk result (module_tree «module».new ≡ module_by gensym.old (module_tree «module».old)) }
     ensures names { IfOk result (λ n. Means (names_spaces n) (written_by gensym.old (content_fields (content_tree «module».old.kind)))) }
     ensures counted { OnOk result (gensym.new ≡ counter_after gensym.old (content_fields (content_tree «module».old.kind))) }
     ensures rises { gensym.old ≤ gensym.new }
+    ensures bounded { gensym.new ≤ counter_after gensym.old (content_fields (content_tree «module».old.kind)) }
     ensures refused { IfErr result (IsRefused (module_tree «module».new)) }
+    ensures cause { (why : Problem) → (module_tree «module».new).refusal ≡ Some why → Refuses (module_demands_by gensym.old (module_tree «module».old)) why }
+    ensures called { IsCalledAlike (module_tree «module».old) (module_tree «module».new) }
 {
     match resolve_content(alloc, &mut module.kind, gensym) {
         Ok(names) => Ok(names),
@@ -102,6 +110,7 @@ fn resolve_content<'a>(
     ensures names { IfOk result (λ n. Means (names_spaces n) (written_by gensym.old (content_fields (content_tree content.old)))) }
     ensures counted { OnOk result (gensym.new ≡ counter_after gensym.old (content_fields (content_tree content.old))) }
     ensures rises { gensym.old ≤ gensym.new }
+    ensures bounded { gensym.new ≤ counter_after gensym.old (content_fields (content_tree content.old)) }
 {
     match content {
         ModuleKind::Text(fields) => resolve_in_place(alloc, fields, gensym),

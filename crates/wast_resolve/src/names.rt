@@ -1,5 +1,5 @@
 //! What names mean, and indices as numbers.
-ghost use Rattle.std.specs.Prelude.{◌≡◌, [], Some, None, map, IfOk, OnErr, OnOk};
+ghost use Rattle.std.specs.Prelude.{◌≡◌, Some, None, map, IfOk, OnErr, OnOk};
 ghost use Rattle.std.specs.List.{flat_map};
 ghost use Rattle.wast_grammar.specs.Spelling.{same_name};
 ghost use Rattle.wast_parser.specs.Identifiers.{index_tree};
@@ -9,7 +9,6 @@ ghost use Rattle.wast_names.specs.Space as names;
 ghost use Rattle.wast_names.specs.Space.{known, number_of, resolved};
 ghost use Rattle.wast_names.specs.Walk.{first_unmet};
 ghost use Rattle.wast_meaning.specs.Demands.{demands};
-ghost use Rattle.wast_meaning.specs.Implied.{implied};
 ghost use Rattle.wast_meaning.specs.Numbered.{numbered};
 ghost use Rattle.wast_meaning.specs.Spaces.{items, space_word};
 ghost use Rattle.wast_spaces.specs.Joins.{spaces_behind, type_fields};
@@ -66,8 +65,8 @@ impl<'a> Resolver<'a> {
     }
 }
 
-/// The fields with numbers for indices, and what their names mean (6.1.3). Each use that needs a type has one, as in what
-/// `types::expand` answers.
+/// The fields with numbers for indices, nothing else of them changed, and what their names mean (6.1.3). Types that uses imply have
+/// their numbers, behind those that are written, but are not added: that is done by `types::expand`.
 ///
 /// Refuses fields of which a demand of names isn't met, by the first, with its place and message; else only where no memory is found, or
 /// there are more than 4294967295 items of a kind or blocks inside each other. The fields are gone then.
@@ -76,7 +75,7 @@ pub fn resolve<'a>(
     fields: Vec<ModuleField<'a>>,
 ) -> Result<(Vec<ModuleField<'a>>, Resolver<'a>), Error>
     ensures answers { Answers result (demands same_name (map field_tree fields.entry.items)) }
-    ensures numbered { implied same_name (map field_tree fields.entry.items) ≡ [] → IfOk result (λ r. map field_tree r.0.items ≡ numbered same_name (map field_tree fields.entry.items)) }
+    ensures numbered { IfOk result (λ r. map field_tree r.0.items ≡ numbered same_name (map field_tree fields.entry.items)) }
     ensures names { IfOk result (λ r. Means (resolver_spaces r.1) (map field_tree fields.entry.items)) }
 {
     match by_value(&Numbers { alloc }, &mut (), fields) {
@@ -107,7 +106,7 @@ impl<'a> InPlace<Vec<ModuleField<'a>>> for Numbers {
 
     ghost refused = { λ w s old e. Refuses (demands same_name (map field_tree old.items)) e };
 
-    ghost leaves = { λ s after. Unit {0} };
+    ghost leaves = { λ s old after. Unit {0} };
 
     fn run(
         &self,
@@ -124,7 +123,7 @@ pub(crate) fn resolve_in_place<'a>(
     fields: &mut Vec<ModuleField<'a>>,
 ) -> Result<Resolver<'a>, Error>
     ensures answers { Answers result (demands same_name (map field_tree fields.old.items)) }
-    ensures numbered { implied same_name (map field_tree fields.old.items) ≡ [] → OnOk result (map field_tree fields.new.items ≡ numbered same_name (map field_tree fields.old.items)) }
+    ensures numbered { OnOk result (map field_tree fields.new.items ≡ numbered same_name (map field_tree fields.old.items)) }
     ensures names { IfOk result (λ r. Means (resolver_spaces r) (map field_tree fields.old.items)) }
 {
     match check_names(alloc, fields) {
@@ -137,7 +136,7 @@ pub(crate) fn resolve_in_place<'a>(
 fn number_met<'a>(alloc: Global, fields: &mut Vec<ModuleField<'a>>) -> Result<Resolver<'a>, Error>
     requires { first_unmet is_met (demands same_name (map field_tree fields.old.items)) ≡ None }
     ensures answers { Answers result (demands same_name (map field_tree fields.old.items)) }
-    ensures numbered { implied same_name (map field_tree fields.old.items) ≡ [] → OnOk result (map field_tree fields.new.items ≡ numbered same_name (map field_tree fields.old.items)) }
+    ensures numbered { OnOk result (map field_tree fields.new.items ≡ numbered same_name (map field_tree fields.old.items)) }
     ensures names { IfOk result (λ r. Means (resolver_spaces r) (map field_tree fields.old.items)) }
 {
     match Spaces::of(alloc, fields) {
@@ -156,7 +155,7 @@ fn number_with<'a>(
     requires spaces { spaces_of spaces ≡ spaces_behind (λ t. names.empty) (flat_map items (map field_tree fields.old.items)) }
     requires fields { fields_of_types spaces ≡ type_fields (flat_map items (map field_tree fields.old.items)) }
     ensures answers { Answers result (demands same_name (map field_tree fields.old.items)) }
-    ensures numbered { implied same_name (map field_tree fields.old.items) ≡ [] → OnOk result (map field_tree fields.new.items ≡ numbered same_name (map field_tree fields.old.items)) }
+    ensures numbered { OnOk result (map field_tree fields.new.items ≡ numbered same_name (map field_tree fields.old.items)) }
     ensures names { IfOk result (λ r. Means (resolver_spaces r) (map field_tree fields.old.items)) }
 {
     match number_fields(alloc, fields, &spaces) {

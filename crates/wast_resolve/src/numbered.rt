@@ -23,9 +23,9 @@ use wast_deinline::deinline_import_export::discard;
 use wast_meaning::Space;
 use wast_spaces::Spaces;
 
-/// Makes the indices of fields numbers, where these spaces tell their items and all uses have their types. Fails only for want of memory,
-/// or where a function has more than 4294967294 parameters and locals, or so many blocks are open at a place, which is told as that; the
-/// fields are gone then.
+/// Makes the indices of fields numbers, where these spaces tell their items. Fails only for want of memory, or where there are more than
+/// 4294967295 types, a function has more than 4294967294 parameters and locals, or so many blocks are open at a place, which is told as
+/// that; the fields are gone then.
 pub(crate) fn number_fields<'a>(
     alloc: Global,
     fields: &mut Vec<ModuleField<'a>>,

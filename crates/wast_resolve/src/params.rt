@@ -1,20 +1,34 @@
 //! How many parameters types have.
 ghost use Rattle.std.specs.Prelude.{◌≡◌, [], ◌∷◌, ◌++◌, false, true, IfOk, OnOk, map, length};
 ghost use Rattle.std.specs.List.{flat_map};
+ghost use Rattle.wast_grammar.specs.Spelling.{same_name};
 ghost use Rattle.wast_core_types.specs.TypeViews.{inner_tree, item_tree};
 ghost use Rattle.wast_core.specs.ModuleViews.{field_tree};
-ghost use Rattle.wast_meaning.specs.Implied.{written_types};
-ghost use Rattle.wast_resolve.specs.Params.{inner_count, param_count};
+ghost use Rattle.wast_meaning.specs.Implied.{implied, written_types};
+ghost use Rattle.wast_implied.specs.Views.{implied_tree};
+ghost use Rattle.wast_resolve.specs.Params as spec;
+ghost use Rattle.wast_resolve.specs.Params.{implied_count, inner_count, param_count};
 
 use std::alloc::{AllocError, Global};
 use wast_core::{ModuleField, TypeItem};
 use wast_core_types::InnerTypeKind;
+use wast_implied::{Implied, ImpliedType};
 
-/// Those of the types that fields write, in order; one that is no function type has none. Fails only for want of memory.
+/// Those of the types of fields by their numbers: of those that are written, and then of those that uses imply; one that is no function
+/// type has none. Fails only where no memory is found, or there are more than 4294967295 types, which is told as that.
 pub(crate) fn param_counts<'a>(
     alloc: Global,
     fields: &[ModuleField<'a>],
 ) -> Result<Vec<usize>, AllocError>
+    ensures { IfOk result (λ counts. counts.items ≡ spec.param_counts (map field_tree fields.now)) }
+{
+    let mut counts = written_counts(alloc, fields)?;
+    count_implied(alloc, fields, &mut counts)?;
+    Ok(counts)
+}
+
+/// Those of the types that fields write, in order. Fails only for want of memory.
+fn written_counts<'a>(alloc: Global, fields: &[ModuleField<'a>]) -> Result<Vec<usize>, AllocError>
     ensures { IfOk result (λ counts. counts.items ≡ map param_count (flat_map written_types (map field_tree fields.now))) }
 {
     let mut counts = Vec::new(alloc);
@@ -25,6 +39,33 @@ pub(crate) fn param_counts<'a>(
         }
     }
     Ok(counts)
+}
+
+/// Appends those of the types that uses imply.
+fn count_implied<'a>(
+    alloc: Global,
+    fields: &[ModuleField<'a>],
+    counts: &mut Vec<usize>,
+) -> Result<(), AllocError>
+    ensures { OnOk result (counts.new.items ≡ counts.old.items ++ map implied_count (implied same_name (map field_tree fields.now))) }
+{
+    match Implied::of(alloc, fields) {
+        Ok(implied) => count_signatures(implied.types(), counts),
+        Err(e) => Err(e),
+    }
+}
+
+/// Appends those of implied types.
+fn count_signatures(types: &[ImpliedType<'_>], counts: &mut Vec<usize>) -> Result<(), AllocError>
+    ensures { OnOk result (counts.new.items ≡ counts.old.items ++ map implied_count (map implied_tree types.now)) }
+{
+    for ty in types {
+        match counts.push(ty.signature.params.len()) {
+            Ok(()) => {}
+            Err(e) => return Err(e),
+        }
+    }
+    Ok(())
 }
 
 /// Appends those of a field.

@@ -1,5 +1,5 @@
 //! Whole lists of fields, resolved.
-ghost use Rattle.std.specs.Prelude.{◌≡◌, ◌+◌, ◌^◌, ◌<◌, ◌≤◌, [], None, map, length, IfOk, OnErr, OnOk};
+ghost use Rattle.std.specs.Prelude.{◌≡◌, ◌+◌, ◌^◌, ◌<◌, ◌≤◌, None, map, length, IfOk, OnErr, OnOk};
 ghost use Rattle.wasm_encoder_base.specs.Table.{Functions, Globals, Memories, Tables};
 ghost use Rattle.wast_grammar.specs.Spelling.{same_name};
 ghost use Rattle.wast_parser.specs.Identifiers.{index_tree};
@@ -7,7 +7,6 @@ ghost use Rattle.wast_core.specs.ModuleViews.{field_tree};
 ghost use Rattle.wast_names.specs.Demand.{Answers, Refuses};
 ghost use Rattle.wast_names.specs.Space.{known, number_of, resolved};
 ghost use Rattle.wast_meaning.specs.Demands.{demands};
-ghost use Rattle.wast_meaning.specs.Implied.{implied};
 ghost use Rattle.wast_meaning.specs.Numbered.{expanded, numbered};
 ghost use Rattle.wast_meaning.specs.Spaces.{space_word};
 ghost use Rattle.wast_resolve.specs.Resolving.{Means, ns_space, resolver_spaces};
@@ -90,7 +89,8 @@ impl<'a> Names<'a> {
 /// field that is referred to and has no name takes the next one of `gensym`, and there is room for one a field.
 ///
 /// Refuses fields of which, written out, a demand of names isn't met, by the first, with its place and message; else only where no memory
-/// is found, or there are more than 4294967295 items of a kind or blocks inside each other. The fields are gone then.
+/// is found, or there are more than 4294967295 items of a kind or blocks inside each other. The fields are gone then, and names may have been
+/// taken.
 pub fn resolve<'a>(
     alloc: Global,
     fields: Vec<ModuleField<'a>>,
@@ -102,6 +102,7 @@ pub fn resolve<'a>(
     ensures names { IfOk result (λ r. Means (names_spaces r.1) (written_by gensym.old (map field_tree fields.entry.items))) }
     ensures counted { OnOk result (gensym.new ≡ counter_after gensym.old (map field_tree fields.entry.items)) }
     ensures rises { gensym.old ≤ gensym.new }
+    ensures bounded { gensym.new ≤ counter_after gensym.old (map field_tree fields.entry.items) }
 {
     match by_value(&Resolves { alloc }, gensym, fields) {
         (fields, Ok(names)) => Ok((fields, names)),
@@ -131,7 +132,7 @@ impl<'a> InPlace<Vec<ModuleField<'a>>> for Resolves {
 
     ghost refused = { λ w s old e. Refuses (demands_by s (map field_tree old.items)) e };
 
-    ghost leaves = { λ s after. s ≤ after };
+    ghost leaves = { λ s old after. (s ≤ after) × (after ≤ counter_after s (map field_tree old.items)) };
 
     fn run(
         &self,
@@ -154,6 +155,7 @@ pub(crate) fn resolve_in_place<'a>(
     ensures names { IfOk result (λ n. Means (names_spaces n) (written_by gensym.old (map field_tree fields.old.items))) }
     ensures counted { OnOk result (gensym.new ≡ counter_after gensym.old (map field_tree fields.old.items)) }
     ensures rises { gensym.old ≤ gensym.new }
+    ensures bounded { gensym.new ≤ counter_after gensym.old (map field_tree fields.old.items) }
 {
     match expand_written(alloc, fields, gensym) {
         Ok(()) => number_expanded(alloc, fields),
@@ -171,6 +173,7 @@ fn expand_written<'a>(
     ensures expanded { OnOk result (map field_tree fields.new.items ≡ expanded same_name (written_by gensym.old (map field_tree fields.old.items))) }
     ensures counted { OnOk result (gensym.new ≡ counter_after gensym.old (map field_tree fields.old.items)) }
     ensures rises { gensym.old ≤ gensym.new }
+    ensures bounded { gensym.new ≤ counter_after gensym.old (map field_tree fields.old.items) }
 {
     match run_in_place(alloc, fields, gensym) {
         Ok(()) => expand_in_place(alloc, fields),
@@ -178,10 +181,10 @@ fn expand_written<'a>(
     }
 }
 
-/// Makes the indices of fields whose uses have their types numbers.
+/// Makes the indices of fields numbers.
 fn number_expanded<'a>(alloc: Global, fields: &mut Vec<ModuleField<'a>>) -> Result<Names<'a>, Error>
     ensures answers { Answers result (demands same_name (map field_tree fields.old.items)) }
-    ensures numbered { implied same_name (map field_tree fields.old.items) ≡ [] → OnOk result (map field_tree fields.new.items ≡ numbered same_name (map field_tree fields.old.items)) }
+    ensures numbered { OnOk result (map field_tree fields.new.items ≡ numbered same_name (map field_tree fields.old.items)) }
     ensures names { IfOk result (λ n. Means (names_spaces n) (map field_tree fields.old.items)) }
 {
     match names::resolve_in_place(alloc, fields) {

@@ -25,8 +25,7 @@ use Rattle.wast_meaning.specs.Scope.{space_count, index_space, scope_of}
 use Rattle.wast_meaning.specs.Numbered.{with_types, implied_field, expanded}
 use Rattle.wast_meaning.proofs.Settled.{left, right, two, front, back}
 use Rattle.wast_meaning.proofs.SettledFields.{said_parts}
-use Rattle.wast_meaning.proofs.Settles.{is_typed}
-use Rattle.wast_meaning.proofs.SettlesFields.{are_typed}
+use Rattle.wast_meaning.specs.Settled.{is_typed, are_typed}
 use Rattle.wast_meaning.proofs.Taken.{taken_in, types_after, types_with, types_so, taken_so, plain_types, implied_so}
 use Rattle.wast_resolve_laws.proofs.Kept.{items_kept, written_changed, written_types_kept}
 use Rattle.wast_resolve_laws.proofs.Taking.{all_same, both, all_taking, type_same, field_typed, sig_holds, no_sigs}
@@ -142,7 +141,7 @@ module _ {N P : Type 0} (eq : N → N → Bool) where
       ∙ map-append sig_of_type (flat_map written_types fs) (flat_map written_types (map implied_field (implied eq fs)))
       ∙ ap (λ l. sigs fs ++ l) (sigs_of_implied (implied eq fs))
 
-  pub typed_implies_none : (fs : List (Field N P)) → are_typed eq fs ≡ true → implied eq fs ≡ []
+  pub typed_implies_none : (fs : List (Field N P)) → are_typed fs ≡ true → implied eq fs ≡ []
   typed_implies_none fs h = ap (λ us. implied_by eq (filter_map plain_sig (flat_map written_types fs)) us) (no_uses fs h)
 
   -- WHAT NAMES MEAN
@@ -257,7 +256,7 @@ module _ {N P : Type 0} (eq : N → N → Bool) where
     all_there fs =
         ap (λ is. list_all (there (taken_in eq (plain_types eq fs ++ map implied_sig is))) (flat_map used_sigs fs)) (implied_so eq fs) ∙ there_so (plain_types eq fs) (flat_map used_sigs fs)
 
-    pub expanded_typed : (fs : List (Field N P)) → are_typed eq (expanded eq fs) ≡ true
+    pub expanded_typed : (fs : List (Field N P)) → are_typed (expanded eq fs) ≡ true
     expanded_typed fs = both own_typed (taking_all (type_taken eq fs) fs) (map implied_field (implied eq fs)) (taken_typed (type_taken eq fs) fs (all_there fs)) (implied_typed (implied eq fs))
 
     pub expanded_implies_none : (fs : List (Field N P)) → implied eq (expanded eq fs) ≡ []

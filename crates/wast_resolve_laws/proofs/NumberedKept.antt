@@ -24,11 +24,9 @@ use Rattle.wast_meaning.specs.Scope.{Scope, space_count, index_space, scope_of, 
 use Rattle.wast_meaning.specs.Demands.{nearest, order_demand, order_demands, item_demands, same_numbered, agrees, agreement, agreements, says_demands, use_demands, mention_demands, instrs_demands, func_demands, part_demands, field_demands, demands}
 use Rattle.wast_meaning.specs.Changed.{Change, Changes, heap_changed, val_changed, local_changed, sig_changed, instr_changed, instrs_changed, func_changed, field_changed}
 use Rattle.wast_meaning.specs.Numbered.{numbering, numberings, numbered}
-use Rattle.wast_meaning.specs.Settled.{is_number, is_settled}
+use Rattle.wast_meaning.specs.Settled.{is_number, is_settled, is_typed, are_typed}
 use Rattle.wast_meaning.proofs.Settled.{left, right, two, front, back}
 use Rattle.wast_meaning.proofs.Settles as settles
-use Rattle.wast_meaning.proofs.Settles.{is_typed}
-use Rattle.wast_meaning.proofs.SettlesFields.{are_typed}
 use Rattle.wast_resolve_laws.proofs.Changes as changes
 use Rattle.wast_resolve_laws.proofs.Changes.{mention_changed, part_changed, parts_so}
 use Rattle.wast_resolve_laws.proofs.Kept.{inner_sig, items_kept, order_kept, nearest_kept, written_changed, written_types_kept, SameLabels, labels_more, scope_at_kept}
@@ -303,13 +301,13 @@ module _ {N P : Type 0} (eq : N → N → Bool) (d : Change N P) where
       list_all is_met (field_demands eq (rescoped d s) (field_changed (numberings eq s) f)) ≡ true
   field_so s numbers f e t = ap (λ xs. list_all is_met (flat_map (part_demands eq (rescoped d s)) xs)) (parts_so (numberings eq s) f) ∙ all_parts s numbers (parts f) e t
 
-  fields_so : (s : Scope N P) → Numbers s → (fs : List (Field N P)) → list_all is_met (flat_map (field_demands eq s) fs) ≡ true → are_typed eq fs ≡ true →
+  fields_so : (s : Scope N P) → Numbers s → (fs : List (Field N P)) → list_all is_met (flat_map (field_demands eq s) fs) ≡ true → are_typed fs ≡ true →
       list_all is_met (flat_map (field_demands eq (rescoped d s)) (map (field_changed (numberings eq s)) fs)) ≡ true
   fields_so s numbers [] e t = refl
   fields_so s numbers (f ∷ fs) e t =
       both is_met (field_demands eq (rescoped d s) (field_changed (numberings eq s) f)) (flat_map (field_demands eq (rescoped d s)) (map (field_changed (numberings eq s)) fs))
-      (field_so s numbers f (front is_met (field_demands eq s f) (flat_map (field_demands eq s) fs) e) (left (list_all is_typed (field_mentions f)) (are_typed eq fs) t))
-      (fields_so s numbers fs (back is_met (field_demands eq s f) (flat_map (field_demands eq s) fs) e) (right (list_all is_typed (field_mentions f)) (are_typed eq fs) t))
+      (field_so s numbers f (front is_met (field_demands eq s f) (flat_map (field_demands eq s) fs) e) (left (list_all is_typed (field_mentions f)) (are_typed fs) t))
+      (fields_so s numbers fs (back is_met (field_demands eq s f) (flat_map (field_demands eq s) fs) e) (right (list_all is_typed (field_mentions f)) (are_typed fs) t))
 
 -- ITEMS, ORDER AND TYPES, whatever the change
 module _ {N P : Type 0} (cs : Changes N P) where
@@ -337,7 +335,7 @@ module _ {N P : Type 0} (cs : Changes N P) where
   joined_option None = refl
   joined_option (Some x) = refl
 
-module _ {N P : Type 0} (eq : N → N → Bool) (fs : List (Field N P)) (met : first_unmet is_met (demands eq fs) ≡ None) (typed : are_typed eq fs ≡ true) (again : implied eq (numbered eq fs) ≡ []) where
+module _ {N P : Type 0} (eq : N → N → Bool) (fs : List (Field N P)) (met : first_unmet is_met (demands eq fs) ≡ None) (typed : are_typed fs ≡ true) (again : implied eq (numbered eq fs) ≡ []) where
   abbrev s : Scope N P
   s = scope_of eq fs
 

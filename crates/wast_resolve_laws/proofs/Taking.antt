@@ -18,7 +18,7 @@ use Rattle.wast_meaning.specs.Implied.{no_sig, is_short, sig_of_mention}
 use Rattle.wast_meaning.specs.Changed.{Changes, heap_changed, ref_changed, val_changed, storage_changed, field_type_changed, local_changed, sig_changed, inner_changed, type_changed, instr_changed, instrs_changed}
 use Rattle.wast_meaning.specs.Numbered.{taken_unless_short, taking, with_types}
 use Rattle.wast_meaning.proofs.Settled.{left, right, two, front, back}
-use Rattle.wast_meaning.proofs.Settles.{is_typed}
+use Rattle.wast_meaning.specs.Settled.{is_typed}
 use Rattle.wast_resolve_laws.proofs.Changes.{mention_changed, part_changed, locals_so, instr_so, parts_so}
 
 pub all_same : {A : Type 0} (h : A → A) → ((x : A) → h x ≡ x) → (xs : List A) → map h xs ≡ xs

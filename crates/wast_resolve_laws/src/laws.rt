@@ -3,7 +3,7 @@
 //! Fields are *expanded* where each use of a type without an index has the number of the type that it takes, and the implied types stand
 //! behind all fields (WebAssembly Core Specification 3.0, 6.6.3: abbreviations).
 
-ghost use Rattle.wast_resolve_laws.specs.Laws.{DemandsKept, FieldsKept, LabelsHandedOn, NamingsAlike, NothingImplied, OrdersAgree, RenamedDemands, RenamedNumbers, ResolvedAgain, ResolvedMet, ResolvedSettled, ScopeKept, SignaturesKept, SpacesApart, SpacesKept, TestedOnTheWay, TypesTaken, WrittenDemands, WrittenNames, WrittenSignatures};
+ghost use Rattle.wast_resolve_laws.specs.Laws.{DemandsKept, FieldsKept, LabelsHandedOn, NamingsAlike, NothingImplied, NumberedSettled, OrdersAgree, RenamedDemands, RenamedNumbers, ResolvedAgain, ResolvedMet, ResolvedSettled, ScopeKept, SignaturesKept, SpacesApart, SpacesKept, TestedOnTheWay, TypesTaken, WrittenDemands, WrittenNames, WrittenSignatures};
 
 /// A name means the same item of a space before and after fields are expanded: the types behind them have no names.
 pub fn spaces_kept()
@@ -75,6 +75,11 @@ pub fn resolved_settled()
 /// Where fields keep to all demands on names, what they are resolved to is resolved to itself, whatever names are made.
 pub fn resolved_again()
     ensures { ResolvedAgain }
+{}
+
+/// Where fields keep to all demands on names and each use that needs a type has one, numbering leaves numbers alone.
+pub fn numbered_settled()
+    ensures { NumberedSettled }
 {}
 
 /// Fields whose names and places are replaced, one to one, have the same demands, renamed: the same are met, and the first that isn't

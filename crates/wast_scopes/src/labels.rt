@@ -54,9 +54,11 @@ impl<'a> Labels<'a> {
         }
     }
 
-    /// One more block is open, with this label or none. Fails only where no memory is found, or 4294967295 blocks are open.
+    /// One more block is open, with this label or none. Fails only where no memory is found, or 4294967295 blocks are open; nothing
+    /// changes then.
     pub fn open(&mut self, label: &Option<Id<'a>>) -> Result<(), AllocError>
-        ensures { OnOk result (self.new ≡ option_map identifier_tree label.now ∷ self.old) }
+        ensures opened { OnOk result (self.new ≡ option_map identifier_tree label.now ∷ self.old) }
+        ensures refused { OnErr result (self.new ≡ self.old) }
     {
         let level = match u32::try_from(self.blocks.len()) {
             Ok(level) if level < u32::MAX => level,

@@ -74,7 +74,7 @@ impl<'a> Place<'_, '_, 'a> {
     {
         match self.look(space, id) {
             Some(_) => Ok(()),
-            None => Err(resolve_error(self.scope.alloc, id, word_of(space))),
+            None => Err(resolve_error(self.scope.alloc, id, space.word())),
         }
     }
 
@@ -199,24 +199,5 @@ fn label_mismatch(alloc: Global, place: Span) -> Error
     match String::from_str(alloc, "mismatching labels between end and block") {
         Ok(text) => Error::new(place, text),
         Err(e) => Error::from(e),
-    }
-}
-
-/// What an item of a space is called in messages.
-fn word_of(space: Space) -> &'static str
-    ensures { result.now ≡ space_word (space_view space) }
-{
-    match space {
-        Space::Labels => "label",
-        Space::Locals => "local",
-        Space::Functions => "func",
-        Space::Types => "type",
-        Space::Tables => "table",
-        Space::Memories => "memory",
-        Space::Globals => "global",
-        Space::Tags => "tag",
-        Space::Datas => "data",
-        Space::Elems => "elem",
-        Space::Fields => "field",
     }
 }

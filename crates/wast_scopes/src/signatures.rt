@@ -1,5 +1,5 @@
 //! The function types of a module by number.
-ghost use Rattle.std.specs.Prelude.{◌≡◌, ◌++◌, true, [], ◌∷◌, length, List, Option, Some, None, map, IfOk, OnOk, option_map};
+ghost use Rattle.std.specs.Prelude.{◌≡◌, ◌++◌, true, [], ◌∷◌, List, Option, Some, None, map, IfOk, OnOk, option_map};
 ghost use Rattle.std.specs.List.{flat_map};
 ghost use Rattle.wasm_encoder_base.specs.Table as table;
 ghost use Rattle.wast_core_types.specs.TypeViews.{item_tree, sig_tree};
@@ -8,7 +8,7 @@ ghost use Rattle.wast_meaning.specs.Implied.{func_sig, written_types};
 ghost use Rattle.wast_names.specs.Views.{space};
 ghost use Rattle.wast_spaces.specs.Views.{spaces_of};
 ghost use Rattle.wast_implied.specs.Views.{implied_tree, known};
-ghost use Rattle.wast_scopes.specs.Numbered.{numbered_sig, params_in, same_sig_by};
+ghost use Rattle.wast_scopes.specs.Numbered.{numbered_sig, same_sig_by};
 ghost use Rattle.wast_scopes.specs.NumberedViews.{sig_of_numbered};
 ghost use Rattle.wast_scopes.specs.Signatures.{Adds, func_type, sig_in, signatures};
 
@@ -72,16 +72,6 @@ impl Signatures {
     {
         self.add_implied(alloc, implied.types(), types)?;
         Ok(self)
-    }
-
-    /// How many parameters the function type with this number has; none where there is no such type.
-    pub fn params_len(&self, number: u32) -> usize
-        ensures { result ≡ length (params_in (sig_in (signatures self.now) number)) }
-    {
-        match self.get(number) {
-            Some(signature) => signature.params.len(),
-            None => 0,
-        }
     }
 
     /// Whether a signature is that of the function type with this number, where names mean what they do in this space of types. Where there

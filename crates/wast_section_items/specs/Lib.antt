@@ -1,3 +1,4 @@
+pub mod Anchored
 pub mod Appends
 pub mod Fits
 pub mod Parts

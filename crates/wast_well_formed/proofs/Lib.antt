@@ -1,4 +1,3 @@
 pub mod Formed
 pub mod Powers
 pub mod Turns
-pub mod Written

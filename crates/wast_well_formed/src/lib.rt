@@ -9,15 +9,13 @@
 //! - a memory with its segment inline has pages of 2 to a power below 64 bytes;
 //! - no start function stands before it where it is one.
 //!
-//! [`field_formed`] tells whether one field is so, and [`first_breach`] where the first stands that isn't. Nothing is changed, no
-//! memory is taken, and no name is looked up: that names that are made up are bound is left to others. A text makes up no name, so
-//! [`first_breach_written`] tells of a module that one spells all that it must keep to.
+//! [`field_formed`] tells whether one field is so. Nothing is changed, no memory is taken, and no name is looked up: that names that are
+//! made up are bound is left to others.
 //!
 //! # What has to be believed
 //!
 //! | File of `specs/` | Says |
 //! |---|---|
-//! | `Breaches` | the places of the fields that aren't so, and of a text the first that breaches what it must keep to |
 //! | `Views` | which turn of the definitions a [`Turn`] is |
 //!
 //! What a field keeps to is the definitions' own, those of `wast_meaning`'s file `WellFormed`.
@@ -31,5 +29,5 @@ mod turn;
 
 pub use alignment::is_aligned;
 pub use expression::{is_formed, is_formed_constant};
-pub use field::{field_formed, first_breach, first_breach_written};
+pub use field::field_formed;
 pub use turn::Turn;

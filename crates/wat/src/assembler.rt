@@ -7,7 +7,7 @@ ghost use Rattle.wast_parser.specs.Table.{IsTable};
 ghost use Rattle.wast_meaning.specs.Modules.{content_fields};
 ghost use Rattle.wast_resolve.specs.Whole.{counter_after, module_by};
 ghost use Rattle.wast_encode.specs.Encoded as encoded;
-ghost use Rattle.wast_encode.specs.Encoded.{IsRefusedFor, LeavesFor};
+ghost use Rattle.wast_encode.specs.Encoded.{CountsFor, IsRefusedFor, LeavesFor};
 ghost use Rattle.wat_verdict.specs.Verdict.{Assembles, Fails, TooLong, NotUtf8, tree_breach};
 ghost use Rattle.wat.specs.Headline.{Deserves};
 ghost use Rattle.wat.specs.NoText.{IsNoText};
@@ -50,15 +50,15 @@ pub fn assemble(alloc: Global, input: &[u8]) -> Result<Vec<u8>, Fault>
 
 /// The binary of a text that is read, as [`EncodeOptions::encode_module`] makes that of a module, which it answers and leaves: the text is resolved then,
 /// also where it is refused for what comes behind its demands of names, or it keeps why it was refused. The text is well formed, and there is room for a name
-/// of `gensym` for each of its fields.
+/// of `gensym` for each of its fields; of one that was refused before nothing is asked.
 pub fn encode_wat(
     alloc: Global,
     options: &EncodeOptions,
     wat: &mut Wat<'_>,
     gensym: &mut Gensym,
 ) -> Result<Vec<u8>, EncodeFault>
-    requires formed { tree_breach (wat_tree wat.old) ≡ None }
-    requires room { gensym.old + length (content_fields (wat_tree wat.old).content) < 2 ^ 32 }
+    requires formed { (wat_tree wat.old).refusal ≡ None → tree_breach (wat_tree wat.old) ≡ None }
+    requires room { (wat_tree wat.old).refusal ≡ None → gensym.old + length (content_fields (wat_tree wat.old).content) < 2 ^ 32 }
     ensures binary { IfOk result (λ binary. encoded.IsBinaryOf gensym.old (wat_tree wat.old) (wat_tree wat.old).content binary.items) }
     ensures fault { (wat_tree wat.old).refusal ≡ None → IfErr result (encoded.Deserves gensym.old (wat_tree wat.old)) }
     ensures resolved { OnOk result (((wat_tree wat.old).refusal ≡ None) × (wat_tree wat.new ≡ module_by gensym.old (wat_tree wat.old))) }
@@ -66,7 +66,10 @@ pub fn encode_wat(
     ensures refused { (why : Problem) → (wat_tree wat.old).refusal ≡ Some why → IfErr result (IsRefusedFor why) }
     ensures kept { (why : Problem) → (wat_tree wat.old).refusal ≡ Some why → wat_tree wat.new ≡ wat_tree wat.old }
     ensures counted { OnOk result (gensym.new ≡ counter_after gensym.old (content_fields (wat_tree wat.old).content)) }
+    ensures reached { IfErr result (CountsFor gensym.old (wat_tree wat.old) gensym.new) }
     ensures rises { gensym.old ≤ gensym.new }
+    ensures bounded { gensym.new ≤ counter_after gensym.old (content_fields (wat_tree wat.old).content) }
+    ensures uncounted { (why : Problem) → (wat_tree wat.old).refusal ≡ Some why → gensym.new ≡ gensym.old }
 {
     match wat {
         Wat::Module(module) => options.encode_module(alloc, module, gensym),

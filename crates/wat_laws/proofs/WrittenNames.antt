@@ -13,11 +13,10 @@ use Rattle.wast_parser.specs.Identifiers.{Named}
 use Rattle.wast_fields.specs.FieldTree.{Defined, Imported, Func, Table, TableOf, Memory, MemoryOf, Global, Tag, Field, TypeField, RecField, ImportField, Define, ExportField, StartField, ElemField, DataField, CustomField}
 use Rattle.wast_meaning.specs.Written.{definition_out, field_out, written_from, written_out, takes_name, by_counter}
 use Rattle.wast_meaning.specs.Fresh.{taken_from, are_distinct, are_new}
-use Rattle.wast_meaning.specs.Made.{made}
+use Rattle.wast_meaning.specs.Made.{made, is_made}
 use Rattle.wast_meaning.proofs.Counter.{counted, counted_out}
 use Rattle.wast_meaning.proofs.Settled.{left, right, two}
 use Rattle.wast_resolve_laws.proofs.RenamedFields.{names_kept}
-use Rattle.wast_meant.specs.Means.{is_made}
 use Rattle.wat_verdict.proofs.Placed.{AreRead, IsRead}
 use Rattle.wat_verdict.proofs.Free.{Known, Kept, free}
 use Rattle.wat_verdict.proofs.Told.{told}

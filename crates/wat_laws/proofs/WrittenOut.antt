@@ -19,7 +19,7 @@ use Rattle.wast_meaning.specs.WellFormed.{breaches, first_breach}
 use Rattle.wast_meaning.specs.Modules.{content_fields}
 use Rattle.wast_meaning.specs.Numbered.{expanded, numbered, resolved}
 use Rattle.wast_meaning.specs.Fresh.{field_names, taken_from, are_distinct, are_new}
-use Rattle.wast_meaning.specs.Made.{made}
+use Rattle.wast_meaning.specs.Made.{made, is_made}
 use Rattle.wast_meaning.proofs.Settled.{left, two, back}
 use Rattle.wast_resolve_laws.proofs.Names.{name_self, name_sound}
 use Rattle.wast_resolve_laws.proofs.Plain.{stands_alone, is_plain, written_plain, plain_stays}
@@ -32,7 +32,7 @@ use Rattle.wast_conversions.specs.Covered.{Form}
 use Rattle.wast_meant.specs.Binary.{bytes_of, module_with, in_bytes}
 use Rattle.wast_meant.specs.Covered.{first_form, uncovered}
 use Rattle.wast_meant.specs.Meaning.{meant}
-use Rattle.wast_meant.specs.Means.{is_made, Worth, Stands, IsWorth}
+use Rattle.wast_meant.specs.Means.{Worth, Stands, IsWorth}
 use Rattle.wast_meant.specs.NamesMeant.{GivenName, given_name}
 use Rattle.wast_meant_laws.proofs.Bare.{bare_with, names_apart}
 use Rattle.wat_verdict.specs.Registered.{registered}

@@ -15,7 +15,7 @@ use Rattle.wast_grammar.proofs.Extend.{extend}
 use Rattle.wast_names.specs.Demand.{Complaint, Demand}
 use Rattle.wast_fields.specs.FieldTree.{Content, Fields, Module}
 use Rattle.wast_fields.specs.FieldTree as fields
-use Rattle.wast_meaning.specs.Made.{made}
+use Rattle.wast_meaning.specs.Made.{made, is_made}
 use Rattle.wast_meaning.specs.Numbered.{resolved}
 use Rattle.wast_core.specs.ModuleSyntax.{wat}
 use Rattle.wast_meant.specs.Meaning.{meant}
@@ -25,7 +25,7 @@ use Rattle.wasm_layout.specs.Lays.{bare, last_joined, no_names}
 use Rattle.wasm_layout.specs.Section.{Names}
 use Rattle.wast_conversions.specs.Covered.{Form}
 use Rattle.wast_meant.specs.Binary.{bytes_of, module_with}
-use Rattle.wast_meant.specs.Means.{is_made, Worth, Stands, Pieces}
+use Rattle.wast_meant.specs.Means.{Worth, Stands, Pieces}
 use Rattle.wast_meant.specs.Plain.{IsPlainContent}
 use Rattle.wast_meant.specs.NamesMeant.{GivenName, Identifier, Bytes, given_name}
 use Rattle.wast_meant.proofs.Renamed.{same_sections}

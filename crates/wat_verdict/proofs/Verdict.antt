@@ -21,7 +21,8 @@ use Rattle.wast_meant.specs.Covered.{uncovered}
 use Rattle.wast_meant.specs.NamesMeant.{GivenName, given_name}
 use Rattle.wast_meant.specs.Meaning.{meant, FieldsMean, ContentMeans}
 use Rattle.wast_meant.specs.Binary.{in_bytes}
-use Rattle.wast_meant.specs.Means.{is_made, naming_of, Worth, Stands, Pieces, IsWorth}
+use Rattle.wast_meaning.specs.Made.{is_made}
+use Rattle.wast_meant.specs.Means.{naming_of, Worth, Stands, Pieces, IsWorth}
 use Rattle.wast_meant.proofs.OneMeaning as trees
 use Rattle.wat_verdict.specs.Spells.{Spells}
 use Rattle.wat_verdict.specs.Naming.{naming, unmet_demand}

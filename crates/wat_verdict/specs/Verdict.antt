@@ -11,7 +11,8 @@ use Rattle.wasm_layout.specs.AbstractModule.{AbstractModule}
 use Rattle.wasm_layout.specs.Lays.{Fits, Lays, Reads}
 use Rattle.wast_conversions.specs.Covered.{Form}
 use Rattle.wast_meant.specs.Covered.{uncovered}
-use Rattle.wast_meant.specs.Means.{is_made, naming_of, Worth, Stands, Pieces, IsWorth}
+use Rattle.wast_meaning.specs.Made.{is_made}
+use Rattle.wast_meant.specs.Means.{naming_of, Worth, Stands, Pieces, IsWorth}
 use Rattle.wast_meant.specs.Plain.{IsPlain}
 use Rattle.wat_verdict.specs.Spells.{Spells}
 use Rattle.wat_verdict.specs.Naming.{unmet_demand}

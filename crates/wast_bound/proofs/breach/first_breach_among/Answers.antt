@@ -5,7 +5,7 @@ use Rattle.wast_names.specs.Walk.{walked}
 use Rattle.wast_core.specs.ModuleViews.{field_tree}
 use Rattle.wast_meaning.specs.Scope.{scope_of}
 use Rattle.wast_meaning.specs.WellFormed.{breach}
-use Rattle.wast_bound.specs.Bound.{is_made}
+use Rattle.wast_meaning.specs.Made.{is_made}
 use Rattle.wast_bound.proofs.breach.first_breach_among.Goals as goal
 
 pub returns : goal.returns

@@ -1,6 +1,6 @@
 use Rattle.wast_grammar.specs.Spelling.{same_name}
 use Rattle.wast_resolve_laws.proofs.RenamedFields.{names_kept}
-use Rattle.wast_meant.specs.Means.{is_made}
+use Rattle.wast_meaning.specs.Made.{is_made}
 use Rattle.wast_meant_laws.proofs.Renamed as of_fields
 use Rattle.wast_meant_laws.proofs.Trees as of_trees
 use Rattle.wast_meant_laws.proofs.laws.renamed_meaning.Goals as goal

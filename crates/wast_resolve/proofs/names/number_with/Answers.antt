@@ -4,7 +4,7 @@ use Rattle.wast_resolve.proofs.Telling.{told, items_told}
 use Rattle.wast_resolve.proofs.names.number_with.Goals as goal
 
 pub returns-in-Ok-clause-numbered : goal.returns-in-Ok-clause-numbered
-returns-in-Ok-clause-numbered c = λ h. c.in-Ok.ensures (told c.args.spaces (map field_tree c.args.fields.now.items) c.requires.spaces c.requires.fields h)
+returns-in-Ok-clause-numbered c = c.in-Ok.ensures (told c.args.spaces (map field_tree c.args.fields.now.items) c.requires.spaces c.requires.fields)
 
 pub returns-in-Ok-clause-names : goal.returns-in-Ok-clause-names
 returns-in-Ok-clause-names c = items_told c.args.spaces (map field_tree c.args.fields.now.items) c.requires.spaces

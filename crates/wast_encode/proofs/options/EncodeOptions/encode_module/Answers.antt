@@ -15,7 +15,7 @@ pub returns-in-Err-clause-fault : goal.returns-in-Err-clause-fault
 returns-in-Err-clause-fault c = λ none. unresolved_deserves c.args.gensym.now (module_tree c.args.«module».now) (module_tree c.resolve_names.new.«module») c.in-Err.fault none c.in-Err.ensures.fault
 
 pub returns-in-Err-clause-left : goal.returns-in-Err-clause-left
-returns-in-Err-clause-left c = λ none. unresolved_leaves c.args.gensym.now (module_tree c.args.«module».now) (module_tree c.resolve_names.new.«module») c.in-Err.fault c.in-Err.ensures.fault
+returns-in-Err-clause-left c = λ none. unresolved_leaves c.args.gensym.now (module_tree c.args.«module».now) (module_tree c.resolve_names.new.«module») c.in-Err.fault none c.in-Err.ensures.fault
 
 pub returns-in-Err-clause-refused : goal.returns-in-Err-clause-refused
 returns-in-Err-clause-refused c = λ why was. refused_again c.args.gensym.now (module_tree c.args.«module».now) (module_tree c.resolve_names.new.«module») why c.in-Err.fault was (c.in-Err.ensures.kept why was) c.in-Err.ensures.fault
@@ -26,7 +26,7 @@ encode_resolved-requires c =
     let g = c.args.gensym.now in
     let clear = sym (c.uncovered-form.ensures (naming g (module_tree m))) ∙ ap placed c.in-None.is in
     subst (λ (t : Module Name ℕ). ContentReady t.content) (sym c.in-Ok.ensures.resolved.1)
-    (content_ready g m.span (option_map identifier_tree m.id) (option_map name_tree m.name) m.refusal m.kind c.requires.formed (c.in-Ok.ensures.met c.in-Ok.ensures.resolved.0) clear)
+    (content_ready g m.span (option_map identifier_tree m.id) (option_map name_tree m.name) m.refusal m.kind (c.requires.formed c.in-Ok.ensures.resolved.0) (c.in-Ok.ensures.met c.in-Ok.ensures.resolved.0) clear)
 
 pub returns-in-None-clause-binary : goal.returns-in-None-clause-binary
 returns-in-None-clause-binary c =
@@ -34,7 +34,7 @@ returns-in-None-clause-binary c =
     let g = c.args.gensym.now in
     let clear = sym (c.uncovered-form.ensures (naming g (module_tree m))) ∙ ap placed c.in-None.is in
     ok_of _ _ _ (λ b e.
-    binary_of g m.span (option_map identifier_tree m.id) (option_map name_tree m.name) m.refusal (content_tree m.kind) c.requires.formed (c.in-Ok.ensures.met c.in-Ok.ensures.resolved.0) clear b.items
+    binary_of g m.span (option_map identifier_tree m.id) (option_map name_tree m.name) m.refusal (content_tree m.kind) (c.requires.formed c.in-Ok.ensures.resolved.0) (c.in-Ok.ensures.met c.in-Ok.ensures.resolved.0) clear b.items
     (subst (λ (t : Module Name ℕ). IsEncoded t b.items) c.in-Ok.ensures.resolved.1 e)) c.encode_resolved.result c.encode_resolved.ensures
 
 pub returns-in-None-clause-fault : goal.returns-in-None-clause-fault
@@ -43,5 +43,5 @@ returns-in-None-clause-fault c = λ none.
     let g = c.args.gensym.now in
     let clear = sym (c.uncovered-form.ensures (naming g (module_tree m))) ∙ ap placed c.in-None.is in
     err_of _ _ _ (λ f u.
-    fault_of g m.span (option_map identifier_tree m.id) (option_map name_tree m.name) m.refusal (content_tree m.kind) c.requires.formed (c.in-Ok.ensures.met none) clear f
+    fault_of g m.span (option_map identifier_tree m.id) (option_map name_tree m.name) m.refusal (content_tree m.kind) (c.requires.formed none) (c.in-Ok.ensures.met none) clear f
     (subst (λ (t : Module Name ℕ). IsUnencoded t f) c.in-Ok.ensures.resolved.1 u)) c.encode_resolved.result c.encode_resolved.ensures
