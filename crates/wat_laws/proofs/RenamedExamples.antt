@@ -7,7 +7,6 @@ use lib.Utf8
 use Prim.Native.String.{String}
 use Rattle.wast_grammar.specs.Tokens.{Name, Open, Close, Text}
 use Rattle.wast_grammar.specs.Significant.{TextToken}
-use Rattle.wast_grammar.specs.Alike.{Matched}
 use Rattle.wat_verdict.specs.Alike.{AlikeTexts}
 use Rattle.wat_laws.specs.RenamedExamples.{RenamedExamples}
 use Rattle.wat_laws.proofs.LexedTexts.{text_tokens, id, word}

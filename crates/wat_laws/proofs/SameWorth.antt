@@ -9,10 +9,11 @@ use Rattle.wast_grammar.proofs.SignificantLaws.{one_list}
 use Rattle.wast_fields.specs.FieldTree.{Content, Fields, Module}
 use Rattle.wast_fields.specs.FieldTree as fields
 use Rattle.wast_core.specs.ModuleSyntax.{wat}
+use Rattle.wast_meaning.specs.Made.{is_made}
 use Rattle.wast_meaning.specs.Numbered.{resolved}
 use Rattle.wast_meant.specs.Binary.{bytes_of, module_with}
 use Rattle.wast_meant.specs.Meaning.{meant}
-use Rattle.wast_meant.specs.Means.{is_made, Worth, Stands, IsWorth}
+use Rattle.wast_meant.specs.Means.{Worth, Stands, IsWorth}
 use Rattle.wast_meant.specs.NamesMeant.{GivenName, Identifier, Bytes, given_name}
 use Rattle.wat_verdict.specs.Registered.{registered}
 use Rattle.wat_verdict.specs.Spells.{Spells}

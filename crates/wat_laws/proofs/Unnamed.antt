@@ -5,6 +5,7 @@ use Rattle.wast_grammar.specs.Tokens.{Name}
 use Rattle.wast_grammar.specs.Spelling.{same_name}
 use Rattle.wast_fields.specs.FieldTree.{Field, Content, Fields}
 use Rattle.wast_fields.specs.FieldTree as fields
+use Rattle.wast_meaning.specs.Made.{is_made}
 use Rattle.wast_meaning.specs.Numbered.{resolved}
 use Rattle.wasm_encoder.specs.Module.{header}
 use Rattle.wasm_layout.specs.AbstractModule.{AbstractModule}
@@ -12,7 +13,7 @@ use Rattle.wasm_layout.specs.Layout.{piece_bytes, layout}
 use Rattle.wast_meant.specs.NamesMeant.{GivenName, given_name}
 use Rattle.wast_meant.specs.Meaning.{meant}
 use Rattle.wast_meant.specs.Binary.{in_bytes}
-use Rattle.wast_meant.specs.Means.{is_made, Means, Stands, Pieces}
+use Rattle.wast_meant.specs.Means.{Means, Stands, Pieces}
 use Rattle.wast_meant_laws.proofs.Unnamed.{pieces_left}
 use Rattle.wat_verdict.specs.Spells.{Spells}
 use Rattle.wat_verdict.specs.Naming.{naming}

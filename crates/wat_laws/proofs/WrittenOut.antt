@@ -1,5 +1,5 @@
 -- A text means what one means that spells its fields written out, names aside.
-use Rattle.std.proofs.Common.{◌≡◌, ℕ, Bool, true, false, List, [], ◌∷◌, ◌++◌, map, Option, Some, None, refl, sym, ◌∙◌, ap, subst}
+use Rattle.std.proofs.Common.{◌≡◌, ℕ, Bool, true, false, List, [], ◌∷◌, ◌++◌, map, Option, None, refl, sym, ◌∙◌, ap, subst}
 use Rattle.std.specs.Prelude.{◌&&◌, not, slice_get}
 use Rattle.std.specs.List.{flat_map, list_all}
 use std.Equiv.{Iso, iso_to_equiv}
@@ -9,8 +9,7 @@ use Rattle.wast_grammar.specs.Significant.{TextToken}
 use Rattle.wast_grammar.specs.Alike.{move}
 use Rattle.wast_names.specs.Walk.{first_unmet}
 use Rattle.wast_names.specs.Demand.{Demand, is_met}
-use Rattle.wast_fields.specs.FieldTree.{Defined, Imported, Func, Table, TableOf, Memory, MemoryOf, Global, Tag, Field, TypeField, RecField, ImportField, Define, ExportField, StartField, ElemField, DataField, CustomField, Content, Fields, Module}
-use Rattle.wast_fields.specs.FieldTree as fields
+use Rattle.wast_fields.specs.FieldTree.{Field, Fields, Module}
 use Rattle.wast_meaning.specs.Written.{has_any, written_out, by_counter}
 use Rattle.wast_meaning.specs.Spaces.{items}
 use Rattle.wast_meaning.specs.Scope.{scope_of}
