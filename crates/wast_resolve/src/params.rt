@@ -60,11 +60,19 @@ fn count_signatures(types: &[ImpliedType<'_>], counts: &mut Vec<usize>) -> Resul
     ensures { OnOk result (counts.new.items ≡ counts.old.items ++ map implied_count (map implied_tree types.now)) }
 {
     for ty in types {
-        match counts.push(ty.signature.params.len()) {
+        match count_signature(ty, counts) {
             Ok(()) => {}
             Err(e) => return Err(e),
         }
     }
+    Ok(())
+}
+
+/// Appends that of an implied type.
+fn count_signature(ty: &ImpliedType<'_>, counts: &mut Vec<usize>) -> Result<(), AllocError>
+    ensures { OnOk result (counts.new.items ≡ counts.old.items ++ implied_count (implied_tree ty.now) ∷ []) }
+{
+    counts.push(ty.signature.params.len())?;
     Ok(())
 }
 
