@@ -1,4 +1,3 @@
-pub mod Anchored
 pub mod Appends
 pub mod Fits
 pub mod Parts

@@ -1,19 +1,16 @@
 //! Bodies of functions.
-ghost use Rattle.std.specs.Prelude.{◌≡◌, ◌++◌, ℕ, [], ◌∷◌, All, IfOk, OnOk, map, refl};
+ghost use Rattle.std.specs.Prelude.{◌≡◌, ◌++◌, ℕ, [], ◌∷◌, All, IfOk, OnOk, map};
 ghost use Rattle.std.specs.List.{flat_map, AllByRecursion};
 ghost use Rattle.wasm_encoder_base.specs.Encodes.{Encodes, Puts};
 ghost use Rattle.wasm_encoder_base.specs.Instr.{instr_bytes, IsInstr};
 ghost use Rattle.wasm_encoder_base.specs.Types.{IsValType};
 ghost use Rattle.wasm_encoder_base.specs.Views.{val_view};
-ghost use Rattle.wasm_encoder_base.proofs.Mapped.{counted_view};
 ghost use Rattle.wasm_encoder_instr.specs.Instruction.{instr_view, can_encode_instr, fits_instr};
 ghost use Rattle.wasm_encoder_code.specs.Body.{body_bytes, locals_bytes};
 ghost use Rattle.wasm_encoder_code.specs.Locals.{LocalsFit};
 ghost use Rattle.wasm_encoder_code.specs.Sink.{IsMade};
 ghost use Rattle.wasm_encoder_sections.specs.Codes.{function_item};
 ghost use Rattle.wasm_layout.specs.AbstractModule as abstract;
-ghost use Rattle.wasm_layout.specs.Section as sections;
-ghost use Rattle.wast_customs.specs.declared.place.CustomPlaceAnchor.TheVariants as anchors;
 ghost use Rattle.wast_core_instr.specs.ExpressionViews.{expression_tree};
 ghost use Rattle.wast_core_instr.specs.InstructionViews.{instruction_operands, instruction_tree};
 ghost use Rattle.wast_fields.specs.FieldTree.{Define};
@@ -52,10 +49,6 @@ impl SectionItem for FuncBody<'_, '_> {
 
     const ANCHOR: CustomPlaceAnchor = CustomPlaceAnchor::Code;
 
-    ghost ANCHOR = { anchors.Code };
-
-    ghost kind = { sections.Codes };
-
     ghost Item = { abstract.Function };
 
     ghost spell = { λ f. function_item (body_bytes f.body) };
@@ -69,10 +62,6 @@ impl SectionItem for FuncBody<'_, '_> {
     ghost Ready = { λ f. FieldReady (Define (func_definition f.0.now)) };
 
     ghost listed = { λ section. section };
-
-    ghost anchored = { refl };
-
-    ghost contents = { λ m. (m.functions, counted_view (λ f. body_bytes f.body) function_item m.functions) };
 
     #[tactic(auto, using(wast_conversions::proofs::Empty::front, wast_conversions::proofs::Empty::back))]
     fn encode(&self, alloc: Global, section: &mut CodeSection) -> Result<(), EncodeError> {

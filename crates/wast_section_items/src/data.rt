@@ -1,13 +1,11 @@
 //! Data segments.
-ghost use Rattle.std.specs.Prelude.{◌≡◌, [], ◌∷◌, List, IfOk, map, option_map, refl};
+ghost use Rattle.std.specs.Prelude.{◌≡◌, [], ◌∷◌, List, IfOk, map, option_map};
 ghost use Rattle.std.specs.List.{flat_map};
 ghost use Rattle.wasm_encoder_base.specs.Instr.{Instr, expr_bytes};
 ghost use Rattle.wasm_encoder_items.specs.Segments as segments;
 ghost use Rattle.wasm_encoder_items.specs.Segments.{data_bytes};
 ghost use Rattle.wasm_layout.specs.IsModule.{IsData};
-ghost use Rattle.wasm_layout.specs.Section as sections;
 ghost use Rattle.wast_parser.specs.Identifiers.{index_tree};
-ghost use Rattle.wast_customs.specs.declared.place.CustomPlaceAnchor.TheVariants as anchors;
 ghost use Rattle.wast_core_instr.specs.ExpressionViews.{expression_tree};
 ghost use Rattle.wast_data.specs.DataViews.{value_tree};
 ghost use Rattle.wast_fields.specs.FieldTree.{DataField};
@@ -39,10 +37,6 @@ impl SectionItem for Data<'_> {
 
     const ANCHOR: CustomPlaceAnchor = CustomPlaceAnchor::Data;
 
-    ghost ANCHOR = { anchors.Data };
-
-    ghost kind = { sections.Datas };
-
     ghost Item = { segments.DataSegment (List Instr) };
 
     ghost spell = { data_bytes expr_bytes };
@@ -56,10 +50,6 @@ impl SectionItem for Data<'_> {
     ghost Ready = { λ d. FieldReady (DataField (data_tree d)) };
 
     ghost listed = { λ section. section };
-
-    ghost anchored = { refl };
-
-    ghost contents = { λ m. (m.datas, refl) };
 
     #[tactic(auto, using(wast_conversions::proofs::Empty::front, wast_conversions::proofs::Empty::back))]
     fn encode(&self, alloc: Global, section: &mut DataSection) -> Result<(), EncodeError> {

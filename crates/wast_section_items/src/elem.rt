@@ -1,5 +1,5 @@
 //! Element segments.
-ghost use Rattle.std.specs.Prelude.{◌≡◌, [], ◌∷◌, All, List, map, IfOk, OnOk, IsErrOf, refl};
+ghost use Rattle.std.specs.Prelude.{◌≡◌, [], ◌∷◌, All, List, map, IfOk, OnOk, IsErrOf};
 ghost use Rattle.std.specs.List.{flat_map, AllByRecursion};
 ghost use Rattle.wasm_encoder_base.specs.Instr.{Instr, instr_bytes, expr_bytes};
 ghost use Rattle.wasm_encoder_code.specs.Laws.{IsExpression};
@@ -8,10 +8,8 @@ ghost use Rattle.wasm_encoder_items.specs.Segments.{ended, element_bytes};
 ghost use Rattle.wasm_encoder_items.specs.SegmentViews.{ElementsFit};
 ghost use Rattle.wasm_encoder_sections.specs.Writes.{Writes};
 ghost use Rattle.wasm_layout.specs.IsModule.{IsElement};
-ghost use Rattle.wasm_layout.specs.Section as sections;
 ghost use Rattle.wast_parser.specs.Identifiers.{index_tree};
 ghost use Rattle.wast_value_types.specs.ValueViews.{ref_tree};
-ghost use Rattle.wast_customs.specs.declared.place.CustomPlaceAnchor.TheVariants as anchors;
 ghost use Rattle.wast_core_instr.specs.ExpressionViews.{expression_tree};
 ghost use Rattle.wast_fields.specs.FieldTree.{Indices, Expressions, ElemField};
 ghost use Rattle.wast_fields.specs.ElemViews.{elem_tree, mode_tree};
@@ -46,10 +44,6 @@ impl SectionItem for Elem<'_> {
 
     const ANCHOR: CustomPlaceAnchor = CustomPlaceAnchor::Elem;
 
-    ghost ANCHOR = { anchors.Elem };
-
-    ghost kind = { sections.Elements };
-
     ghost Item = { segments.ElementSegment (List Instr) };
 
     ghost spell = { element_bytes expr_bytes };
@@ -63,10 +57,6 @@ impl SectionItem for Elem<'_> {
     ghost Ready = { λ e. FieldReady (ElemField (elem_tree e)) };
 
     ghost listed = { λ section. section };
-
-    ghost anchored = { refl };
-
-    ghost contents = { λ m. (m.elements, refl) };
 
     #[tactic(auto, using(wast_conversions::proofs::Empty::front, wast_conversions::proofs::Empty::back))]
     fn encode(&self, alloc: Global, section: &mut ElementSection) -> Result<(), EncodeError> {

@@ -1,10 +1,7 @@
 //! Exports.
-ghost use Rattle.std.specs.Prelude.{refl};
 ghost use Rattle.wasm_encoder_items.specs.Imports as binary;
 ghost use Rattle.wasm_encoder_items.specs.Imports.{export_bytes};
 ghost use Rattle.wasm_layout.specs.IsModule.{IsExport};
-ghost use Rattle.wasm_layout.specs.Section as sections;
-ghost use Rattle.wast_customs.specs.declared.place.CustomPlaceAnchor.TheVariants as anchors;
 ghost use Rattle.wast_exports.specs.ExportViews.{export_tree};
 ghost use Rattle.wast_fields.specs.FieldTree.{ExportField};
 ghost use Rattle.wast_meant.specs.FieldsMeant.{exports_of};
@@ -26,10 +23,6 @@ impl SectionItem for Export<'_> {
 
     const ANCHOR: CustomPlaceAnchor = CustomPlaceAnchor::Export;
 
-    ghost ANCHOR = { anchors.Export };
-
-    ghost kind = { sections.Exports };
-
     ghost Item = { binary.Export };
 
     ghost spell = { export_bytes };
@@ -43,10 +36,6 @@ impl SectionItem for Export<'_> {
     ghost Ready = { λ e. FieldReady (ExportField (export_tree e)) };
 
     ghost listed = { λ section. section };
-
-    ghost anchored = { refl };
-
-    ghost contents = { λ m. (m.exports, refl) };
 
     fn encode(&self, _alloc: Global, section: &mut ExportSection) -> Result<(), EncodeError> {
         add_export(

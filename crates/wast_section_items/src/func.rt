@@ -1,7 +1,6 @@
 //! Functions by their types.
-ghost use Rattle.std.specs.Prelude.{map, refl};
+ghost use Rattle.std.specs.Prelude.{map};
 ghost use Rattle.wasm_encoder_base.specs.Leb.{uleb};
-ghost use Rattle.wasm_encoder_base.proofs.Mapped.{counted_view};
 ghost use Rattle.wast_fields.specs.FieldTree.{Define};
 ghost use Rattle.wast_fields.specs.FieldViews.{func_definition};
 ghost use Rattle.wast_meant.specs.FieldsMeant.{functions_of};
@@ -9,8 +8,6 @@ ghost use Rattle.wast_section_items.specs.Fits.{NoCounts};
 ghost use Rattle.wast_section_items.specs.Ready.{FieldReady};
 ghost use Rattle.wast_section_items.specs.Sound.{TypeSound};
 ghost use Rattle.wasm_layout.specs.AbstractModule as abstract;
-ghost use Rattle.wasm_layout.specs.Section as sections;
-ghost use Rattle.wast_customs.specs.declared.place.CustomPlaceAnchor.TheVariants as anchors;
 
 use crate::adding::add_function;
 use crate::item::SectionItem;
@@ -27,10 +24,6 @@ impl SectionItem for Func<'_> {
 
     const ANCHOR: CustomPlaceAnchor = CustomPlaceAnchor::Func;
 
-    ghost ANCHOR = { anchors.Func };
-
-    ghost kind = { sections.Functions };
-
     ghost Item = { abstract.Function };
 
     ghost spell = { λ f. uleb f.type_index };
@@ -44,10 +37,6 @@ impl SectionItem for Func<'_> {
     ghost Ready = { λ f. FieldReady (Define (func_definition f)) };
 
     ghost listed = { λ section. section };
-
-    ghost anchored = { refl };
-
-    ghost contents = { λ m. (m.functions, counted_view (λ f. f.type_index) uleb m.functions) };
 
     fn encode(&self, _alloc: Global, section: &mut FunctionSection) -> Result<(), EncodeError> {
         match &self.kind {

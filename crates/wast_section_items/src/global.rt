@@ -1,12 +1,10 @@
 //! Globals.
-ghost use Rattle.std.specs.Prelude.{◌≡◌, [], ◌∷◌, List, refl};
+ghost use Rattle.std.specs.Prelude.{◌≡◌, [], ◌∷◌, List};
 ghost use Rattle.wasm_encoder_base.specs.Instr.{Instr, expr_bytes};
 ghost use Rattle.wasm_encoder_items.specs.Segments as segments;
 ghost use Rattle.wasm_encoder_items.specs.Segments.{global_item};
 ghost use Rattle.wasm_layout.specs.IsModule.{IsGlobal};
-ghost use Rattle.wasm_layout.specs.Section as sections;
 ghost use Rattle.wast_value_types.specs.ValueViews.{global_tree};
-ghost use Rattle.wast_customs.specs.declared.place.CustomPlaceAnchor.TheVariants as anchors;
 ghost use Rattle.wast_core_instr.specs.ExpressionViews.{expression_tree};
 ghost use Rattle.wast_fields.specs.FieldTree.{Define};
 ghost use Rattle.wast_fields.specs.FieldViews.{global_definition};
@@ -37,10 +35,6 @@ impl SectionItem for GlobalField<'_> {
 
     const ANCHOR: CustomPlaceAnchor = CustomPlaceAnchor::Global;
 
-    ghost ANCHOR = { anchors.Global };
-
-    ghost kind = { sections.Globals };
-
     ghost Item = { segments.Global (List Instr) };
 
     ghost spell = { global_item expr_bytes };
@@ -54,10 +48,6 @@ impl SectionItem for GlobalField<'_> {
     ghost Ready = { λ g. FieldReady (Define (global_definition g)) };
 
     ghost listed = { λ section. section };
-
-    ghost anchored = { refl };
-
-    ghost contents = { λ m. (m.globals, refl) };
 
     #[tactic(auto, using(wast_conversions::proofs::Empty::front, wast_conversions::proofs::Empty::back))]
     fn encode(&self, alloc: Global, section: &mut GlobalSection) -> Result<(), EncodeError> {

@@ -1,12 +1,10 @@
 //! Imports, one by one and in groups.
-ghost use Rattle.std.specs.Prelude.{◌≡◌, [], All, IfOk, OnOk, map, refl};
+ghost use Rattle.std.specs.Prelude.{◌≡◌, [], All, IfOk, OnOk, map};
 ghost use Rattle.std.specs.List.{flat_map, AllByRecursion};
 ghost use Rattle.wasm_encoder_items.specs.Imports as binary;
 ghost use Rattle.wasm_encoder_items.specs.Imports.{imports_bytes};
 ghost use Rattle.wasm_encoder_items.specs.Views.{imports_view, named_view};
 ghost use Rattle.wasm_layout.specs.IsModule.{IsEntity, IsImport};
-ghost use Rattle.wasm_layout.specs.Section as sections;
-ghost use Rattle.wast_customs.specs.declared.place.CustomPlaceAnchor.TheVariants as anchors;
 ghost use Rattle.wast_imports.specs.ImportViews.{from_of, items_tree, imports_tree, member_tree, member_name_tree};
 ghost use Rattle.wast_fields.specs.FieldTree.{ImportField};
 ghost use Rattle.wast_conversions.specs.Types.{extern_meant};
@@ -33,10 +31,6 @@ impl SectionItem for Imports<'_> {
 
     const ANCHOR: CustomPlaceAnchor = CustomPlaceAnchor::Import;
 
-    ghost ANCHOR = { anchors.Import };
-
-    ghost kind = { sections.Imports };
-
     ghost Item = { binary.Imports };
 
     ghost spell = { imports_bytes };
@@ -50,10 +44,6 @@ impl SectionItem for Imports<'_> {
     ghost Ready = { λ i. FieldReady (ImportField (imports_tree i)) };
 
     ghost listed = { λ section. section };
-
-    ghost anchored = { refl };
-
-    ghost contents = { λ m. (m.imports, refl) };
 
     fn encode(&self, alloc: Global, section: &mut ImportSection) -> Result<(), EncodeError> {
         match import_entry(alloc, &self.items) {

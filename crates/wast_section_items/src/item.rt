@@ -1,13 +1,6 @@
 //! Items of sections.
-ghost use Rattle.std.specs.Prelude.{◌≡◌, List, ℕ, true};
-ghost use Rattle.wasm_encoder_base.specs.Bytes.{counted};
+ghost use Rattle.std.specs.Prelude.{List, ℕ};
 ghost use Rattle.wasm_encoder_base.specs.Lists.{Listed};
-ghost use Rattle.wasm_layout.specs.AbstractModule.{AbstractModule};
-ghost use Rattle.wasm_layout.specs.Layout.{contents_of};
-ghost use Rattle.wasm_layout.specs.Section.{SectionKind};
-ghost use Rattle.wast_customs.specs.CustomViews.{anchor_view};
-ghost use Rattle.wast_customs.specs.declared.place.CustomPlaceAnchor.{CustomPlaceAnchor};
-ghost use Rattle.wast_section_items.specs.Anchored.{is_named_by};
 ghost use Rattle.wast_section_items.specs.Appends.{Appends};
 
 use std::alloc::Global;
@@ -21,11 +14,6 @@ pub trait SectionItem {
 
     /// The section as the places of custom sections name it.
     const ANCHOR: CustomPlaceAnchor;
-
-    ghost ANCHOR: { CustomPlaceAnchor };
-
-    /// The section of a binary.
-    ghost kind: { SectionKind };
 
     /// What a binary has in such a section.
     ghost Item: { Type 0 };
@@ -48,10 +36,4 @@ pub trait SectionItem {
     fn encode(&self, alloc: Global, section: &mut Self::Section) -> Result<(), EncodeError>
         requires { Ready self.now }
         ensures { Appends spell Fits Sound (items self.now) (listed section.old) (listed section.new) result };
-
-    /// It stands between the places before and after its anchor.
-    ghost anchored: { is_named_by (anchor_view ANCHOR) kind ≡ true };
-
-    /// It holds a count, and then items that are spelled so.
-    ghost contents: { (m : AbstractModule (List ℕ)) → (xs : List Item) × (counted spell xs ≡ contents_of m kind) };
 }

@@ -1,9 +1,6 @@
 //! Memories.
-ghost use Rattle.std.specs.Prelude.{refl};
 ghost use Rattle.wasm_encoder_items.specs.EntityTypes.{Limits, limits_bytes};
 ghost use Rattle.wasm_layout.specs.IsModule.{IsLimits};
-ghost use Rattle.wasm_layout.specs.Section as sections;
-ghost use Rattle.wast_customs.specs.declared.place.CustomPlaceAnchor.TheVariants as anchors;
 ghost use Rattle.wast_fields.specs.FieldTree.{Define};
 ghost use Rattle.wast_fields.specs.FieldViews.{memory_definition};
 ghost use Rattle.wast_meant.specs.FieldsMeant.{memories_of};
@@ -25,10 +22,6 @@ impl SectionItem for Memory<'_> {
 
     const ANCHOR: CustomPlaceAnchor = CustomPlaceAnchor::Memory;
 
-    ghost ANCHOR = { anchors.Memory };
-
-    ghost kind = { sections.Memories };
-
     ghost Item = { Limits };
 
     ghost spell = { limits_bytes };
@@ -42,10 +35,6 @@ impl SectionItem for Memory<'_> {
     ghost Ready = { λ m. FieldReady (Define (memory_definition m)) };
 
     ghost listed = { λ section. section };
-
-    ghost anchored = { refl };
-
-    ghost contents = { λ m. (m.memories, refl) };
 
     fn encode(&self, _alloc: Global, section: &mut MemorySection) -> Result<(), EncodeError> {
         match &self.kind {

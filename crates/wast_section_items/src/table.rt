@@ -1,13 +1,11 @@
 //! Tables.
-ghost use Rattle.std.specs.Prelude.{◌≡◌, [], ◌∷◌, List, option_map, option_to_list, refl};
+ghost use Rattle.std.specs.Prelude.{◌≡◌, [], ◌∷◌, List, option_map, option_to_list};
 ghost use Rattle.std.specs.List.{flat_map};
 ghost use Rattle.wasm_encoder_base.specs.Instr.{Instr, expr_bytes};
 ghost use Rattle.wasm_encoder_items.specs.Segments as segments;
 ghost use Rattle.wasm_encoder_items.specs.Segments.{WithInit, table_item};
 ghost use Rattle.wasm_layout.specs.IsModule.{IsTable};
-ghost use Rattle.wasm_layout.specs.Section as sections;
 ghost use Rattle.wast_value_types.specs.ValueViews.{table_tree};
-ghost use Rattle.wast_customs.specs.declared.place.CustomPlaceAnchor.TheVariants as anchors;
 ghost use Rattle.wast_core_instr.specs.ExpressionViews.{expression_tree};
 ghost use Rattle.wast_fields.specs.FieldTree.{Define};
 ghost use Rattle.wast_fields.specs.ElemViews.{table_definition};
@@ -38,10 +36,6 @@ impl SectionItem for Table<'_> {
 
     const ANCHOR: CustomPlaceAnchor = CustomPlaceAnchor::Table;
 
-    ghost ANCHOR = { anchors.Table };
-
-    ghost kind = { sections.Tables };
-
     ghost Item = { segments.Table (List Instr) };
 
     ghost spell = { table_item expr_bytes };
@@ -55,10 +49,6 @@ impl SectionItem for Table<'_> {
     ghost Ready = { λ t. FieldReady (Define (table_definition t)) };
 
     ghost listed = { λ section. section };
-
-    ghost anchored = { refl };
-
-    ghost contents = { λ m. (m.tables, refl) };
 
     #[tactic(auto, using(wast_conversions::proofs::Empty::front, wast_conversions::proofs::Empty::back))]
     fn encode(&self, alloc: Global, section: &mut TableSection) -> Result<(), EncodeError> {

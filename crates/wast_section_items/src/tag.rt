@@ -1,9 +1,7 @@
 //! Tags.
-ghost use Rattle.std.specs.Prelude.{◌≡◌, ℕ, refl};
+ghost use Rattle.std.specs.Prelude.{◌≡◌, ℕ};
 ghost use Rattle.wasm_encoder_items.specs.EntityTypes.{tag_bytes};
 ghost use Rattle.wasm_layout.specs.IsModule.{IsU32};
-ghost use Rattle.wasm_layout.specs.Section as sections;
-ghost use Rattle.wast_customs.specs.declared.place.CustomPlaceAnchor.TheVariants as anchors;
 ghost use Rattle.wast_imports.specs.ImportViews.{tag_tree};
 ghost use Rattle.wast_fields.specs.FieldTree.{Define};
 ghost use Rattle.wast_fields.specs.FieldViews.{tag_definition};
@@ -30,10 +28,6 @@ impl SectionItem for Tag<'_> {
 
     const ANCHOR: CustomPlaceAnchor = CustomPlaceAnchor::Tag;
 
-    ghost ANCHOR = { anchors.Tag };
-
-    ghost kind = { sections.Tags };
-
     ghost Item = { ℕ };
 
     ghost spell = { tag_bytes };
@@ -47,10 +41,6 @@ impl SectionItem for Tag<'_> {
     ghost Ready = { λ t. FieldReady (Define (tag_definition t)) };
 
     ghost listed = { λ section. section };
-
-    ghost anchored = { refl };
-
-    ghost contents = { λ m. (m.tags, refl) };
 
     fn encode(&self, _alloc: Global, section: &mut TagSection) -> Result<(), EncodeError> {
         match &self.kind {

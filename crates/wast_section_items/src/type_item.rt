@@ -1,13 +1,11 @@
 //! Types and groups of types.
-ghost use Rattle.std.specs.Prelude.{◌≡◌, [], All, IfOk, OnOk, map, refl};
+ghost use Rattle.std.specs.Prelude.{◌≡◌, [], All, IfOk, OnOk, map};
 ghost use Rattle.std.specs.List.{flat_map, AllByRecursion};
 ghost use Rattle.wasm_encoder_base.specs.Types.{IsSubType};
 ghost use Rattle.wasm_encoder_base.specs.Views.{sub_view};
 ghost use Rattle.wasm_encoder_items.specs.TypeEntries.{TypeEntry, entry_bytes};
 ghost use Rattle.wasm_layout.specs.IsModule.{IsEntry};
-ghost use Rattle.wasm_layout.specs.Section as sections;
 ghost use Rattle.wast_core_types.specs.TypeViews.{item_tree, rec_tree};
-ghost use Rattle.wast_customs.specs.declared.place.CustomPlaceAnchor.TheVariants as anchors;
 ghost use Rattle.wast_fields.specs.FieldTree.{TypeField, RecField};
 ghost use Rattle.wast_conversions.specs.Types.{sub_meant};
 ghost use Rattle.wast_conversions.specs.Resolved.{TypeResolved};
@@ -31,10 +29,6 @@ impl SectionItem for TypeItem<'_> {
 
     const ANCHOR: CustomPlaceAnchor = CustomPlaceAnchor::TypeItem;
 
-    ghost ANCHOR = { anchors.TypeItem };
-
-    ghost kind = { sections.Types };
-
     ghost Item = { TypeEntry };
 
     ghost spell = { entry_bytes };
@@ -48,10 +42,6 @@ impl SectionItem for TypeItem<'_> {
     ghost Ready = { λ t. FieldReady (TypeField (item_tree t)) };
 
     ghost listed = { λ section. section };
-
-    ghost anchored = { refl };
-
-    ghost contents = { λ m. (m.types, refl) };
 
     fn encode(&self, alloc: Global, section: &mut TypeSection) -> Result<(), EncodeError> {
         match sub_type(alloc, &self.def) {
@@ -67,10 +57,6 @@ impl SectionItem for Rec<'_> {
 
     const ANCHOR: CustomPlaceAnchor = CustomPlaceAnchor::TypeItem;
 
-    ghost ANCHOR = { anchors.TypeItem };
-
-    ghost kind = { sections.Types };
-
     ghost Item = { TypeEntry };
 
     ghost spell = { entry_bytes };
@@ -84,10 +70,6 @@ impl SectionItem for Rec<'_> {
     ghost Ready = { λ r. FieldReady (RecField (rec_tree r)) };
 
     ghost listed = { λ section. section };
-
-    ghost anchored = { refl };
-
-    ghost contents = { λ m. (m.types, refl) };
 
     fn encode(&self, alloc: Global, section: &mut TypeSection) -> Result<(), EncodeError> {
         match sub_types(alloc, &self.types) {
