@@ -8,7 +8,11 @@ ghost use Rattle.wat_verdict.specs.Verdict.{tree_breach};
 use std::alloc::Global;
 use std::process::Abort;
 use std::test::Fail;
-use wast_core::ModuleKind;
+use wast_core::{
+    CustomPlaceAnchor, Data, Elem, Export, Func, Global, Imports, Memory, ModuleKind, Rec, Table,
+    Tag, TypeItem,
+};
+use wast_encode::{FuncBody, SectionItem};
 use wast_parser::{Gensym, ParseBuffer, parse};
 use wast_resolve::ResolveModule;
 use wat::{EncodeFault, EncodeOptions, Wat, encode_wat};
@@ -54,4 +58,39 @@ fn is_encodable(wat: &Wat<'_>) -> bool
         (None, ModuleKind::Text(fields)) => fields.len() < 16,
         _ => false,
     }
+}
+
+/// Items name the sections that they stand in, as the places of custom sections do.
+#[test]
+fn anchors(rt: HostRuntime) -> Result<(), Fail> {
+    let named = [
+        TypeItem::ANCHOR,
+        Rec::ANCHOR,
+        Imports::ANCHOR,
+        Func::ANCHOR,
+        Table::ANCHOR,
+        Memory::ANCHOR,
+        Tag::ANCHOR,
+        Global::ANCHOR,
+        Export::ANCHOR,
+        Elem::ANCHOR,
+        FuncBody::ANCHOR,
+        Data::ANCHOR,
+    ];
+    let wanted = [
+        CustomPlaceAnchor::TypeItem,
+        CustomPlaceAnchor::TypeItem,
+        CustomPlaceAnchor::Import,
+        CustomPlaceAnchor::Func,
+        CustomPlaceAnchor::Table,
+        CustomPlaceAnchor::Memory,
+        CustomPlaceAnchor::Tag,
+        CustomPlaceAnchor::Global,
+        CustomPlaceAnchor::Export,
+        CustomPlaceAnchor::Elem,
+        CustomPlaceAnchor::Code,
+        CustomPlaceAnchor::Data,
+    ];
+    assert!(rt; named == wanted);
+    Ok(())
 }
