@@ -91,7 +91,7 @@ module _ (counter : ℕ) (before after : Module Name ℕ) where
 
   pub unresolved_leaves : (fault : EncodeFault) → before.refusal ≡ None → IsUnresolved counter before after fault → LeavesFor counter before after fault
   unresolved_leaves (faults.Unmet error) none u = u.1
-  unresolved_leaves faults.Memory none u = inr (u.0, u.1.0, u.1.1 none)
+  unresolved_leaves faults.Memory none u = inr (u.0, u.1, u.2 none)
   unresolved_leaves faults.TooLarge none u = absurd u
   unresolved_leaves (faults.Uncovered span form) none u = absurd u
 

@@ -8,7 +8,7 @@ use Rattle.wast_core.specs.ModuleViews.{content_tree, module_tree}
 use Rattle.wast_uncovered.specs.First.{placed}
 use Rattle.wast_encode.specs.Encoded.{naming}
 use Rattle.wast_encode.specs.Resolved.{ContentReady, IsEncoded, IsUnencoded}
-use Rattle.wast_encode.proofs.Encoded.{binary_of, fault_of, content_ready, unresolved_deserves, unresolved_leaves, refused_again, ok_of, err_of}
+use Rattle.wast_encode.proofs.Encoded.{binary_of, fault_of, content_ready, unresolved_deserves, unresolved_leaves, unresolved_counts, resolved_counts, refused_again, ok_of, err_of}
 use Rattle.wast_encode.proofs.options.EncodeOptions.encode_module.Goals as goal
 
 pub returns-in-Err-clause-fault : goal.returns-in-Err-clause-fault
@@ -16,6 +16,9 @@ returns-in-Err-clause-fault c = λ none. unresolved_deserves c.args.gensym.now (
 
 pub returns-in-Err-clause-left : goal.returns-in-Err-clause-left
 returns-in-Err-clause-left c = λ none. unresolved_leaves c.args.gensym.now (module_tree c.args.«module».now) (module_tree c.resolve_names.new.«module») c.in-Err.fault none c.in-Err.ensures.fault
+
+pub returns-in-Err-clause-reached : goal.returns-in-Err-clause-reached
+returns-in-Err-clause-reached c = unresolved_counts c.args.gensym.now (module_tree c.args.«module».now) (module_tree c.resolve_names.new.«module») c.in-Err.fault _ c.in-Err.ensures.fault
 
 pub returns-in-Err-clause-refused : goal.returns-in-Err-clause-refused
 returns-in-Err-clause-refused c = λ why was. refused_again c.args.gensym.now (module_tree c.args.«module».now) (module_tree c.resolve_names.new.«module») why c.in-Err.fault was (c.in-Err.ensures.kept why was) c.in-Err.ensures.fault
@@ -45,3 +48,6 @@ returns-in-None-clause-fault c = λ none.
     err_of _ _ _ (λ f u.
     fault_of g m.span (option_map identifier_tree m.id) (option_map name_tree m.name) m.refusal (content_tree m.kind) (c.requires.formed none) (c.in-Ok.ensures.met none) clear f
     (subst (λ (t : Module Name ℕ). IsUnencoded t f) c.in-Ok.ensures.resolved.1 u)) c.encode_resolved.result c.encode_resolved.ensures
+
+pub returns-in-None-clause-reached : goal.returns-in-None-clause-reached
+returns-in-None-clause-reached c = err_of _ _ _ (λ f u. resolved_counts c.args.gensym.now (module_tree c.args.«module».now) (module_tree c.resolve_names.new.«module») f _ c.in-Ok.ensures.counted) c.encode_resolved.result c.encode_resolved.ensures
