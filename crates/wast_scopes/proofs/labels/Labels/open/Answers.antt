@@ -1,4 +1,4 @@
-use Rattle.std.proofs.Common.{reverse, ap, arith}
+use Rattle.std.proofs.Common.{reverse, ap, ◌∙◌, arith}
 use Rattle.wast_scopes.specs.Open.{labels_of}
 use Rattle.wast_scopes.proofs.Blocks.{popped, kept_still}
 use Rattle.wast_scopes.proofs.labels.Labels.open.Goals as goal
@@ -16,3 +16,4 @@ returns-in-Err-clause-refused c =
     let rest = c.pop.new.self.items in
     ap (λ blocks. labels_of (reverse blocks))
     (popped before c.push.new.self.items rest c.in_ok-block.block _ (omega (arith, c.push.new.self.ok.0)) c.in_ok-push.ensures.items c.pop.ensures.rest)
+    ∙ c.self.view_is
