@@ -9,8 +9,8 @@ use std::alloc::Global;
 use std::process::Abort;
 use std::test::Fail;
 use wast_core::{
-    CustomPlaceAnchor, Data, Elem, Export, Func, Global, Imports, Memory, ModuleKind, Rec, Table,
-    Tag, TypeItem,
+    CustomPlaceAnchor, Data, Elem, Export, Func, Global as GlobalField, Imports, Memory,
+    ModuleKind, Rec, Table, Tag, TypeItem,
 };
 use wast_encode::{FuncBody, SectionItem};
 use wast_parser::{Gensym, ParseBuffer, parse};
@@ -71,7 +71,7 @@ fn anchors(rt: HostRuntime) -> Result<(), Fail> {
         Table::ANCHOR,
         Memory::ANCHOR,
         Tag::ANCHOR,
-        Global::ANCHOR,
+        GlobalField::ANCHOR,
         Export::ANCHOR,
         Elem::ANCHOR,
         FuncBody::ANCHOR,
