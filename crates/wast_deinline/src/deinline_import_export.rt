@@ -188,7 +188,7 @@ fn push_split<'a>(
     match push(out, alone.into_field(alloc, span, head)) {
         Ok(()) => push_behind(alloc, span, exported, id, segment, out),
         Err(e) => {
-            discard_segment(segment);
+            let_go(segment);
             Err(e)
         }
     }
@@ -209,14 +209,14 @@ fn push_behind<'a>(
     match push_exports(alloc, span, kind, id, exports, out) {
         Ok(()) => push_some(out, segment),
         Err(e) => {
-            discard_segment(segment);
+            let_go(segment);
             Err(e)
         }
     }
 }
 
-/// Lets a segment go, in a function of its own as [`discard`] does.
-fn discard_segment(_segment: Option<ModuleField<'_>>) {}
+/// Lets a value go, whatever its type: what drops a tree is proved where the tree stands.
+fn let_go<T: Drop>(_value: T) {}
 
 /// Appends the exports of a field that has this name.
 fn push_exports<'a>(
