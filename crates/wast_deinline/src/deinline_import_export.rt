@@ -215,7 +215,7 @@ fn push_behind<'a>(
     }
 }
 
-/// Lets a value go, whatever its type: what drops a tree is proved where the tree stands.
+/// Lets a value go, whatever its type, so that a caller owes nothing for how a tree is dropped.
 fn let_go<T: Drop>(_value: T) {}
 
 /// Appends the exports of a field that has this name.

@@ -1,7 +1,7 @@
 //! The language in which the syntax of the text format is written (WebAssembly Core Specification 3.0, chapter 6), and the
 //! laws that make readers of it exact.
 //!
-//! The crate has definitions and laws and no code but [`laws`]. It knows no table of instructions and no profile; names
+//! The crate has definitions and laws and no code but [`laws`]. It knows no table of instructions; names
 //! and places of tokens are type parameters throughout, so no definition tells one from another but by a test of names.
 //!
 //! # What has to be believed

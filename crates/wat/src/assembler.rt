@@ -1,6 +1,6 @@
 //! From the bytes of a text to the bytes of a binary.
 
-ghost use Rattle.std.specs.Prelude.{◌≡◌, ◌+◌, ◌<◌, ◌≤◌, ◌^◌, ℕ, false, true, length, None, Some, Err, MatchResult, IfErr, IfOk, OnOk};
+ghost use Rattle.std.specs.Prelude.{◌≡◌, ◌↔◌, ◌+◌, ◌<◌, ◌≤◌, ◌^◌, ℕ, IsTrue, false, length, None, Some, Err, MatchResult, IfErr, IfOk, OnOk};
 ghost use Rattle.std.specs.Str.{IsUtf8};
 ghost use Rattle.wast_parser.specs.Problem.{Problem};
 ghost use Rattle.wast_parser.specs.Table.{IsTable};
@@ -115,7 +115,7 @@ fn first_breach(text: &Wat<'_>) -> Option<Span>
 
 /// Whether the fields of a text can be numbered.
 fn is_numbered(text: &Wat<'_>) -> bool
-    ensures { result ≡ true → length (content_fields (wat_tree text.now).content) < 2 ^ 32 }
+    ensures { IsTrue result ↔ (length (content_fields (wat_tree text.now).content) < 2 ^ 32) }
 {
     let Wat::Module(module) = text;
     match &module.kind {
