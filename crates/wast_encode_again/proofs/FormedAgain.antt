@@ -3,40 +3,27 @@ use Rattle.std.proofs.Common.{◌≡◌, ℕ, ◌+◌, ◌≤◌, Bool, true, fa
 use Rattle.std.specs.Prelude.{◌&&◌, ◌||◌, not, if◌then◌else◌}
 use Rattle.std.specs.List.{flat_map, list_all}
 use Rattle.std.specs.Cmp.Derive.{both_true}
-use Rattle.std.proofs.lemmas.Bool.{false≢true, or_right}
+use Rattle.std.proofs.lemmas.Bool.{false≢true}
 use Rattle.std.proofs.lemmas.List.{length-append}
 use Rattle.wast_names.specs.Walk.{walked, first_unmet}
-use Rattle.wast_names.specs.Demand.{Complaint, Duplicate, Unknown, ImportAfter, TypeMismatch, LabelMismatch, Demand, is_met}
+use Rattle.wast_names.specs.Demand.{is_met}
 use Rattle.wast_fields.specs.FieldTree.{Defined, Imported, Func, Table, TableOf, Memory, MemoryOf, Global, Tag, Field, TypeField, RecField, ImportField, Define, ExportField, StartField, ElemField, DataField, CustomField, is_start, field_place}
 use Rattle.wast_meaning.specs.Demands.{order_demands, item_demands, field_demands, demands, all_demands}
 use Rattle.wast_meaning.specs.Mentions.{parts}
 use Rattle.wast_meaning.specs.Numbered.{expanded, resolved}
 use Rattle.wast_meaning.specs.Scope.{Scope, scope_of}
 use Rattle.wast_meaning.specs.Spaces.{items}
-use Rattle.wast_meaning.specs.WellFormed.{part_formed, pages_formed, page_formed, is_bound, are_bound, field_formed, breach, breaches}
+use Rattle.wast_meaning.specs.WellFormed.{part_formed, pages_formed, page_formed, field_formed, breach, breaches}
 use Rattle.wast_meaning.specs.Written.{has_any, written_out}
 use Rattle.wast_meaning.proofs.Settled.{left, right, front, back}
 use Rattle.wast_resolve_laws.proofs.Plain.{stands_alone, is_plain, written_plain, plain_stays, expanded_plain, numbered_plain}
 use Rattle.wast_resolve_laws.proofs.Resolved.{resolved_met}
-use Rattle.wast_resolve_laws.proofs.Unmet.{all_met}
+use Rattle.wast_resolve_laws.proofs.Unmet.{all_met, all_bound}
 use Rattle.wast_meant.specs.FieldsMeant.{starts_of}
 use Rattle.wast_encode_laws.specs.Formed.{FieldFormed}
 use Rattle.wast_encode_laws.proofs.Formed.{formed}
 use Rattle.wast_encode_laws.proofs.Starts.{one_start}
 use Rattle.wast_encode_again.proofs.Tested.{all_tested, field_tested}
-
--- NAMES that are made are bound where all demands are met
-module _ {N : Type 0} (eq : N → N → Bool) (is_made : N → Bool) where
-  bound_if : (c : Complaint N) (holds : Bool) → holds ≡ true → is_bound is_made c holds ≡ true
-  bound_if (Unknown kind n) holds e = or_right (not (is_made n)) holds e
-  bound_if (Duplicate kind) holds e = refl
-  bound_if (ImportAfter kind) holds e = refl
-  bound_if TypeMismatch holds e = refl
-  bound_if LabelMismatch holds e = refl
-
-  all_bound : {P : Type 0} (ds : List (Demand N P)) → list_all is_met ds ≡ true → are_bound eq is_made ds ≡ true
-  all_bound [] e = refl
-  all_bound (d ∷ ds) e = both_true (bound_if d.complaint d.holds (left (is_met d) (list_all is_met ds) e)) (all_bound ds (right (is_met d) (list_all is_met ds) e))
 
 -- as many starts as there may be, behind one or none
 abbrev room_for : Bool → ℕ

@@ -2,11 +2,14 @@
 use Rattle.std.proofs.Common.{◌≡◌, Bool, true, false, List, [], ◌∷◌, ◌++◌, Option, Some, None, refl, sym, ◌∙◌, ap}
 use Rattle.std.specs.Prelude.{◌&&◌, not, filter, if◌then◌else◌}
 use Rattle.std.specs.List.{list_all}
+use Rattle.std.specs.Cmp.Derive.{both_true}
 use Rattle.std.specs.Option.{option_or}
+use Rattle.std.proofs.lemmas.Bool.{or_right}
 use Rattle.std.proofs.lemmas.List.Elements.{filter-append}
 use Rattle.std.proofs.lemmas.Option.{none-some}
 use Rattle.wast_names.specs.Walk.{first_unmet}
-use Rattle.wast_names.specs.Demand.{Demand, is_met}
+use Rattle.wast_names.specs.Demand.{Complaint, Duplicate, Unknown, ImportAfter, TypeMismatch, LabelMismatch, Demand, is_met}
+use Rattle.wast_meaning.specs.WellFormed.{is_bound, are_bound}
 use Rattle.wast_meaning.proofs.Settled.{left, right, two}
 
 module _ {N P : Type 0} where
@@ -72,3 +75,16 @@ module _ {N P : Type 0} where
       by_case : (o : Option (Demand N P)) → first_unmet is_met old ≡ o → option_or o (first_unmet is_met more) ≡ o
       by_case None f = none_unmet more (h (all_met old f))
       by_case (Some d) f = refl
+
+-- NAMES that are made are bound where all demands are met
+module _ {N P : Type 0} (eq : N → N → Bool) (is_made : N → Bool) where
+  bound_if : (c : Complaint N) (holds : Bool) → holds ≡ true → is_bound is_made c holds ≡ true
+  bound_if (Unknown kind n) holds e = or_right (not (is_made n)) holds e
+  bound_if (Duplicate kind) holds e = refl
+  bound_if (ImportAfter kind) holds e = refl
+  bound_if TypeMismatch holds e = refl
+  bound_if LabelMismatch holds e = refl
+
+  pub all_bound : (ds : List (Demand N P)) → list_all is_met ds ≡ true → are_bound eq is_made ds ≡ true
+  all_bound [] e = refl
+  all_bound (d ∷ ds) e = both_true (bound_if d.complaint d.holds (left (is_met d) (list_all is_met ds) e)) (all_bound ds (right (is_met d) (list_all is_met ds) e))

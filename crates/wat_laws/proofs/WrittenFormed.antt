@@ -9,7 +9,7 @@ use Rattle.wast_grammar.specs.Tokens.{SignificantToken}
 use Rattle.wast_grammar.specs.Spelling as spelling
 use Rattle.wast_grammar.specs.Grammar.{Syntax}
 use Rattle.wast_names.specs.Walk.{walked}
-use Rattle.wast_names.specs.Demand.{Complaint, Duplicate, Unknown, ImportAfter, TypeMismatch, LabelMismatch, Demand, is_met}
+use Rattle.wast_names.specs.Demand.{is_met}
 use Rattle.wast_value_types.specs.ValueTree.{HeapType, Abstract, Concrete, Exact}
 use Rattle.wast_value_types.specs.ValueSyntax.{exponent_below, exponent, page_size}
 use Rattle.wast_fields.specs.FieldTree.{Elements, Defined, Definition, ElemMode, PassiveElem, DeclaredElem, ActiveElem, DataMode, PassiveData, ActiveData, Field, TypeField, RecField, ImportField, Define, ExportField, StartField, ElemField, DataField, CustomField, is_start, no_start, one_start, field_place, Content, Fields, Pieces, Module}
@@ -21,9 +21,10 @@ use Rattle.wast_meaning.specs.Written.{zero_offset, field_out, written_from, wri
 use Rattle.wast_meaning.specs.Mentions.{Part, Constant, heap_mentions, says, elements_parts, defined_parts, elem_mode_parts, data_mode_parts, parts}
 use Rattle.wast_meaning.specs.Scope.{Scope, scope_of}
 use Rattle.wast_meaning.specs.Demands.{field_demands}
-use Rattle.wast_meaning.specs.WellFormed.{part_formed, page_formed, pages_formed, is_bound, are_bound, field_formed, breach, breaches}
+use Rattle.wast_meaning.specs.WellFormed.{part_formed, page_formed, pages_formed, are_bound, field_formed, breach, breaches}
 use Rattle.wast_meaning.proofs.Settled.{left, right, two, front, back}
 use Rattle.wast_resolve_laws.proofs.Outlined.{OwnQuiet, parts_out}
+use Rattle.wast_resolve_laws.proofs.Unmet.{all_bound}
 use Rattle.wat_laws.specs.Written.{Places, heap_at, elem_mode_at, data_mode_at, placed, as_they_were, all_placed}
 use Rattle.wat_laws.proofs.PlacedFields.{by_defined, by_field, same_each, import_at}
 
@@ -147,21 +148,6 @@ module _ {N P : Type 0} where
         by_case true e = refl
         by_case false e = absurd (cc)
 
-    either_held : (a b : Bool) → b ≡ true → (a || b) ≡ true
-    either_held true b e = refl
-    either_held false b e = e
-
-    bound_held : (c : Complaint N) (b : Bool) → b ≡ true → is_bound is_made c b ≡ true
-    bound_held (Unknown kind n) b e = either_held (not (is_made n)) b e
-    bound_held (Duplicate kind) b e = refl
-    bound_held (ImportAfter kind) b e = refl
-    bound_held TypeMismatch b e = refl
-    bound_held LabelMismatch b e = refl
-
-    bound_met : (ds : List (Demand N P)) → list_all is_met ds ≡ true → are_bound eq is_made ds ≡ true
-    bound_met [] h = refl
-    bound_met (d ∷ ds) h = both_true (bound_held d.complaint d.holds (left (is_met d) (list_all is_met ds) h)) (bound_met ds (right (is_met d) (list_all is_met ds) h))
-
     whole_walk : (started : Bool) (fs : List (Field N P)) → starts_alone started fs ≡ true → list_all pages_formed fs ≡ true → unformed fs ≡ [] → list_all is_met (flat_map (field_demands eq s) fs) ≡ true
         → walked (breach eq is_made s) started_after started fs ≡ []
     whole_walk started [] starts pages whole met = refl
@@ -169,7 +155,7 @@ module _ {N P : Type 0} where
         let formed : field_formed eq is_made s started f ≡ true =
         both_true
         (both_true (both_true (all_formed (parts f) (nil_front (flat_map marked (parts f)) (unformed fs) whole)) (left (pages_formed f) (list_all pages_formed fs) pages)) (left (not (started && is_start f)) (starts_alone (started || is_start f) fs) starts))
-        (bound_met (field_demands eq s f) (front is_met (field_demands eq s f) (flat_map (field_demands eq s) fs) met)) in
+        (all_bound eq is_made (field_demands eq s f) (front is_met (field_demands eq s f) (flat_map (field_demands eq s) fs) met)) in
         ap (λ b. (if b then [] else field_place f ∷ []) ++ walked (breach eq is_made s) started_after (started_after started f) fs) formed
         ∙ whole_walk (started_after started f) fs (right (not (started && is_start f)) (starts_alone (started || is_start f) fs) starts) (right (pages_formed f) (list_all pages_formed fs) pages) (nil_back (flat_map marked (parts f)) (unformed fs) whole) (back is_met (field_demands eq s f) (flat_map (field_demands eq s) fs) met)
 
