@@ -42,7 +42,7 @@ impl EncodeOptions {
     ///
     /// A module is refused by its first demand of names that isn't met, with its place and message; else by its first form that has no binary
     /// here, with the place of its field; else as too large exactly where, memory found, a count or a length of its binary is past 4294967295.
-    /// One with 2147483647 or more items, parameters, locals, fields of structures and instructions in all is refused as for want of memory.
+    /// One with 2147483647 or more items, parameters, locals, fields of structures and instructions in all may be refused as for want of memory.
     ///
     /// Its names are resolved then, and what stands inline in it is written out, also where it is refused after that: encoded again, it
     /// gives the same answer. `gensym` has come as far as names were taken. A module of which a demand isn't met keeps why, and each later call is refused by a copy of that, or for want
