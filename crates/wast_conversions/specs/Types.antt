@@ -97,7 +97,7 @@ module _ {N P : Type 0} where
   abbrev pub use_meant : TypeUse N P → ℕ
   use_meant u = elim u.index [ Some i ↦ number_of i | None ↦ 0 ]
 
-  -- table, global and external types (6.4.10, 6.4.12, 6.4.13)
+  -- table, global and external types (6.4.12, 6.4.10, 6.4.13)
   abbrev pub table_meant : TableType N P → entities.TableType
   table_meant t = record { element_type = ref_meant t.element; limits = limits_meant t.limits t.shared None }
 

@@ -2,8 +2,8 @@
 
 ghost use Rattle.wast_deinline.specs.Laws.{FreshNames, WrittenAgain};
 
-/// Where no name of the fields was made after so many, those that are made are fresh: they differ from each other, and from all names of
-/// the fields.
+/// Where no name of the fields was made after so many, those that are made are fresh: they differ from each other, and from those of all
+/// items and all that are mentioned.
 pub fn fresh_names()
     ensures { FreshNames }
 {}

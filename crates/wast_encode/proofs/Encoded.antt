@@ -109,11 +109,11 @@ module _ (counter : ℕ) (before after : Module Name ℕ) where
   resolved_counts (faults.Uncovered span form) n is = is
 
   -- refused after it was resolved
-  pub resolved_leaves : after ≡ module_by counter before → (fault : EncodeFault) → ((error : Problem) → fault ≡ faults.Unmet error → ⊥) → LeavesFor counter before after fault
-  resolved_leaves is (faults.Unmet error) other = absurd (other error refl)
-  resolved_leaves is faults.Memory other = inl is
-  resolved_leaves is faults.TooLarge other = is
-  resolved_leaves is (faults.Uncovered span form) other = is
+  pub resolved_leaves : after ≡ module_by counter before → first_unmet is_met (module_demands_by counter before) ≡ None → (fault : EncodeFault) → ((error : Problem) → fault ≡ faults.Unmet error → ⊥) → LeavesFor counter before after fault
+  resolved_leaves is met (faults.Unmet error) other = absurd (other error refl)
+  resolved_leaves is met faults.Memory other = inl (is, met)
+  resolved_leaves is met faults.TooLarge other = is
+  resolved_leaves is met (faults.Uncovered span form) other = is
 
   -- one that was refused before
   one_reason : (error reason why : Problem) → before.refusal ≡ Some why → after ≡ before → after.refusal ≡ Some reason → (error ≡ reason) ⊎ (error ≡ out_of_memory) → is_memory error.cause ≡ false → error ≡ why

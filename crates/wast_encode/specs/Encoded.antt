@@ -55,7 +55,7 @@ module _ (counter : ℕ) (t : Module Name ℕ) where
   LeavesFor after (faults.Unmet error) = IsRefused after error
   LeavesFor after (faults.Uncovered span form) = after ≡ module_by counter t
   LeavesFor after faults.TooLarge = after ≡ module_by counter t
-  LeavesFor after faults.Memory = (after ≡ module_by counter t) ⊎ ((why : Problem) × (after.refusal ≡ Some why) × Refuses (module_demands_by counter t) why)
+  LeavesFor after faults.Memory = ((after ≡ module_by counter t) × (first_unmet is_met (module_demands_by counter t) ≡ None)) ⊎ ((why : Problem) × (after.refusal ≡ Some why) × Refuses (module_demands_by counter t) why)
 
   -- How far the counter comes where the tree is resolved: as far as names were taken.
   abbrev pub CountsFor : ℕ → EncodeFault → Type 0

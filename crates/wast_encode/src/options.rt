@@ -10,7 +10,7 @@ ghost use Rattle.wast_names.specs.Demand.{is_met};
 ghost use Rattle.wast_names.specs.Walk.{first_unmet};
 ghost use Rattle.wast_meaning.specs.Modules.{content_fields, module_breaches};
 ghost use Rattle.wast_meaning.specs.Made.{is_made};
-ghost use Rattle.wast_resolve.specs.Whole.{counter_after, module_by, module_demands_by};
+ghost use Rattle.wast_resolve.specs.Whole.{IsCalledAlike, counter_after, module_by, module_demands_by};
 ghost use Rattle.wasm_layout.specs.Lays.{Lays};
 ghost use Rattle.wast_encode.specs.Can.{CanEncode};
 ghost use Rattle.wast_encode.specs.Encoded.{CountsFor, Deserves, IsBinaryOf, IsRefusedFor, LeavesFor};
@@ -42,11 +42,13 @@ impl EncodeOptions {
     ///
     /// A module is refused by its first demand of names that isn't met, with its place and message; else by its first form that has no binary
     /// here, with the place of its field; else as too large exactly where, memory found, a count or a length of its binary is past 4294967295.
-    /// One with 2147483647 or more items, parameters, locals, fields of structures and instructions in all may be refused as for want of memory.
+    /// One with more than 2147483647 items, parameters, locals, fields of structures and instructions in all, where a table or a memory counts
+    /// twice, may be refused as for want of memory.
     ///
     /// Its names are resolved then, and what stands inline in it is written out, also where it is refused after that: encoded again, it
-    /// gives the same answer. `gensym` has come as far as names were taken. A module of which a demand isn't met keeps why, and each later call is refused by a copy of that, or for want
-    /// of memory for the copy; its fields may be gone.
+    /// gives the same answer, where memory is found. `gensym` has come as far as its fields take names. A module whose names weren't resolved, for a
+    /// demand that isn't met or for want of memory, keeps why, and each later call is refused by a copy of that, or for want of memory for the copy; its
+    /// fields may be gone, and `gensym` has come no further than they take names. Its place and its names stay.
     pub fn encode_module(
         &self,
         alloc: Global,
@@ -61,6 +63,7 @@ impl EncodeOptions {
         ensures left { (module_tree «module».old).refusal ≡ None → IfErr result (LeavesFor gensym.old (module_tree «module».old) (module_tree «module».new)) }
         ensures refused { (why : Problem) → (module_tree «module».old).refusal ≡ Some why → IfErr result (IsRefusedFor why) }
         ensures kept { (why : Problem) → (module_tree «module».old).refusal ≡ Some why → module_tree «module».new ≡ module_tree «module».old }
+        ensures called { IsCalledAlike (module_tree «module».old) (module_tree «module».new) }
         ensures counted { OnOk result (gensym.new ≡ counter_after gensym.old (content_fields (module_tree «module».old).content)) }
         ensures reached { IfErr result (CountsFor gensym.old (module_tree «module».old) gensym.new) }
         ensures rises { gensym.old ≤ gensym.new }
@@ -90,6 +93,7 @@ fn resolve_names(
     ensures resolved { OnOk result (((module_tree «module».old).refusal ≡ None) × (module_tree «module».new ≡ module_by gensym.old (module_tree «module».old))) }
     ensures fault { IfErr result (IsUnresolved gensym.old (module_tree «module».old) (module_tree «module».new)) }
     ensures kept { (why : Problem) → (module_tree «module».old).refusal ≡ Some why → module_tree «module».new ≡ module_tree «module».old }
+    ensures called { IsCalledAlike (module_tree «module».old) (module_tree «module».new) }
     ensures counted { OnOk result (gensym.new ≡ counter_after gensym.old (content_fields (module_tree «module».old).content)) }
     ensures rises { gensym.old ≤ gensym.new }
     ensures bounded { gensym.new ≤ counter_after gensym.old (content_fields (module_tree «module».old).content) }

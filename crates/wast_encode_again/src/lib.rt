@@ -1,5 +1,5 @@
 //! Laws of encoding a module once more (WebAssembly Core Specification 3.0, 6.6), and no code: what `EncodeOptions::encode_module` of `wast_encode`
-//! leaves of a module can be encoded again, and is answered as the module is.
+//! leaves of a module whose names it resolved can be encoded again, and is answered as the module is.
 //!
 //! # What has to be believed
 //!

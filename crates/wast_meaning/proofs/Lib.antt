@@ -6,8 +6,6 @@ mod Operands
 pub mod Resolved
 pub mod Settled
 pub mod SettledFields
-pub mod Settles
-pub mod SettlesFields
 pub mod Taken
 pub mod Walked
 mod Words

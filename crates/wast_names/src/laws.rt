@@ -14,7 +14,7 @@ pub fn distinct()
     ensures { Distinct }
 {}
 
-/// Where all are accepted, one item at most bears a name: the first that does is the last.
+/// Where no two items bear one name, the first that bears a name is the last.
 pub fn one_place()
     ensures { OnePlace }
 {}

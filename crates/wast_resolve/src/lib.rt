@@ -26,10 +26,10 @@
 //!
 //! [`resolve()`] writes fields out first, and does both; [`ResolveModule`] does so with a module in its place, which keeps why it is refused.
 //! It also tells whether a module, one that is made by hand too, is well formed.
-//! So `(memory (export "m") (data "ab"))` becomes
+//! So `(memory (export "m") (data "ab"))` becomes, where `$gensym` stands for the name that is made,
 //!
 //! ```text
-//! (memory 1 1)
+//! (memory $gensym 1 1)
 //! (export "m" (memory 0))
 //! (data (memory 0) (i32.const 0) "ab")
 //! ```

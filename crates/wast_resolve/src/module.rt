@@ -50,7 +50,7 @@ pub trait ResolveModule<'a> {
     /// proposals on branch hints and page sizes). In fields that are, alignments are powers of two below 65536, in bytes; branch hints rise,
     /// each stands on an instruction, and their values are below 128; constant expressions close each block that they open, and no other;
     /// a memory with its segment inline has pages of 2 to a power below 64 bytes; no start function stands behind another; and each name
-    /// that is made up means something wherever it is mentioned. Takes no memory, and changes nothing.
+    /// that is made up means something wherever an index mentions it. Takes no memory, and changes nothing.
     fn well_formed(&self) -> Option<Span>
         ensures { result ≡ slice_get (module_breaches same_name is_made (tree self.now)) 0 };
 }

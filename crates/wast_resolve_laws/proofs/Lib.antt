@@ -10,6 +10,8 @@ pub mod Plain
 pub mod Renamed
 pub mod RenamedFields
 pub mod Resolved
+pub mod Settles
+pub mod SettlesFields
 pub mod Sigs
 pub mod Taken
 pub mod Taking

@@ -26,7 +26,7 @@ use Rattle.wast_meaning.specs.Changed.{Change, Changes, heap_changed, val_change
 use Rattle.wast_meaning.specs.Numbered.{numbering, numberings, numbered}
 use Rattle.wast_meaning.specs.Settled.{is_number, is_settled, is_typed, are_typed}
 use Rattle.wast_meaning.proofs.Settled.{left, right, two, front, back}
-use Rattle.wast_meaning.proofs.Settles as settles
+use Rattle.wast_resolve_laws.proofs.Settles as settles
 use Rattle.wast_resolve_laws.proofs.Changes as changes
 use Rattle.wast_resolve_laws.proofs.Changes.{mention_changed, part_changed, parts_so}
 use Rattle.wast_resolve_laws.proofs.Kept.{inner_sig, items_kept, order_kept, nearest_kept, written_changed, written_types_kept, SameLabels, labels_more, scope_at_kept}

@@ -1,7 +1,7 @@
 -- What fields are written out as: the same types, uses, items and demands in the same order, but for the names that are made.
 use Rattle.std.proofs.Common.{◌≡◌, ℕ, suc, Bool, true, false, List, [], ◌∷◌, ◌++◌, map, Option, Some, None, refl, sym, ◌∙◌, ap, append_assoc}
 use Rattle.std.specs.Prelude.{◌||◌, if◌then◌else◌, filter, filter_map, slice_get, option_and_then}
-use Rattle.std.specs.List.{flat_map}
+use Rattle.std.specs.List.{flat_map, position_from}
 use Rattle.std.proofs.lemmas.List.{map-append, append-nil}
 use Rattle.std.proofs.lemmas.List.Elements.{filter-append}
 use Rattle.std.proofs.lemmas.Grind.{flat_map-append}
@@ -16,7 +16,7 @@ use Rattle.wast_fields.specs.FieldTree.{Defined, Imported, Func, Table, TableOf,
 use Rattle.wast_meaning.specs.Written.{has_any, space_of_kind, kind_of, zero_offset, field_of, export_of, segment_of, has_segment, is_said, name_or, definition_out, field_out, written_from, written_out}
 use Rattle.wast_meaning.specs.Mentions.{Refers, Part, Says, Constant, ref_mentions, says, elements_parts, defined_parts, parts, part_mentions}
 use Rattle.wast_meaning.specs.Spaces.{Bound, bound, same_space, bound_segment, items, items_in, fields_at}
-use Rattle.wast_meaning.specs.Implied.{sig_of_mention, used_sigs, written_types, plain_sig, implied_by, implied, sig_at}
+use Rattle.wast_meaning.specs.Implied.{same_option, same_sig, same_written, sig_of_mention, used_sigs, written_types, plain_sig, implied_by, implied, sig_at, type_taken}
 use Rattle.wast_meaning.specs.Demands.{nearest, order_demand, order_demands}
 use Rattle.wast_meaning.proofs.Settled.{two}
 use Rattle.wast_resolve_laws.proofs.Sigs.{sig_of_type, implied_sig, placed}
@@ -316,3 +316,7 @@ module _ {N P : Type 0} (eq : N → N → Bool) (naming : ℕ → N) (fs : List 
 
   pub sig_written : (n : ℕ) → sig_at eq (written_out naming fs) n ≡ sig_at eq fs n
   sig_written n = two (λ ts us. option_and_then (λ s. s) (slice_get (map sig_of_type ts ++ map implied_sig us) n)) (types_written naming fs) implied_written
+
+  pub taken_written : (s : Sig N P) → type_taken eq (written_out naming fs) s ≡ type_taken eq fs s
+  taken_written s =
+      two (λ ts us. position_from (same_option (same_sig (same_written eq)) (Some s)) 0 (map plain_sig ts ++ map implied_sig us)) (types_written naming fs) implied_written

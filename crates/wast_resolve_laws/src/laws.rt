@@ -3,7 +3,7 @@
 //! Fields are *expanded* where each use of a type without an index has the number of the type that it takes, and the implied types stand
 //! behind all fields (WebAssembly Core Specification 3.0, 6.6.3: abbreviations).
 
-ghost use Rattle.wast_resolve_laws.specs.Laws.{DemandsKept, FieldsKept, LabelsHandedOn, NamingsAlike, NothingImplied, NumberedSettled, OrdersAgree, RenamedDemands, RenamedNumbers, ResolvedAgain, ResolvedMet, ResolvedSettled, ScopeKept, SignaturesKept, SpacesApart, SpacesKept, TestedOnTheWay, TypesTaken, WrittenDemands, WrittenNames, WrittenSignatures};
+ghost use Rattle.wast_resolve_laws.specs.Laws.{DemandsKept, FieldsKept, LabelsHandedOn, NamingsAlike, NothingImplied, NumberedSettled, OrdersAgree, RenamedDemands, RenamedNumbers, ResolvedAgain, ResolvedMet, ResolvedSettled, ScopeKept, SignaturesKept, SpacesApart, SpacesKept, TestedOnTheWay, TypesTaken, WrittenDemands, WrittenNames, WrittenSignatures, WrittenTypes};
 
 /// A name means the same item of a space before and after fields are expanded: the types behind them have no names.
 pub fn spaces_kept()
@@ -46,6 +46,12 @@ pub fn written_signatures()
     ensures { WrittenSignatures }
 {}
 
+/// The names of the fields of each type, the types that uses imply and the type that a use takes are the same among fields and among what
+/// they are written out as.
+pub fn written_types()
+    ensures { WrittenTypes }
+{}
+
 /// A name means the same item among fields and among what they are written out as, unless it is one that is made there.
 pub fn written_names()
     ensures { WrittenNames }
@@ -77,7 +83,7 @@ pub fn resolved_again()
     ensures { ResolvedAgain }
 {}
 
-/// Where fields keep to all demands on names and each use that needs a type has one, numbering leaves numbers alone.
+/// Where fields keep to all demands on names and each use that needs a type has one, numbering leaves nothing but numbers.
 pub fn numbered_settled()
     ensures { NumberedSettled }
 {}

@@ -5,7 +5,7 @@ ghost use Rattle.std.specs.Str.{IsUtf8};
 ghost use Rattle.wast_parser.specs.Problem.{Problem};
 ghost use Rattle.wast_parser.specs.Table.{IsTable};
 ghost use Rattle.wast_meaning.specs.Modules.{content_fields};
-ghost use Rattle.wast_resolve.specs.Whole.{counter_after, module_by};
+ghost use Rattle.wast_resolve.specs.Whole.{IsCalledAlike, counter_after, module_by};
 ghost use Rattle.wast_encode.specs.Encoded as encoded;
 ghost use Rattle.wast_encode.specs.Encoded.{CountsFor, IsRefusedFor, LeavesFor};
 ghost use Rattle.wat_verdict.specs.Verdict.{Assembles, Fails, TooLong, NotUtf8, tree_breach};
@@ -65,6 +65,7 @@ pub fn encode_wat(
     ensures left { (wat_tree wat.old).refusal ≡ None → IfErr result (LeavesFor gensym.old (wat_tree wat.old) (wat_tree wat.new)) }
     ensures refused { (why : Problem) → (wat_tree wat.old).refusal ≡ Some why → IfErr result (IsRefusedFor why) }
     ensures kept { (why : Problem) → (wat_tree wat.old).refusal ≡ Some why → wat_tree wat.new ≡ wat_tree wat.old }
+    ensures called { IsCalledAlike (wat_tree wat.old) (wat_tree wat.new) }
     ensures counted { OnOk result (gensym.new ≡ counter_after gensym.old (content_fields (wat_tree wat.old).content)) }
     ensures reached { IfErr result (CountsFor gensym.old (wat_tree wat.old) gensym.new) }
     ensures rises { gensym.old ≤ gensym.new }

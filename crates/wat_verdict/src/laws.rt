@@ -20,14 +20,14 @@ pub fn equal_binaries()
     ensures { EqualBinaries }
 {}
 
-/// Two texts whose significant tokens agree in kind and text get the same binary or fail the same condition, places aside; so do a text and
-/// the same with spaces over a comment, which fail it at the same place.
+/// Two UTF-8 texts of at most 4294967295 bytes that lex, and whose significant tokens agree in kind and text, get the same binary or fail the
+/// same condition, places aside; so do such a text and the same with spaces over a comment, which fail it at the same place.
 pub fn tokens_decide()
     ensures tokens { TokensDecide }
     ensures comments { CommentsAside }
 {}
 
-/// Two texts whose significant tokens differ by a renaming of identifiers that is one to one fail the same condition, places and names
+/// Two such texts whose significant tokens differ by a renaming of identifiers that is one to one fail the same condition, places and names
 /// aside, or are both accepted, and the modules that they mean are the same without their names.
 pub fn renaming()
     ensures { Renaming }

@@ -26,7 +26,7 @@ use Rattle.wast_meaning.specs.Numbered.{numbering, numberings, numbered}
 use Rattle.wast_meaning.specs.Settled.{is_settled, is_typed, are_settled, are_typed}
 use Rattle.wast_meaning.proofs.Settled.{left, right}
 use Rattle.wast_meaning.proofs.SettledFields.{said_parts}
-use Rattle.wast_meaning.proofs.Settles.{Met, met_front, met_back, each_so, index_so, if_so, heap_so, val_so, locals_so, type_so, use_so, instr_so}
+use Rattle.wast_resolve_laws.proofs.Settles.{Met, met_front, met_back, each_so, index_so, if_so, heap_so, val_so, locals_so, type_so, use_so, instr_so}
 
 -- a test of lists that are joined, and of what lists are mapped to
 module _ {A : Type 0} (q : A → Bool) where
