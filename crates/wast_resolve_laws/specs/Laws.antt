@@ -60,9 +60,9 @@ WrittenSignatures = (fields : List (Field Name ℕ)) (naming : ℕ → Name) (nu
 
 -- So are the names of the fields of a type, the types that uses imply, and the type that a use takes.
 pub record WrittenTypes : Type 0 where
-  pub fields : (old : List (Field Name ℕ)) (naming : ℕ → Name) (number : ℕ) → fields_at (written_out naming old) number ≡ fields_at old number
-  pub implied : (old : List (Field Name ℕ)) (naming : ℕ → Name) → implied same_name (written_out naming old) ≡ implied same_name old
-  pub taken : (old : List (Field Name ℕ)) (naming : ℕ → Name) (signature : Sig Name ℕ) → type_taken same_name (written_out naming old) signature ≡ type_taken same_name old signature
+  pub field_names : (old : List (Field Name ℕ)) (naming : ℕ → Name) (number : ℕ) → fields_at (written_out naming old) number ≡ fields_at old number
+  pub implied_types : (old : List (Field Name ℕ)) (naming : ℕ → Name) → implied same_name (written_out naming old) ≡ implied same_name old
+  pub taken_types : (old : List (Field Name ℕ)) (naming : ℕ → Name) (signature : Sig Name ℕ) → type_taken same_name (written_out naming old) signature ≡ type_taken same_name old signature
 
 -- A name means the same, unless it is one that is made.
 abbrev pub WrittenNames : Type 0

@@ -4,7 +4,7 @@ use Rattle.wast_resolve_laws.proofs.laws.written_types.Goals as goal
 
 pub returns : goal.returns
 returns c = record {
-  fields = λ old naming number. outlined.fields_written naming old number;
-  implied = λ old naming. outlined.implied_written same_name naming old;
-  taken = λ old naming signature. outlined.taken_written same_name naming old signature;
+  field_names = λ old naming number. outlined.fields_written naming old number;
+  implied_types = λ old naming. outlined.implied_written same_name naming old;
+  taken_types = λ old naming signature. outlined.taken_written same_name naming old signature;
 }
