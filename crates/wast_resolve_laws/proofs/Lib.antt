@@ -11,7 +11,6 @@ pub mod Renamed
 pub mod RenamedFields
 pub mod Resolved
 pub mod Settles
-pub mod SettlesFields
 pub mod Sigs
 pub mod Taken
 pub mod Taking

@@ -17,16 +17,17 @@ use Rattle.wast_value_types.specs.ValueTree.{HeapType, Abstract, Concrete, Exact
 use Rattle.wast_core_types.specs.TypeTree.{Local, Sig, TypeItem, TypeUse}
 use Rattle.wast_core_instr.specs.InstructionTree.{Instruction}
 use Rattle.wast_fields.specs.FieldTree.{Function, Field}
-use Rattle.wast_meaning.specs.Mentions.{Mention, Refers, Member, Uses, UsesInBlock, Repeats, Part, Says, Constant, Body, local_mentions, use_mentions, instr_mentions, expr_mentions, parts, part_mentions, field_mentions}
+use Rattle.wast_meaning.specs.Mentions.{Mention, Refers, Member, Uses, UsesInBlock, Repeats, Part, Says, Constant, Body, local_mentions, use_mentions, instr_mentions, parts}
 use Rattle.wast_meaning.specs.Spaces.{Bound, same_space, space_word, items, items_in, fields_at, denotes, listed}
 use Rattle.wast_meaning.specs.Implied.{no_sig, same_flag, same_option, same_heap, same_val, same_local, same_sig, written_types, implied, sig_at, type_count}
 use Rattle.wast_meaning.specs.Scope.{Scope, space_count, index_space, scope_of, with_locals, scope_at, members, params_of, params_of_index, locals_of}
 use Rattle.wast_meaning.specs.Demands.{nearest, order_demand, order_demands, item_demands, same_numbered, agrees, agreement, agreements, says_demands, use_demands, mention_demands, instrs_demands, func_demands, part_demands, field_demands, demands}
 use Rattle.wast_meaning.specs.Changed.{Change, Changes, heap_changed, val_changed, local_changed, sig_changed, instr_changed, instrs_changed, func_changed, field_changed}
 use Rattle.wast_meaning.specs.Numbered.{numbering, numberings, numbered}
-use Rattle.wast_meaning.specs.Settled.{is_number, is_settled, is_typed, are_typed}
+use Rattle.wast_meaning.specs.Settled.{is_number, are_typed}
 use Rattle.wast_meaning.proofs.Settled.{left, right, two, front, back}
-use Rattle.wast_resolve_laws.proofs.Settles as settles
+use Rattle.wast_resolve_laws.specs.Numbers.{numbers_said}
+use Rattle.wast_resolve_laws.proofs.Settles.{instr_numbers}
 use Rattle.wast_resolve_laws.proofs.Changes as changes
 use Rattle.wast_resolve_laws.proofs.Changes.{mention_changed, part_changed, parts_so}
 use Rattle.wast_resolve_laws.proofs.Kept.{inner_sig, items_kept, order_kept, nearest_kept, written_changed, written_types_kept, SameLabels, labels_more, scope_at_kept}
@@ -203,40 +204,40 @@ module _ {N P : Type 0} (eq : N → N → Bool) (d : Change N P) where
   member_met s t (ByNumber n p) e = refl
   member_met s t (ByName id) e = elim (false≢true e) [ ]
 
-  settled_met : (s : Scope N P) (m : Mention N P) → is_settled m ≡ true → list_all is_met (mention_demands eq s (aside m)) ≡ true → list_all is_met (mention_demands eq s m) ≡ true
-  settled_met s (Refers space i) t e = e
-  settled_met s (Member x i) t e = member_met s x i t
-  settled_met s (Repeats id) t e = e
-  settled_met s (Uses u) t e = e
-  settled_met s (UsesInBlock u) t e = e
+  number_met : (s : Scope N P) (m : Mention N P) → numbers_said m ≡ true → list_all is_met (mention_demands eq s (aside m)) ≡ true → list_all is_met (mention_demands eq s m) ≡ true
+  number_met s (Refers space i) n e = e
+  number_met s (Member x i) n e = member_met s x i n
+  number_met s (Repeats id) n e = e
+  number_met s (Uses u) n e = e
+  number_met s (UsesInBlock u) n e = e
 
-  all_settled_met : (s : Scope N P) (ms : List (Mention N P)) → list_all is_settled ms ≡ true → list_all is_met (flat_map (mention_demands eq s) (map aside ms)) ≡ true → list_all is_met (flat_map (mention_demands eq s) ms) ≡ true
-  all_settled_met s [] t e = refl
-  all_settled_met s (m ∷ ms) t e =
+  numbers_met : (s : Scope N P) (ms : List (Mention N P)) → list_all numbers_said ms ≡ true → list_all is_met (flat_map (mention_demands eq s) (map aside ms)) ≡ true → list_all is_met (flat_map (mention_demands eq s) ms) ≡ true
+  numbers_met s [] n e = refl
+  numbers_met s (m ∷ ms) n e =
       both is_met (mention_demands eq s m) (flat_map (mention_demands eq s) ms)
-      (settled_met s m (left (is_settled m) (list_all is_settled ms) t) (front is_met (mention_demands eq s (aside m)) (flat_map (mention_demands eq s) (map aside ms)) e))
-      (all_settled_met s ms (right (is_settled m) (list_all is_settled ms) t) (back is_met (mention_demands eq s (aside m)) (flat_map (mention_demands eq s) (map aside ms)) e))
+      (number_met s m (left (numbers_said m) (list_all numbers_said ms) n) (front is_met (mention_demands eq s (aside m)) (flat_map (mention_demands eq s) (map aside ms)) e))
+      (numbers_met s ms (right (numbers_said m) (list_all numbers_said ms) n) (back is_met (mention_demands eq s (aside m)) (flat_map (mention_demands eq s) (map aside ms)) e))
 
   -- INSTRUCTIONS
   abbrev own_demands : Scope N P → List (Instruction N P) → Instruction N P → List (Demand N P)
   own_demands s before i = flat_map (mention_demands eq (scope_at eq s before i)) (instr_mentions i)
 
-  instr_here : (s : Scope N P) → Numbers s → (i : Instruction N P) → list_all is_met (flat_map (mention_demands eq s) (instr_mentions i)) ≡ true → list_all is_typed (instr_mentions i) ≡ true →
+  instr_here : (s : Scope N P) → Numbers s → (i : Instruction N P) → list_all is_met (flat_map (mention_demands eq s) (instr_mentions i)) ≡ true →
       list_all is_met (flat_map (mention_demands eq (rescoped d s)) (instr_mentions (instr_changed (numbering s) i))) ≡ true
-  instr_here s numbers i e t =
-      all_settled_met (rescoped d s) (instr_mentions (instr_changed (numbering s) i)) (settles.instr_so eq s i e t)
+  instr_here s numbers i e =
+      numbers_met (rescoped d s) (instr_mentions (instr_changed (numbering s) i)) (instr_numbers eq s i e)
       (ap (λ ms. list_all is_met (flat_map (mention_demands eq (rescoped d s)) ms)) (changes.instr_so (numbering s) aside (λ space x j. refl) i) ∙ all_aside s numbers (instr_mentions i) e)
 
   instrs_so : (s : Scope N P) → Numbers s → (new old : List (Instruction N P)) → SameLabels new old → (is : List (Instruction N P)) →
-      list_all is_met (instrs_demands eq s old is) ≡ true → list_all is_typed (flat_map instr_mentions is) ≡ true →
+      list_all is_met (instrs_demands eq s old is) ≡ true →
       list_all is_met (instrs_demands eq (rescoped d s) new (instrs_changed (λ before i. numbering (scope_at eq s before i)) old is)) ≡ true
-  instrs_so s numbers new old same [] e t = refl
-  instrs_so s numbers new old same (i ∷ is) e t =
+  instrs_so s numbers new old same [] e = refl
+  instrs_so s numbers new old same (i ∷ is) e =
       let c = numbering (scope_at eq s old i) in
       both is_met (own_demands (rescoped d s) new (instr_changed c i)) (instrs_demands eq (rescoped d s) (instr_changed c i ∷ new) (instrs_changed (λ before j. numbering (scope_at eq s before j)) (i ∷ old) is))
       (ap (λ x. list_all is_met (flat_map (mention_demands eq x) (instr_mentions (instr_changed c i)))) (scope_at_kept eq (rescoped d s) c i new old same)
-      ∙ instr_here (scope_at eq s old i) numbers i (front is_met (own_demands s old i) (instrs_demands eq s (i ∷ old) is) e) (front is_typed (instr_mentions i) (flat_map instr_mentions is) t))
-      (instrs_so s numbers (instr_changed c i ∷ new) (i ∷ old) (labels_more c i new old same) is (back is_met (own_demands s old i) (instrs_demands eq s (i ∷ old) is) e) (back is_typed (instr_mentions i) (flat_map instr_mentions is) t))
+      ∙ instr_here (scope_at eq s old i) numbers i (front is_met (own_demands s old i) (instrs_demands eq s (i ∷ old) is) e))
+      (instrs_so s numbers (instr_changed c i ∷ new) (i ∷ old) (labels_more c i new old same) is (back is_met (own_demands s old i) (instrs_demands eq s (i ∷ old) is) e))
 
   -- FUNCTIONS
   params_found : (o : Option (Sig N P)) → unnamed_params (unwrap_or (option_map (sig_changed d) o) no_sig).params ≡ unnamed_params (unwrap_or o no_sig).params
@@ -260,9 +261,8 @@ module _ {N P : Type 0} (eq : N → N → Bool) (d : Change N P) where
   local_said : (s : Scope N P) (ls : List (Local N P)) → local_mentions (map (local_changed (numbering s)) ls) ≡ map (mention_changed (numbering s)) (local_mentions ls)
   local_said s ls = sym (map-id (local_mentions (map (local_changed (numbering s)) ls))) ∙ changes.locals_so (numbering s) (λ m. m) ls
 
-  func_so : (s : Scope N P) → Numbers s → (f : Function N P) → list_all is_met (func_demands eq s f) ≡ true → list_all is_typed (part_mentions (Body f)) ≡ true →
-      list_all is_met (func_demands eq (rescoped d s) (func_changed (numberings eq s) f)) ≡ true
-  func_so s numbers f e t =
+  func_so : (s : Scope N P) → Numbers s → (f : Function N P) → list_all is_met (func_demands eq s f) ≡ true → list_all is_met (func_demands eq (rescoped d s) (func_changed (numberings eq s) f)) ≡ true
+  func_so s numbers f e =
       let new = func_changed (numberings eq s) f in
       let use_part = use_demands eq s f.type_use in
       let local_part = flat_map (mention_demands eq s) (local_mentions f.locals) in
@@ -279,35 +279,32 @@ module _ {N P : Type 0} (eq : N → N → Bool) (d : Change N P) where
       (both is_met new_use new_local (use_so s numbers f.type_use (front is_met use_part local_part before_names))
       (ap (λ ms. list_all is_met (flat_map (mention_demands eq (rescoped d s)) ms)) (local_said s f.locals) ∙ mentions_so s numbers (local_mentions f.locals) (back is_met use_part local_part before_names)))
       (back is_met (use_part ++ local_part) name_part before_body))
-      (instrs_so (with_locals eq s (locals_of s f)) numbers [] [] refl f.body.instrs (back is_met (use_part ++ local_part ++ name_part) body_part e)
-      (back is_typed (local_mentions f.locals) (expr_mentions f.body) (right (is_typed (Uses f.type_use)) (list_all is_typed (local_mentions f.locals ++ expr_mentions f.body)) t)))
+      (instrs_so (with_locals eq s (locals_of s f)) numbers [] [] refl f.body.instrs (back is_met (use_part ++ local_part ++ name_part) body_part e))
 
   -- FIELDS
-  part_so : (s : Scope N P) → Numbers s → (x : Part N P) → list_all is_met (part_demands eq s x) ≡ true → list_all is_typed (part_mentions x) ≡ true →
-      list_all is_met (part_demands eq (rescoped d s) (part_changed (numberings eq s) x)) ≡ true
-  part_so s numbers (Says m) e t = mention_so s numbers m e
-  part_so s numbers (Constant x) e t = instrs_so s numbers [] [] refl x.instrs e t
-  part_so s numbers (Body f) e t = func_so s numbers f e t
+  part_so : (s : Scope N P) → Numbers s → (x : Part N P) → list_all is_met (part_demands eq s x) ≡ true → list_all is_met (part_demands eq (rescoped d s) (part_changed (numberings eq s) x)) ≡ true
+  part_so s numbers (Says m) e = mention_so s numbers m e
+  part_so s numbers (Constant x) e = instrs_so s numbers [] [] refl x.instrs e
+  part_so s numbers (Body f) e = func_so s numbers f e
 
-  all_parts : (s : Scope N P) → Numbers s → (xs : List (Part N P)) → list_all is_met (flat_map (part_demands eq s) xs) ≡ true → list_all is_typed (flat_map part_mentions xs) ≡ true →
+  all_parts : (s : Scope N P) → Numbers s → (xs : List (Part N P)) → list_all is_met (flat_map (part_demands eq s) xs) ≡ true →
       list_all is_met (flat_map (part_demands eq (rescoped d s)) (map (part_changed (numberings eq s)) xs)) ≡ true
-  all_parts s numbers [] e t = refl
-  all_parts s numbers (x ∷ xs) e t =
+  all_parts s numbers [] e = refl
+  all_parts s numbers (x ∷ xs) e =
       both is_met (part_demands eq (rescoped d s) (part_changed (numberings eq s) x)) (flat_map (part_demands eq (rescoped d s)) (map (part_changed (numberings eq s)) xs))
-      (part_so s numbers x (front is_met (part_demands eq s x) (flat_map (part_demands eq s) xs) e) (front is_typed (part_mentions x) (flat_map part_mentions xs) t))
-      (all_parts s numbers xs (back is_met (part_demands eq s x) (flat_map (part_demands eq s) xs) e) (back is_typed (part_mentions x) (flat_map part_mentions xs) t))
+      (part_so s numbers x (front is_met (part_demands eq s x) (flat_map (part_demands eq s) xs) e))
+      (all_parts s numbers xs (back is_met (part_demands eq s x) (flat_map (part_demands eq s) xs) e))
 
-  field_so : (s : Scope N P) → Numbers s → (f : Field N P) → list_all is_met (field_demands eq s f) ≡ true → list_all is_typed (field_mentions f) ≡ true →
-      list_all is_met (field_demands eq (rescoped d s) (field_changed (numberings eq s) f)) ≡ true
-  field_so s numbers f e t = ap (λ xs. list_all is_met (flat_map (part_demands eq (rescoped d s)) xs)) (parts_so (numberings eq s) f) ∙ all_parts s numbers (parts f) e t
+  field_so : (s : Scope N P) → Numbers s → (f : Field N P) → list_all is_met (field_demands eq s f) ≡ true → list_all is_met (field_demands eq (rescoped d s) (field_changed (numberings eq s) f)) ≡ true
+  field_so s numbers f e = ap (λ xs. list_all is_met (flat_map (part_demands eq (rescoped d s)) xs)) (parts_so (numberings eq s) f) ∙ all_parts s numbers (parts f) e
 
-  fields_so : (s : Scope N P) → Numbers s → (fs : List (Field N P)) → list_all is_met (flat_map (field_demands eq s) fs) ≡ true → are_typed fs ≡ true →
+  fields_so : (s : Scope N P) → Numbers s → (fs : List (Field N P)) → list_all is_met (flat_map (field_demands eq s) fs) ≡ true →
       list_all is_met (flat_map (field_demands eq (rescoped d s)) (map (field_changed (numberings eq s)) fs)) ≡ true
-  fields_so s numbers [] e t = refl
-  fields_so s numbers (f ∷ fs) e t =
+  fields_so s numbers [] e = refl
+  fields_so s numbers (f ∷ fs) e =
       both is_met (field_demands eq (rescoped d s) (field_changed (numberings eq s) f)) (flat_map (field_demands eq (rescoped d s)) (map (field_changed (numberings eq s)) fs))
-      (field_so s numbers f (front is_met (field_demands eq s f) (flat_map (field_demands eq s) fs) e) (left (list_all is_typed (field_mentions f)) (are_typed fs) t))
-      (fields_so s numbers fs (back is_met (field_demands eq s f) (flat_map (field_demands eq s) fs) e) (right (list_all is_typed (field_mentions f)) (are_typed fs) t))
+      (field_so s numbers f (front is_met (field_demands eq s f) (flat_map (field_demands eq s) fs) e))
+      (fields_so s numbers fs (back is_met (field_demands eq s f) (flat_map (field_demands eq s) fs) e))
 
 -- ITEMS, ORDER AND TYPES, whatever the change
 module _ {N P : Type 0} (cs : Changes N P) where
@@ -422,4 +419,4 @@ module _ {N P : Type 0} (eq : N → N → Bool) (fs : List (Field N P)) (met : f
       (two (λ a b. list_all is_met (a ++ item_demands eq b ++ flat_map (field_demands eq (scope_of eq (numbered eq fs))) (numbered eq fs))) (all_order cs None fs) items_numbered
       ∙ ap (λ x. list_all is_met (firsts ++ flat_map (field_demands eq x) (numbered eq fs))) scope_numbered
       ∙ both is_met firsts (flat_map (field_demands eq (rescoped (numbering s) s)) (numbered eq fs)) (front is_met firsts own all)
-      (fields_so eq (numbering s) s (λ i. refl) fs (back is_met firsts own all) typed))
+      (fields_so eq (numbering s) s (λ i. refl) fs (back is_met firsts own all)))

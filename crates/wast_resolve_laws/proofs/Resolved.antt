@@ -8,7 +8,7 @@ use Rattle.wast_meaning.specs.Demands.{demands, all_demands}
 use Rattle.wast_meaning.specs.Numbered.{expanded, resolved}
 use Rattle.wast_meaning.specs.Settled.{are_settled}
 use Rattle.wast_meaning.proofs.Resolved.{none_implied, resolved_stays}
-use Rattle.wast_resolve_laws.proofs.SettlesFields.{numbered_settles}
+use Rattle.wast_resolve_laws.proofs.Settles.{numbered_settles}
 use Rattle.wast_resolve_laws.proofs.DemandsKept.{demands_kept}
 use Rattle.wast_resolve_laws.proofs.Expanded.{expanded_typed}
 use Rattle.wast_resolve_laws.proofs.NumberedKept.{numbered_met}

@@ -20,6 +20,7 @@ use Rattle.wast_meaning.specs.Changed.{instr_changed, instrs_changed}
 use Rattle.wast_meaning.specs.Numbered.{numbering, expanded, numbered, resolved}
 use Rattle.wast_meaning.specs.Fresh.{taken_from, is_fresh}
 use Rattle.wast_meaning.specs.Settled.{are_settled, are_typed}
+use Rattle.wast_resolve_laws.specs.Numbers.{are_numbers}
 use Rattle.wast_resolve_laws.specs.Renamed.{fields_renamed, demand_renamed}
 use Rattle.wast_resolve_laws.specs.Walks.{tested, own_demands, labels_after, scope_among, demands_among}
 
@@ -95,9 +96,11 @@ abbrev pub ResolvedAgain : Type 0
 ResolvedAgain = (fields : List (Field Name ℕ)) (naming other : ℕ → Name) → first_unmet is_met (all_demands same_name naming fields) ≡ None
     → resolved same_name other (resolved same_name naming fields) ≡ resolved same_name naming fields
 
--- FIELDS THAT ARE NUMBERED, all demands of which are met and whose uses have their types: each index is a number.
-abbrev pub NumberedSettled : Type 0
-NumberedSettled = (fields : List (Field Name ℕ)) → first_unmet is_met (demands same_name fields) ≡ None → are_typed fields ≡ true → are_settled (numbered same_name fields) ≡ true
+-- FIELDS THAT ARE NUMBERED, all demands of which are met: each index is a number,
+pub record NumberedSettled : Type 0 where
+  pub numbers : (fields : List (Field Name ℕ)) → first_unmet is_met (demands same_name fields) ≡ None → are_numbers (numbered same_name fields) ≡ true
+  -- and where uses have their types, each has the number of its type.
+  pub settled : (fields : List (Field Name ℕ)) → first_unmet is_met (demands same_name fields) ≡ None → are_typed fields ≡ true → are_settled (numbered same_name fields) ≡ true
 
 -- FIELDS THAT ARE RENAMED: each name and each place has its counterpart, one to one
 -- Their demands are those of the fields, renamed,

@@ -83,7 +83,8 @@ pub fn resolved_again()
     ensures { ResolvedAgain }
 {}
 
-/// Where fields keep to all demands on names and each use that needs a type has one, numbering leaves nothing but numbers.
+/// Where fields keep to all demands on names, numbering makes each index a number; where each use that needs a type has one too, it has its
+/// number then.
 pub fn numbered_settled()
     ensures { NumberedSettled }
 {}

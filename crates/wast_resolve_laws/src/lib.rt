@@ -7,6 +7,7 @@
 //! | File of `specs/` | Says |
 //! |---|---|
 //! | `Laws` | the statements of the law functions |
+//! | `Numbers` | fields whose indices are numbers |
 //! | `Renamed` | fields and demands with other names and other places |
 //! | `Walks` | the walks of `wast_meaning` in other orders |
 //!
