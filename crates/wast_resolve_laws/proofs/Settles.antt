@@ -154,6 +154,10 @@ module _ {N P : Type 0} (eq : N → N → Bool) where
   numbered_numbers fs e = numbered_so eq numbers_said whatever (λ t u j. refl) (λ s m h t. numbers_so s m h) fs e (each_true (λ f. list_all whatever (field_mentions f)) (λ f. each_true whatever (λ m. refl) (field_mentions f)) fs)
 
 -- USES that have their types
+some_kept : {A : Type 0} (f : A → A) (o : Option A) → is_some (option_map f o) ≡ is_some o
+some_kept f None = refl
+some_kept f (Some x) = refl
+
 module _ {N P : Type 0} where
   use_number : (i : Option (Reference N P)) (ms : List (Mention N P)) → list_all says_number (refers_if Types i ++ ms) ≡ true → is_some i ≡ true → has_number i ≡ true
   use_number None ms e t = elim (false≢true t) [ ]
@@ -172,10 +176,6 @@ module _ {N P : Type 0} where
   settled_if (UsesInBlock u) e t = both_true (block_number u.index (is_short (unwrap_or u.inline no_sig)) (flat_map sig_mentions (option_to_list u.inline)) e t) e
 
   -- have them when they are numbered
-  some_kept : {A : Type 0} (f : A → A) (o : Option A) → is_some (option_map f o) ≡ is_some o
-  some_kept f None = refl
-  some_kept f (Some x) = refl
-
   short_kept : (c : Change N P) (o : Option (Sig N P)) → is_short (unwrap_or (option_map (sig_changed c) o) no_sig) ≡ is_short (unwrap_or o no_sig)
   short_kept c None = refl
   short_kept c (Some t) = two (λ m n. nat_eq m 0 && nat_le n 1) (length-map t.params (local_changed c)) (length-map t.results (val_changed c))

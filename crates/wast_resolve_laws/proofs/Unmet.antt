@@ -77,14 +77,14 @@ module _ {N P : Type 0} where
       by_case (Some d) f = refl
 
 -- NAMES that are made are bound where all demands are met
-module _ {N P : Type 0} (eq : N → N → Bool) (is_made : N → Bool) where
-  bound_if : (c : Complaint N) (holds : Bool) → holds ≡ true → is_bound is_made c holds ≡ true
-  bound_if (Unknown kind n) holds e = or_right (not (is_made n)) holds e
-  bound_if (Duplicate kind) holds e = refl
-  bound_if (ImportAfter kind) holds e = refl
-  bound_if TypeMismatch holds e = refl
-  bound_if LabelMismatch holds e = refl
+bound_if : {N : Type 0} (is_made : N → Bool) (c : Complaint N) (holds : Bool) → holds ≡ true → is_bound is_made c holds ≡ true
+bound_if is_made (Unknown kind n) holds e = or_right (not (is_made n)) holds e
+bound_if is_made (Duplicate kind) holds e = refl
+bound_if is_made (ImportAfter kind) holds e = refl
+bound_if is_made TypeMismatch holds e = refl
+bound_if is_made LabelMismatch holds e = refl
 
+module _ {N P : Type 0} (eq : N → N → Bool) (is_made : N → Bool) where
   pub all_bound : (ds : List (Demand N P)) → list_all is_met ds ≡ true → are_bound eq is_made ds ≡ true
   all_bound [] e = refl
-  all_bound (d ∷ ds) e = both_true (bound_if d.complaint d.holds (left (is_met d) (list_all is_met ds) e)) (all_bound ds (right (is_met d) (list_all is_met ds) e))
+  all_bound (d ∷ ds) e = both_true (bound_if is_made d.complaint d.holds (left (is_met d) (list_all is_met ds) e)) (all_bound ds (right (is_met d) (list_all is_met ds) e))
