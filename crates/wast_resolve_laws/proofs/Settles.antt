@@ -1,5 +1,5 @@
 -- Where all demands are met, numbering makes each index a number; where uses have their types too, it settles fields.
-use Rattle.std.proofs.Common.{◌≡◌, ℕ, Bool, true, false, List, [], ◌∷◌, ◌++◌, map, length, Option, Some, None, is_some, refl, sym, ◌∙◌, ap}
+use Rattle.std.proofs.Common.{◌≡◌, ℕ, Bool, true, false, List, [], ◌∷◌, ◌++◌, map, Option, Some, None, is_some, refl, sym, ◌∙◌, ap}
 use Rattle.std.specs.Prelude.{◌&&◌, ◌||◌, not, nat_eq, nat_le, unwrap_or, option_map, option_to_list}
 use Rattle.std.specs.List.{flat_map, list_all}
 use Rattle.std.specs.Cmp.Derive.{both_true}
@@ -37,8 +37,8 @@ each_true q h (x ∷ xs) = both_true (h x) (each_true q h xs)
 seen : {N P : Type 0} (c : Change N P) (q : Mention N P → Bool) (new old : List (Mention N P)) → Same c q new old → list_all q new ≡ list_all (λ m. q (mention_changed c m)) old
 seen c q new old e = sym (list_all-map (λ b. b) q new) ∙ ap (list_all (λ b. b)) e ∙ list_all-map (λ b. b) (λ m. q (mention_changed c m)) old
 
--- A TEST THAT HOLDS OF EACH MENTION that is numbered, where its demands are met and it passes another test: it holds throughout. It sees the
--- same whichever type a field is looked up in.
+-- TWO TESTS OF MENTIONS, of which the first holds of what is numbered where the demands are met and the second holds of what it was: so it is
+-- of whole fields. The first sees no difference in the type in which a field is looked up.
 module _ {N P : Type 0} (eq : N → N → Bool) (q p : Mention N P → Bool) (alike : (t u i : Reference N P) → q (Member t i) ≡ q (Member u i))
     (so : (s : Scope N P) (m : Mention N P) → list_all is_met (mention_demands eq s m) ≡ true → p m ≡ true → q (mention_changed (numbering s) m) ≡ true) where
   mentions_so : (s : Scope N P) (ms : List (Mention N P)) → list_all is_met (flat_map (mention_demands eq s) ms) ≡ true → list_all p ms ≡ true → list_all (λ m. q (mention_changed (numbering s) m)) ms ≡ true

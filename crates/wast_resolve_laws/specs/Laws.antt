@@ -96,10 +96,11 @@ abbrev pub ResolvedAgain : Type 0
 ResolvedAgain = (fields : List (Field Name ℕ)) (naming other : ℕ → Name) → first_unmet is_met (all_demands same_name naming fields) ≡ None
     → resolved same_name other (resolved same_name naming fields) ≡ resolved same_name naming fields
 
--- FIELDS THAT ARE NUMBERED, all demands of which are met: each index is a number,
+-- FIELDS THAT ARE NUMBERED, all demands of which are met
+-- Each index is a number,
 pub record NumberedSettled : Type 0 where
   pub numbers : (fields : List (Field Name ℕ)) → first_unmet is_met (demands same_name fields) ≡ None → are_numbers (numbered same_name fields) ≡ true
-  -- and where uses have their types, each has the number of its type.
+  -- and where uses have their types, each has its number.
   pub settled : (fields : List (Field Name ℕ)) → first_unmet is_met (demands same_name fields) ≡ None → are_typed fields ≡ true → are_settled (numbered same_name fields) ≡ true
 
 -- FIELDS THAT ARE RENAMED: each name and each place has its counterpart, one to one
