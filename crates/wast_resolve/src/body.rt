@@ -30,7 +30,8 @@ pub(crate) fn number_expression<'a>(
     locals: &Namespace<'a>,
     expression: Expression<'a>,
 ) -> Result<Expression<'a>, AllocError>
-    ensures { IfOk result (λ new. expression_tree new ≡ expr_changed (by_place spaces.now (space locals.now)) (expression_tree expression.entry)) }
+    ensures changed { IfOk result (λ new. expression_tree new ≡ expr_changed (by_place spaces.now (space locals.now)) (expression_tree expression.entry)) }
+    ensures spans { IfOk result (λ new. new.instr_spans ≡ expression.entry.instr_spans) }
 {
     let (instrs, branch_hints, instr_spans) = expression.into_parts();
     match number_instructions(alloc, spaces, locals, instrs) {

@@ -21,7 +21,8 @@ pub(crate) fn change_expression<'a, C: Changing<'a>>(
     change: &C,
     expression: Expression<'a>,
 ) -> Result<Expression<'a>, AllocError>
-    ensures { IfOk result (λ new. expression_tree new ≡ expr_changed (everywhere (C.change change.now)) (expression_tree expression.entry)) }
+    ensures changed { IfOk result (λ new. expression_tree new ≡ expr_changed (everywhere (C.change change.now)) (expression_tree expression.entry)) }
+    ensures spans { IfOk result (λ new. new.instr_spans ≡ expression.entry.instr_spans) }
 {
     let (instrs, branch_hints, instr_spans) = expression.into_parts();
     match turn_list(alloc, &Instructions { change }, instrs) {

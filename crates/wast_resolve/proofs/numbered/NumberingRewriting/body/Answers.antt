@@ -10,4 +10,4 @@ use Rattle.wast_resolve.proofs.numbered.NumberingRewriting.body.Goals as goal
 pub returns-in-Ok : goal.returns-in-Ok
 returns-in-Ok c =
     subst (λ (locals : names.Space Name). IfOk c.number_expression.result (λ new. expression_tree new ≡ expr_changed (by_place c.args.self.now.spaces.now locals) (expression_tree c.args.body)))
-    c.in-Ok.ensures c.number_expression.ensures
+    c.in-Ok.ensures c.number_expression.ensures.changed

@@ -10,4 +10,4 @@ use Rattle.wast_resolve.proofs.numbered.NumberingRewriting.constant.Goals as goa
 pub returns : goal.returns
 returns c =
     subst (λ (locals : names.Space Name). IfOk c.number_expression.result (λ new. expression_tree new ≡ expr_changed (by_place c.args.self.now.spaces.now locals) (expression_tree c.args.expression)))
-    c.space.ensures c.number_expression.ensures
+    c.space.ensures c.number_expression.ensures.changed
