@@ -38,7 +38,6 @@
 //! | `Walked` | the index spaces that are reached behind all items tell the numbers of names |
 //! | `Taken` | the types that uses take and imply, one use after the other |
 //! | `Labels` | labels as a stack |
-//! | `Settles`, `SettlesFields` | where all demands are met, numbered fields are settled |
 //! | `Settled`, `SettledFields`, `Resolved` | settled fields without inline parts are resolved to themselves |
 #![tactic(auto)]
 
