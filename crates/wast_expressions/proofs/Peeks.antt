@@ -57,6 +57,9 @@ hint_leads p =
     refl refl refl refl refl)
 
 -- BEHIND A PARENTHESIS
+pub is_opening : {X : Type 0} (p : ℕ) (us : List TextToken) (b : Option Bool) → ask (Opening ∷ []) (Open p ∷ us) ≡ b → (b ≡ Some true → X) → X
+is_opening p us b e f = f (sym e ∙ rw (first_deep true us) refl)
+
 module _ (t : Texts) where
   abbrev in_front : List Test
   in_front = On false AWord t ∷ []
@@ -89,9 +92,6 @@ module _ (t : Texts) where
   led_open (Text s q ∷ us) e = cc
   led_open (Reserved w q ∷ us) e = cc
   led_open (Broken ∷ us) e = cc
-
-  is_opening : {X : Type 0} (p : ℕ) (us : List TextToken) (b : Option Bool) → ask (Opening ∷ []) (Open p ∷ us) ≡ b → (b ≡ Some true → X) → X
-  is_opening p us b e f = f (sym e ∙ rw (first_deep true us) refl)
 
   led_none : (ts : List TextToken) → ask (Opening ∷ []) ts ≡ Some false → ask behind ts ≡ Some false
   led_none [] e = refl

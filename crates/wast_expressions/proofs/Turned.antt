@@ -6,22 +6,25 @@ use Rattle.std.proofs.lemmas.List.{map-append}
 use Rattle.wast_grammar.specs.Tokens.{Name, Open, Close, Id, Word, Mark, Integer, Float, Text, Reserved, Broken}
 use Rattle.wast_grammar.specs.Significant.{TextToken}
 use Rattle.wast_grammar.specs.Spelling.{◌>>=◌, that_open, that_one}
-use Rattle.wast_grammar.specs.Look.{NotEnd, at, ask}
+use Rattle.wast_grammar.specs.Look.{Opening, NotEnd, at, ask}
 use Rattle.wast_grammar.specs.Grammar.{Syntax, maybe, one_of}
+use Rattle.wast_grammar.specs.Lawful.{LawfulBut}
 use Rattle.wast_grammar.proofs.BehindLaws.{opens_on}
+use Rattle.wast_grammar.proofs.Looks.{absurd_of}
 use Rattle.wast_parser_base.specs.Problem.{Problem}
 use Rattle.wast_parser_core.specs.State.{State, ahead, Keeps}
 use Rattle.wast_parser_core.specs.Reading.{Refuses, out_of_memory, ends_here}
 use Rattle.wast_expressions.specs.Items.{Made, either_hint, expression_of, hint_at, hints_from}
-use Rattle.wast_expressions.specs.Expressions.{Heads, hint_tests, hint, group_tests, item_tests}
+use Rattle.wast_expressions.specs.Expressions.{Heads, hint_tests, hint, ins_tests, group_tests, item_tests, one_ins}
 use Rattle.wast_expressions.specs.Machine as machine
-use Rattle.wast_expressions.specs.Machine.{Reach, Here, More, step, done, none_open, both_hints, open_group, one_item, close_level, row_turn, then_turn, else_turn, turn}
+use Rattle.wast_expressions.specs.Machine.{Reach, Here, More, step, done, none_open, both_hints, open_group, plain_item, one_item, close_level, row_turn, then_turn, else_turn, turn}
 use Rattle.wast_expressions.specs.Partial.{Partial, expression}
 use Rattle.wast_expressions.specs.declared.stack.Instructions.{Instructions}
 use Rattle.wast_expressions.specs.declared.stack.Level.{Level}
 use Rattle.wast_expressions.specs.declared.stack.Level.TheVariants as levels
 use Rattle.wast_expressions.specs.Views.{here, instructions_tree, level_tree, levels_tree, out_tree, Turns, arm_word}
 use Rattle.wast_expressions.proofs.ReadLaws.{bind_bind}
+use Rattle.wast_expressions.proofs.Peeks.{is_opening, item_word, item_other}
 
 pub on_ok : {X E P Q : Type 0} (r : Result X E) → (P → Q) → OnOk r P → OnOk r Q
 on_ok (Ok x) f p = f p
@@ -70,6 +73,75 @@ module _ {I T : Type 0} (tree : I → T) (ins : Syntax Name ℕ T) (heads : Head
 
   pub row_none : (u : Partial I) (ts : List TextToken) → u.stack ≡ [] → ask (item_tests heads) ts ≡ Some false → row_turn ins heads m (levels_tree tree u.stack) (out_tree tree u.out) ts ≡ None
   row_none u ts e f = ap (λ st. row_turn ins heads m (levels_tree tree st) (out_tree tree u.out) ts) e ∙ rw f refl
+
+  -- where no word of an instruction stands none is read
+  none_read : LawfulBut (one_ins ins heads) heads.own → (ts : List TextToken) → at (ins_tests heads) ts ≡ false → ins.reads ts ≡ None
+  none_read li ts n = go (ins.reads ts) refl
+    where
+      go : (o : Option (T × List TextToken)) → ins.reads ts ≡ o → o ≡ None
+      go None e = refl
+      go (Some x) e =
+          let t = li.sound ts x e in
+          elim (li.leads x.0 t.taken x.1 t.spelled) [
+            | inl h ↦ absurd_of (at (ins_tests heads) ts) (ap (λ z. at (ins_tests heads) z) t.parts ∙ h) n
+            | inr h ↦ absurd_of false h.0 refl
+          ]
+
+  -- where no group is open and no parenthesis opens: an instruction, or nothing
+  module _ (li : LawfulBut (one_ins ins heads) heads.own) (out : List (Option ℕ × T)) where
+    abbrev plainly : List TextToken → Option (machine.State Name ℕ T)
+    plainly ts = plain_item ins heads m None [] out ts
+
+    abbrev in_row : List TextToken → Option (machine.State Name ℕ T)
+    in_row ts = row_turn ins heads m [] out ts
+
+    abbrev put : T × List TextToken → Option (machine.State Name ℕ T)
+    put i = Some (machine.state [] (out ++ (None, i.0) ∷ []) i.1)
+
+    none_put : (ts : List TextToken) → at (ins_tests heads) ts ≡ false → plainly ts ≡ None
+    none_put ts n = ap (λ z. z >>= put) (none_read li ts n)
+
+    in_none : (ts : List TextToken) → ask (item_tests heads) ts ≡ Some false → in_row ts ≡ None
+    in_none ts f = rw f refl
+
+    in_word : (ts : List TextToken) → ask (item_tests heads) ts ≡ Some true → (maybe hint_tests hint).reads ts ≡ Some (None, ts) → ask (ins_tests heads) ts ≡ Some true → in_row ts ≡ plainly ts
+    in_word ts f h e = rw (f, h, e) refl
+
+    by_word : (w : List ℕ) (p : ℕ) (ts : List TextToken) (b : Bool) → ask (ins_tests heads) (Word w p ∷ ts) ≡ Some b → at (ins_tests heads) (Word w p ∷ ts) ≡ b → plainly (Word w p ∷ ts) ≡ in_row (Word w p ∷ ts)
+    by_word w p ts true e f = sym (in_word (Word w p ∷ ts) (item_word heads (Word w p ∷ ts) e) refl e)
+    by_word w p ts false e f = none_put (Word w p ∷ ts) f ∙ sym (in_none (Word w p ∷ ts) (item_other heads (Word w p ∷ ts) e))
+
+    unopened : (ts : List TextToken) → ask (Opening ∷ []) ts ≡ Some false → plainly ts ≡ in_row ts
+    unopened [] e = none_put [] refl
+    unopened (Open p ∷ ts) e = is_opening p ts (Some false) e (λ q. absurd (cc))
+    unopened (Close p ∷ ts) e = none_put (Close p ∷ ts) refl
+    unopened (Id n p ∷ ts) e = none_put (Id n p ∷ ts) refl
+    unopened (Word w p ∷ ts) e = by_word w p ts (at (ins_tests heads) (Word w p ∷ ts)) refl refl
+    unopened (Mark w p ∷ ts) e = none_put (Mark w p ∷ ts) refl
+    unopened (Integer n w p ∷ ts) e = none_put (Integer n w p ∷ ts) refl
+    unopened (Float w p ∷ ts) e = none_put (Float w p ∷ ts) refl
+    unopened (Text s p ∷ ts) e = none_put (Text s p ∷ ts) refl
+    unopened (Reserved w p ∷ ts) e = none_put (Reserved w p ∷ ts) refl
+    unopened (Broken ∷ ts) e = cc
+
+  pub row_plain : (u : Partial I) (ts : List TextToken) → LawfulBut (one_ins ins heads) heads.own → u.stack ≡ [] → ask (Opening ∷ []) ts ≡ Some false → plain_item ins heads m None (levels_tree tree u.stack) (out_tree tree u.out) ts ≡ row_turn ins heads m (levels_tree tree u.stack) (out_tree tree u.out) ts
+  row_plain u ts li e f =
+      ap (λ st. plain_item ins heads m None (levels_tree tree st) (out_tree tree u.out) ts) e
+      ∙ unopened li (out_tree tree u.out) ts f
+      ∙ sym (ap (λ st. row_turn ins heads m (levels_tree tree st) (out_tree tree u.out) ts) e)
+
+  pub row_fault : (st : List (machine.Level T)) (out : List (Option ℕ × T)) (ts : List TextToken) → ask (Opening ∷ []) ts ≡ None → row_turn ins heads m st out ts ≡ None
+  row_fault st out [] e = cc
+  row_fault st out (Open p ∷ ts) e = is_opening p ts None e (λ q. absurd (cc))
+  row_fault st out (Close p ∷ ts) e = cc
+  row_fault st out (Id n p ∷ ts) e = cc
+  row_fault st out (Word w p ∷ ts) e = cc
+  row_fault st out (Mark w p ∷ ts) e = cc
+  row_fault st out (Integer n w p ∷ ts) e = cc
+  row_fault st out (Float w p ∷ ts) e = cc
+  row_fault st out (Text s p ∷ ts) e = cc
+  row_fault st out (Reserved w p ∷ ts) e = cc
+  row_fault st out (Broken ∷ ts) e = refl
 
   -- a turn by what the stack waits for
   pub turn_top : (u v : Partial I) (k l : Level I) (ts : List TextToken) → u ≡ record v { stack = k ∷ v.stack } → k ≡ l → turn ins heads m (level_tree tree l ∷ levels_tree tree v.stack) (out_tree tree v.out) ts ≡ turn ins heads m (levels_tree tree u.stack) (out_tree tree u.out) ts

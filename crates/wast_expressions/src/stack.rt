@@ -118,7 +118,12 @@ impl<I: Drop> Unfolding<I> {
     pub(crate) fn finish(self) -> Instructions<I>
         ensures { expression result ≡ expression_of self.out }
     {
-        let Unfolding { instrs, hints, .. } = self;
+        let Unfolding {
+            mut instrs,
+            hints,
+            ..
+        } = self;
+        instrs.shrink_to_fit();
         Instructions { instrs, hints }
     }
 }

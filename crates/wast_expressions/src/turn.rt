@@ -16,7 +16,7 @@ use crate::operation::{
 };
 use crate::stack::{Level, Unfolding};
 use crate::token::{close, open, open_word};
-use wast_parser::{Error, Keyword, Parser};
+use wast_parser::{Error, Keyword, LParen, Parser};
 
 /// One turn: an item is read, up to what its head opens, or what is open goes on or closes.
 pub(crate) fn turn<'a, I: ParseOperation<'a>>(
@@ -39,8 +39,25 @@ pub(crate) fn turn<'a, I: ParseOperation<'a>>(
     }
 }
 
-/// Where no group is open: an item.
+/// Where no group is open: an item. What begins with no parenthesis is an instruction by itself, or none.
 fn items<'a, I: ParseOperation<'a>>(
+    work: &mut Unfolding<I>,
+    parser: &mut Parser<'a>,
+) -> Result<(), Error>
+    requires { work.old.stack ≡ [] }
+    ensures gives { Turns result (row_turn I.syntax I.heads I.made (levels_tree I.tree work.old.stack) (out_tree I.tree work.old.out) (ahead parser.old)) (here I.tree work.new (ahead parser.new)) }
+    ensures keeps { Keeps parser.old parser.new }
+{
+    I::lawful();
+    match parser.peek::<LParen>() {
+        Ok(true) => opened(work, parser),
+        Ok(false) => plain(None, work, parser),
+        Err(e) => Err(e),
+    }
+}
+
+/// The same where a parenthesis opens.
+fn opened<'a, I: ParseOperation<'a>>(
     work: &mut Unfolding<I>,
     parser: &mut Parser<'a>,
 ) -> Result<(), Error>

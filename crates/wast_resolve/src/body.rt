@@ -70,7 +70,7 @@ fn number_by<'a>(
     requires { map step_view steps.now ≡ map step_of (map instruction_tree instrs.items) }
     ensures { IfOk result (λ new. map instruction_tree new.items ≡ instrs_changed (by_place spaces.now (space locals.now)) [] (map instruction_tree instrs.entry.items)) }
 {
-    let mut new = Vec::new(alloc);
+    let mut new = Vec::with_capacity(alloc, steps.len())?;
     let mut labels = Labels::new(alloc);
     let mut at = 0;
     for instr in instrs {

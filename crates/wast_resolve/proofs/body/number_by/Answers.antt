@@ -1,4 +1,5 @@
 use Rattle.std.proofs.Common.{◌≡◌, [], ◌∷◌, map, length, get_or, ap, sym, ◌∙◌, arith, length-append}
+use Rattle.std.proofs.lemmas.List.{length-map}
 use Rattle.std.proofs.lemmas.Iterator.Consumers.{YieldsList-turn}
 use Rattle.std.proofs.lemmas.Iterator.Adapters.{YieldsList-from_vec}
 use Rattle.wast_core_instr.specs.InstructionViews.{instruction_tree}
@@ -7,6 +8,16 @@ use Rattle.wast_resolve.specs.Steps.{step_of, step_view}
 use Rattle.wast_resolve.proofs.Joined.{twice}
 use Rattle.wast_resolve.proofs.Labelled.{alike_at, labels_more, made_more}
 use Rattle.wast_resolve.proofs.body.number_by.Goals as goal
+
+pub bounds-steps-at : goal.bounds-steps-at
+bounds-steps-at c =
+    let steps = c.args.steps.now in
+    let instrs = c.args.instrs.items in
+    let gives = c.into_iter-instr-iterator.ensures.into_iter_gives.0 in
+    let turn = YieldsList-turn (YieldsList-from_vec instrs gives (c.into_iter-instr-iterator.result.rest.ok.0 ∙ ap length gives)) c.loop-instr.yielded _ c.loop-instr.yielded_by c.next.result c.next.new.self c.in-Some.instr c.in-Some.is c.next.ensures.steps in
+    let same : length steps ≡ length instrs
+    = sym (length-map steps step_view) ∙ ap length c.requires ∙ length-map (map instruction_tree instrs) step_of ∙ length-map instrs instruction_tree in
+    omega (arith, turn.0, same, c.loop-instr.invariant.count)
 
 pub loop-instr-preserved : goal.loop-instr-preserved
 loop-instr-preserved c =
