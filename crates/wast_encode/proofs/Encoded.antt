@@ -96,24 +96,21 @@ module _ (counter : ℕ) (before after : Module Name ℕ) where
   unresolved_leaves (faults.Uncovered span form) none u = absurd u
 
   -- how far the counter comes
-  pub unresolved_counts : (fault : EncodeFault) (n : ℕ) → IsUnresolved counter before after fault → CountsFor counter before n fault
-  unresolved_counts (faults.Unmet error) n u = tt
-  unresolved_counts faults.Memory n u = tt
-  unresolved_counts faults.TooLarge n u = absurd u
-  unresolved_counts (faults.Uncovered span form) n u = absurd u
+  pub unresolved_counts : (why : Problem) (fault : EncodeFault) (n : ℕ) → IsToldBy why fault → IsRefused after why
+      → (before.refusal ≡ None → (reason : Problem) → after.refusal ≡ Some reason → is_memory reason.cause ≡ false → n ≡ counter_after counter (content_fields before.content)) → CountsFor counter before n fault
+  unresolved_counts why (faults.Unmet error) n t refused counted = λ none. elim refused.told [
+    | inl same ↦ counted none refused.why refused.kept (ap (λ (p : Problem). is_memory p.cause) (sym same) ∙ t.1)
+    | inr wanted ↦ absurd (false≢true (sym t.1 ∙ ap (λ (p : Problem). is_memory p.cause) wanted))
+  ]
+  unresolved_counts why faults.Memory n t refused counted = tt
+  unresolved_counts why faults.TooLarge n t refused counted = absurd t
+  unresolved_counts why (faults.Uncovered span form) n t refused counted = absurd t
 
   pub resolved_counts : (fault : EncodeFault) (n : ℕ) → n ≡ counter_after counter (content_fields before.content) → CountsFor counter before n fault
-  resolved_counts (faults.Unmet error) n is = tt
+  resolved_counts (faults.Unmet error) n is = λ none. is
   resolved_counts faults.Memory n is = tt
   resolved_counts faults.TooLarge n is = is
   resolved_counts (faults.Uncovered span form) n is = is
-
-  -- refused after it was resolved
-  pub resolved_leaves : after ≡ module_by counter before → first_unmet is_met (module_demands_by counter before) ≡ None → (fault : EncodeFault) → ((error : Problem) → fault ≡ faults.Unmet error → ⊥) → LeavesFor counter before after fault
-  resolved_leaves is met (faults.Unmet error) other = absurd (other error refl)
-  resolved_leaves is met faults.Memory other = inl (is, met)
-  resolved_leaves is met faults.TooLarge other = is
-  resolved_leaves is met (faults.Uncovered span form) other = is
 
   -- one that was refused before
   one_reason : (error reason why : Problem) → before.refusal ≡ Some why → after ≡ before → after.refusal ≡ Some reason → (error ≡ reason) ⊎ (error ≡ out_of_memory) → is_memory error.cause ≡ false → error ≡ why
@@ -147,14 +144,6 @@ unresolved counter before after why (faults.Unmet error) t refuses refused cause
 unresolved counter before after why faults.Memory t refuses refused cause = (refused.why, refused.kept, λ none. cause none refused.why refused.kept)
 unresolved counter before after why faults.TooLarge t refuses refused cause = absurd t
 unresolved counter before after why (faults.Uncovered span form) t refuses refused cause = absurd t
-
--- no demand is told of a module that is resolved
-pub not_unmet : (t : Module Name ℕ) (fault : EncodeFault) → IsUnencoded t fault → (error : Problem) → fault ≡ faults.Unmet error → ⊥
-not_unmet t fault u error is = told_of t.content (subst (IsUnencoded t) is u)
-  where
-    told_of : (content : Content Name ℕ) → IsContentUnencoded t content (faults.Unmet error) → ⊥
-    told_of (Fields fs) w = w
-    told_of (Pieces pieces) w = cc
 
 -- ANSWERS of either kind
 module _ {A E : Type 0} (P : A → Type 0) (Q : E → Type 0) where

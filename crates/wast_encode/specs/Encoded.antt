@@ -57,11 +57,12 @@ module _ (counter : ℕ) (t : Module Name ℕ) where
   LeavesFor after faults.TooLarge = after ≡ module_by counter t
   LeavesFor after faults.Memory = ((after ≡ module_by counter t) × (first_unmet is_met (module_demands_by counter t) ≡ None)) ⊎ ((why : Problem) × (after.refusal ≡ Some why) × Refuses (module_demands_by counter t) why)
 
-  -- How far the counter comes where the tree is resolved: as far as names were taken.
+  -- How far the counter comes: as far as names are taken. Where memory is wanted it says nothing.
   abbrev pub CountsFor : ℕ → EncodeFault → Type 0
   CountsFor after (faults.Uncovered span form) = after ≡ counter_after counter (content_fields t.content)
   CountsFor after faults.TooLarge = after ≡ counter_after counter (content_fields t.content)
-  CountsFor after fault = Unit {0}
+  CountsFor after (faults.Unmet error) = t.refusal ≡ None → after ≡ counter_after counter (content_fields t.content)
+  CountsFor after faults.Memory = Unit {0}
 
 -- A tree that was refused before: it is refused for the same reason.
 abbrev pub IsRefusedFor : Problem → EncodeFault → Type 0

@@ -46,9 +46,10 @@ impl EncodeOptions {
     /// twice, may be refused as for want of memory.
     ///
     /// Its names are resolved then, and what stands inline in it is written out, also where it is refused after that: encoded again, it
-    /// gives the same answer, where memory is found. `gensym` has come as far as its fields take names. A module whose names weren't resolved, for a
-    /// demand that isn't met or for want of memory, keeps why, and each later call is refused by a copy of that, or for want of memory for the copy; its
-    /// fields may be gone, and `gensym` has come no further than they take names. Its place and its names stay.
+    /// gives the same answer, where memory is found. `gensym` has come as far as its fields take names. A module whose names weren't
+    /// resolved, for a demand that isn't met or for want of memory, keeps why, and each later call is refused by a copy of that, or for
+    /// want of memory for the copy; its fields may be gone, and `gensym` has come as far, or for want of memory no further. Its place and
+    /// its names stay.
     pub fn encode_module(
         &self,
         alloc: Global,
@@ -95,6 +96,7 @@ fn resolve_names(
     ensures kept { (why : Problem) → (module_tree «module».old).refusal ≡ Some why → module_tree «module».new ≡ module_tree «module».old }
     ensures called { IsCalledAlike (module_tree «module».old) (module_tree «module».new) }
     ensures counted { OnOk result (gensym.new ≡ counter_after gensym.old (content_fields (module_tree «module».old).content)) }
+    ensures reached { IfErr result (CountsFor gensym.old (module_tree «module».old) gensym.new) }
     ensures rises { gensym.old ≤ gensym.new }
     ensures bounded { gensym.new ≤ counter_after gensym.old (content_fields (module_tree «module».old).content) }
     ensures uncounted { (why : Problem) → (module_tree «module».old).refusal ≡ Some why → gensym.new ≡ gensym.old }

@@ -1,6 +1,6 @@
 -- Fields that are written out, given their types and numbered, one after the other.
 use Rattle.std.proofs.Common.{◌≡◌, ℕ, List, Result, subst, ◌∙◌, ap}
-use Rattle.std.specs.Prelude.{OnOk}
+use Rattle.std.specs.Prelude.{Ok, Err, OnOk, IfErr}
 use Rattle.wasm_encoder_base.specs.Table.{Space}
 use Rattle.wast_grammar.specs.Tokens.{Name}
 use Rattle.wast_grammar.specs.Spelling.{same_name}
@@ -17,6 +17,10 @@ use Rattle.wast_resolve_laws.proofs.Names.{name_self, name_sound}
 use Rattle.wast_resolve.specs.Resolving.{Means}
 use Rattle.wast_resolve.proofs.Given.{gives}
 use Rattle.wast_resolve.proofs.Refusals.{answers_first}
+
+pub if_refused : {T E : Type 0} (r : Result T E) (P : E → Type 0) → ((e : E) → P e) → IfErr r P
+if_refused (Ok x) P f = tt
+if_refused (Err e) P f = f e
 
 -- FIELDS that have their types now
 module _ (written now : List (Field Name ℕ)) (typed : now ≡ expanded same_name written) where

@@ -67,6 +67,8 @@ impl<'a> InPlace<Vec<ModuleField<'a>>> for Expands {
 
     ghost leaves = { λ s old after. Unit {0} };
 
+    ghost leaves_refused = { λ s old after e. Unit {0} };
+
     fn run(&self, _state: &mut (), fields: &mut Vec<ModuleField<'a>>) -> Result<(), AllocError> {
         expand_in_place(self.alloc, fields)
     }

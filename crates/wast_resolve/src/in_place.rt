@@ -1,5 +1,5 @@
 //! Work on a value in its place.
-ghost use Rattle.std.specs.Prelude.{MatchResult};
+ghost use Rattle.std.specs.Prelude.{IfErr, MatchResult};
 
 /// Work on a value in its place.
 pub(crate) trait InPlace<T> {
@@ -22,11 +22,15 @@ pub(crate) trait InPlace<T> {
     /// What else the work leaves, on both outcomes.
     ghost leaves: { Self.State → T → Self.State → Type 0 };
 
+    /// What else it leaves where it is refused.
+    ghost leaves_refused: { Self.State → T → Self.State → Self.Refusal → Type 0 };
+
     /// Does the work; refused, the value may be gone.
     fn run(&self, state: &mut Self::State, value: &mut T) -> Result<Self::Answer, Self::Refusal>
         requires { takes self.now state.old value.old }
         ensures answered { MatchResult result (λ a. done self.now state.old value.old state.new value.new a) (λ e. refused self.now state.old value.old e) }
-        ensures left { leaves state.old value.old state.new };
+        ensures left { leaves state.old value.old state.new }
+        ensures left_refused { IfErr result (leaves_refused state.old value.old state.new) };
 }
 
 /// Works on a value that is given, and gives it back with the answer. Who calls this has no value of its own that is lent, which spares
@@ -39,6 +43,7 @@ pub(crate) fn by_value<T, W: InPlace<T>>(
     requires { W.takes work.now state.old value }
     ensures answered { MatchResult result.1 (λ a. W.done work.now state.old value state.new result.0 a) (λ e. W.refused work.now state.old value e) }
     ensures left { W.leaves state.old value state.new }
+    ensures left_refused { IfErr result.1 (W.leaves_refused state.old value state.new) }
 {
     let mut value = value;
     let answer = work.run(state, &mut value);

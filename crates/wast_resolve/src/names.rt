@@ -108,6 +108,8 @@ impl<'a> InPlace<Vec<ModuleField<'a>>> for Numbers {
 
     ghost leaves = { λ s old after. Unit {0} };
 
+    ghost leaves_refused = { λ s old after e. Unit {0} };
+
     fn run(
         &self,
         _state: &mut (),

@@ -1,8 +1,9 @@
 //! Whole lists of fields, resolved.
-ghost use Rattle.std.specs.Prelude.{◌≡◌, ◌+◌, ◌^◌, ◌<◌, ◌≤◌, None, map, length, IfOk, OnErr, OnOk};
+ghost use Rattle.std.specs.Prelude.{◌≡◌, ◌+◌, ◌^◌, ◌<◌, ◌≤◌, None, false, map, length, IfErr, IfOk, OnErr, OnOk};
 ghost use Rattle.wasm_encoder_base.specs.Table.{Functions, Globals, Memories, Tables};
 ghost use Rattle.wast_grammar.specs.Spelling.{same_name};
 ghost use Rattle.wast_parser.specs.Identifiers.{index_tree};
+ghost use Rattle.wast_parser.specs.Problem.{is_memory};
 ghost use Rattle.wast_core.specs.ModuleViews.{field_tree};
 ghost use Rattle.wast_names.specs.Demand.{Answers, Refuses};
 ghost use Rattle.wast_names.specs.Space.{known, number_of, resolved};
@@ -89,8 +90,8 @@ impl<'a> Names<'a> {
 /// field that is referred to and has no name takes the next one of `gensym`, and there is room for one a field.
 ///
 /// Refuses fields of which, written out, a demand of names isn't met, by the first, with its place and message; else only where no memory
-/// is found, or there are more than 4294967295 items of a kind or blocks inside each other. The fields are gone then, and names may have been
-/// taken.
+/// is found, or there are more than 4294967295 items of a kind or blocks inside each other. The fields are gone then, and names are
+/// taken as they are where it isn't refused; for want of memory, so far at most.
 pub fn resolve<'a>(
     alloc: Global,
     fields: Vec<ModuleField<'a>>,
@@ -103,6 +104,7 @@ pub fn resolve<'a>(
     ensures counted { OnOk result (gensym.new ≡ counter_after gensym.old (map field_tree fields.entry.items)) }
     ensures rises { gensym.old ≤ gensym.new }
     ensures bounded { gensym.new ≤ counter_after gensym.old (map field_tree fields.entry.items) }
+    ensures told { IfErr result (λ e. is_memory e.cause ≡ false → gensym.new ≡ counter_after gensym.old (map field_tree fields.entry.items)) }
 {
     match by_value(&Resolves { alloc }, gensym, fields) {
         (fields, Ok(names)) => Ok((fields, names)),
@@ -134,6 +136,8 @@ impl<'a> InPlace<Vec<ModuleField<'a>>> for Resolves {
 
     ghost leaves = { λ s old after. (s ≤ after) × (after ≤ counter_after s (map field_tree old.items)) };
 
+    ghost leaves_refused = { λ s old after e. is_memory e.cause ≡ false → after ≡ counter_after s (map field_tree old.items) };
+
     fn run(
         &self,
         gensym: &mut Gensym,
@@ -156,6 +160,7 @@ pub(crate) fn resolve_in_place<'a>(
     ensures counted { OnOk result (gensym.new ≡ counter_after gensym.old (map field_tree fields.old.items)) }
     ensures rises { gensym.old ≤ gensym.new }
     ensures bounded { gensym.new ≤ counter_after gensym.old (map field_tree fields.old.items) }
+    ensures told { IfErr result (λ e. is_memory e.cause ≡ false → gensym.new ≡ counter_after gensym.old (map field_tree fields.old.items)) }
 {
     match expand_written(alloc, fields, gensym) {
         Ok(()) => number_expanded(alloc, fields),

@@ -1,9 +1,11 @@
-use Rattle.std.proofs.Common.{map}
+use Rattle.std.proofs.Common.{map, sym, ap, ◌∙◌}
+use Rattle.std.proofs.lemmas.Bool.{false≢true}
 use Rattle.std.proofs.lemmas.Result.{IfOk-weaker}
+use Rattle.wast_parser.specs.Problem.{Problem, is_memory}
 use Rattle.wast_core.specs.ModuleViews.{field_tree}
 use Rattle.wast_resolve.specs.Resolving.{Means}
 use Rattle.wast_resolve.specs.Whole.{names_spaces, written_by}
-use Rattle.wast_resolve.proofs.Wholly.{answers_before, numbers_before, means_before}
+use Rattle.wast_resolve.proofs.Wholly.{if_refused, answers_before, numbers_before, means_before}
 use Rattle.wast_resolve.proofs.whole.resolve_in_place.Goals as goal
 
 pub returns-in-Ok-clause-answers : goal.returns-in-Ok-clause-answers
@@ -20,3 +22,9 @@ pub returns-in-Ok-clause-names : goal.returns-in-Ok-clause-names
 returns-in-Ok-clause-names c =
     let written = written_by c.args.gensym.now (map field_tree c.args.fields.now.items) in
     IfOk-weaker c.number_expanded.result _ (λ n. Means (names_spaces n) written) (λ n. means_before written _ c.in-Ok.ensures.expanded (names_spaces n)) c.number_expanded.ensures.names
+
+pub returns-in-Ok-clause-told : goal.returns-in-Ok-clause-told
+returns-in-Ok-clause-told c = if_refused c.number_expanded.result _ (λ e other. c.in-Ok.ensures.counted)
+
+pub returns-in-Err-clause-told : goal.returns-in-Err-clause-told
+returns-in-Err-clause-told c = λ other. absurd (false≢true (sym other ∙ ap (λ (p : Problem). is_memory p.cause) c.from.ensures))

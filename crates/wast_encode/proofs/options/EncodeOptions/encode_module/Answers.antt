@@ -8,7 +8,7 @@ use Rattle.wast_core.specs.ModuleViews.{content_tree, module_tree}
 use Rattle.wast_uncovered.specs.First.{placed}
 use Rattle.wast_encode.specs.Encoded.{naming}
 use Rattle.wast_encode.specs.Resolved.{ContentReady, IsEncoded, IsUnencoded}
-use Rattle.wast_encode.proofs.Encoded.{binary_of, fault_of, content_ready, unresolved_deserves, unresolved_leaves, unresolved_counts, resolved_counts, refused_again, ok_of, err_of}
+use Rattle.wast_encode.proofs.Encoded.{binary_of, fault_of, content_ready, unresolved_deserves, unresolved_leaves, resolved_counts, refused_again, ok_of, err_of}
 use Rattle.wast_encode.proofs.options.EncodeOptions.encode_module.Goals as goal
 
 pub returns-in-Err-clause-fault : goal.returns-in-Err-clause-fault
@@ -16,9 +16,6 @@ returns-in-Err-clause-fault c = λ none. unresolved_deserves c.args.gensym.now (
 
 pub returns-in-Err-clause-left : goal.returns-in-Err-clause-left
 returns-in-Err-clause-left c = λ none. unresolved_leaves c.args.gensym.now (module_tree c.args.«module».now) (module_tree c.resolve_names.new.«module») c.in-Err.fault none c.in-Err.ensures.fault
-
-pub returns-in-Err-clause-reached : goal.returns-in-Err-clause-reached
-returns-in-Err-clause-reached c = unresolved_counts c.args.gensym.now (module_tree c.args.«module».now) (module_tree c.resolve_names.new.«module») c.in-Err.fault _ c.in-Err.ensures.fault
 
 pub returns-in-Err-clause-refused : goal.returns-in-Err-clause-refused
 returns-in-Err-clause-refused c = λ why was. refused_again c.args.gensym.now (module_tree c.args.«module».now) (module_tree c.resolve_names.new.«module») why c.in-Err.fault was (c.in-Err.ensures.kept why was) c.in-Err.ensures.fault
