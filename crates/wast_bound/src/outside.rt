@@ -18,8 +18,8 @@ use wast_core::ModuleKind;
 use wast_meaning::Space;
 use wast_parser::{Id, Index};
 
-/// What holds fields. The code of places knows no more of it, since trees in a value are dear to prove; it has one function, since the prover compares all
-/// that a type has of a trait at once.
+/// What holds fields. The code of places knows no more of it, since trees in a value are dear to prove; it has one function, since the
+/// prover compares all that a type has of a trait at once.
 pub(crate) trait Holds {
     /// The fields.
     ghost fields: { Self → List (Field Name ℕ) };

@@ -1,6 +1,6 @@
 -- What definitions are written out as, by what they define.
-use Rattle.std.proofs.Common.{◌≡◌, ℕ, ◌+◌, Bool, true, false, List, [], ◌∷◌, ◌++◌, map, Option, Some, None, refl, sym, ◌∙◌, ap, append_assoc}
-use Rattle.std.specs.Prelude.{◌||◌, ◌&&◌, not, is_some, if◌then◌else◌, option_map}
+use Rattle.std.proofs.Common.{◌≡◌, ℕ, ◌+◌, Bool, true, false, List, [], ◌∷◌, ◌++◌, map, Option, Some, refl, sym, ◌∙◌, ap, append_assoc}
+use Rattle.std.specs.Prelude.{◌||◌, ◌&&◌, not, is_some, if◌then◌else◌}
 use Rattle.std.proofs.lemmas.List.{map-append}
 use Rattle.wast_parser.specs.Identifiers.{Named}
 use Rattle.wast_exports.specs.Exports.{ExportKind}
@@ -135,10 +135,6 @@ module _ {N P : Type 0} where
 
   pub unsaid_count : (d : Definition N P) (n : ℕ) → is_said d ≡ false → n ≡ (if takes_name (Define d) then n + 1 else n)
   unsaid_count d n unsaid = ap (λ b. if b then n + 1 else n) (sym (takes_unsaid d unsaid))
-
-pub is_some_map : {A B : Type 0} (f : A → B) (o : Option A) → is_some (option_map f o) ≡ is_some o
-is_some_map f None = refl
-is_some_map f (Some x) = refl
 
 -- lists to which something is appended, and then more
 pub then_more : {A : Type 0} (a b c es ss : List A) → b ≡ a ++ es → c ≡ b ++ ss → c ≡ a ++ (es ++ ss)

@@ -10,8 +10,8 @@
 //!
 //! it makes `00 61 73 6d 01 00 00 00  01 04 01 60 00 00  03 02 01 00  0a 04 01 02 00 0b  00 0b 04 6e 61 6d 65 01 04 01 00 01 66`.
 //!
-//! The crate hands on what it stands on: the resolving of names, the conversions of types, instructions and operands to the encoder's, and what stands
-//! in sections.
+//! The crate hands on what it stands on: the resolving of names, the conversions of types, instructions and operands to the encoder's, and
+//! what stands in sections.
 //!
 //! # What has to be believed
 //!
@@ -19,10 +19,11 @@
 //! |---|---|
 //! | `Encoded` | what encoding a tree answers, and what it leaves of the tree |
 //!
-//! Which module a tree stands for is said by `Meaning` of `wast_meant`, which bytes are its binary by `Lays` of `wasm_layout`, and what a tree is resolved
-//! to by `Whole` of `wast_resolve`. The other files of `specs/` serve private contracts: `Faults`, `Views` and `Sources` say what contracts see of errors, of stops and of
-//! what is encoded, `Parts` and `Puts` what stands at each stop and what appending it leaves, `Can` and `Resolved` what is known of fields and modules that are
-//! resolved, `DataCount` which instructions refer to data, and `Weight` how much there is in fields.
+//! Which module a tree stands for is said by `Meaning` of `wast_meant`, which bytes are its binary by `Lays` of `wasm_layout`, and what a
+//! tree is resolved to by `Whole` of `wast_resolve`. The other files of `specs/` serve private contracts: `Faults`, `Views` and `Sources`
+//! say what contracts see of errors, of stops and of what is encoded, `Parts` and `Puts` what stands at each stop and what appending it
+//! leaves, `Can` and `Resolved` what is known of fields and modules that are resolved, `DataCount` which instructions refer to data, and
+//! `Weight` how much there is in fields.
 #![tactic(auto)]
 
 mod data_count;

@@ -7,7 +7,8 @@
 //! |---|---|
 //! | `Laws` | the statement of the law function |
 //!
-//! What encoding a tree answers, and what it leaves of it, is said by `wast_encode` (`Encoded`), what a tree is resolved to by `wast_resolve` (`Whole`).
+//! What encoding a tree answers, and what it leaves of it, is said by `wast_encode` (`Encoded`), what a tree is resolved to by
+//! `wast_resolve` (`Whole`).
 #![tactic(auto)]
 
 pub mod laws;

@@ -1,8 +1,9 @@
 -- Fields with other indices have the same forms.
-use Rattle.std.proofs.Common.{◌≡◌, ℕ, List, [], ◌∷◌, ◌++◌, map, Option, Some, None, is_some, codes, refl, ap}
+use Rattle.std.proofs.Common.{◌≡◌, ℕ, List, [], ◌∷◌, ◌++◌, map, Option, Some, None, codes, refl, ap}
 use Rattle.std.specs.Prelude.{◌||◌, option_map}
 use Rattle.std.specs.List.{flat_map}
 use Rattle.wasm_encoder_base.specs.Table.{OperandSyntax, Types}
+use Rattle.wast_parser_core.proofs.WordSets.{some_map}
 use Rattle.wast_value_types.specs.ValueTree.{HeapType, Abstract, Concrete, Exact, ValType, Number, Ref, StorageType, Packed, Value}
 use Rattle.wast_core_types.specs.TypeTree.{Local, Sig, InnerType, FuncType, StructType, ArrayType, ContType, StructField, TypeItem}
 use Rattle.wast_operands.specs.OperandTree.{MemArgTarget}
@@ -17,10 +18,6 @@ use Rattle.wast_meaning.proofs.Settled.{two}
 use Rattle.wast_conversions.specs.Covered.{Form, form_if, access_forms, forms_with, heap_forms, val_forms, storage_forms, sig_forms, inner_forms, type_forms, inline_forms, extern_forms, target_forms, select_forms, operand_forms, instr_forms, instrs_forms}
 use Rattle.wast_meant.specs.Covered.{data_forms, expr_forms, elements_forms, defined_forms, import_forms, elem_mode_forms, data_mode_forms, field_forms}
 use Rattle.wast_encode_laws.proofs.Lists.{each_kept, one_kept}
-
-some_kept : {A B : Type 0} (f : A → B) (o : Option A) → is_some (option_map f o) ≡ is_some o
-some_kept f None = refl
-some_kept f (Some x) = refl
 
 abbrev pub local_forms : {N P : Type 0} → Local N P → List Form
 local_forms l = val_forms l.val_type
@@ -60,7 +57,7 @@ module _ {N P : Type 0} (c : Change N P) where
   type_kept t =
       let d = t.definition in
       two (λ b fs. form_if b (codes "descriptor") ++ (form_if d.comp.shared (codes "shared type") ++ fs))
-      (two (λ a b. a || b) (some_kept (c.index Types) d.describes) (some_kept (c.index Types) d.descriptor))
+      (two (λ a b. a || b) (some_map (c.index Types) d.describes) (some_map (c.index Types) d.descriptor))
       (inner_kept d.comp.inner)
 
   inline_kept : (o : Option (Sig N P)) → inline_forms (option_map (sig_changed c) o) ≡ inline_forms o

@@ -1,19 +1,16 @@
 -- A module with other names is one.
-use Rattle.std.proofs.Common.{suc, ◌≡◌, ◌<◌, ◌+◌, ◌&&◌, not, is_some, List, [], ◌∷◌, map, length, filter, Option, Some, None, option_map, codes, refl, sym, ap, ◌∙◌, subst}
+use Rattle.std.proofs.Common.{suc, ◌≡◌, ◌<◌, ◌+◌, ◌&&◌, not, is_some, List, [], ◌∷◌, map, length, filter, codes, refl, sym, ap, ◌∙◌, subst}
 use Rattle.std.specs.List.{AllByRecursion, list_any}
 use Rattle.wasm_layout.specs.Section.{SectionKind, Types, Imports, Functions, Tables, Memories, Tags, Globals, Exports, Starts, Elements, DataCount, Hints, Codes, Datas, Names, order}
 use Rattle.wasm_layout.specs.AbstractModule.{Naming, InnerNaming, NameMaps, FunctionHints, AbstractModule}
 use Rattle.wasm_layout.specs.Present.{has_any, MapKind, OfModule, OfItems, Inner, map_order, has_map, is_called, is_present}
 use Rattle.wasm_layout.specs.IsModule.{Rise, IsMap, IsInner, AreInner, AreHints, IsModule}
+use Rattle.wast_parser_core.proofs.WordSets.{some_map}
 use Rattle.wast_meant.specs.Binary.{naming_with, inner_with, maps_with, module_with}
 
 any_of_map : {A B : Type 0} (f : A → B) (xs : List A) → has_any (map f xs) ≡ has_any xs
 any_of_map f [] = refl
 any_of_map f (x ∷ xs) = refl
-
-some_of_map : {A B : Type 0} (f : A → B) (o : Option A) → is_some (option_map f o) ≡ is_some o
-some_of_map f None = refl
-some_of_map f (Some x) = refl
 
 length_of_map : {A B : Type 0} (f : A → B) (xs : List A) → length (map f xs) ≡ length xs
 length_of_map f [] = refl
@@ -22,7 +19,7 @@ length_of_map f (x ∷ xs) = ap suc (length_of_map f xs)
 module _ {A B : Type 0} (f : A → B) where
   -- the same sections are there
   same_map : (names : NameMaps A) (k : MapKind) → has_map (maps_with f names) k ≡ has_map names k
-  same_map names OfModule = some_of_map f names.module_name
+  same_map names OfModule = some_map f names.module_name
   same_map names (OfItems space) = any_of_map (naming_with f) (names.items space)
   same_map names (Inner space) = any_of_map (inner_with f) (names.inner space)
 

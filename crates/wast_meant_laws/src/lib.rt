@@ -10,8 +10,9 @@
 //! | `Renamed` | renamings of names and places, renamed trees, and names of maps that are renamed |
 //! | `Stops` | what stands at each stop of a module |
 //!
-//! Fields with other names and places are those of `wast_resolve_laws` (`Renamed`). The module meant is said by `wast_meant` (`Meaning`), its layout, and
-//! the module without names, by `wasm_layout` (`Layout`, `Lays`), breaches by `wast_meaning` (`WellFormed`). Of the lemmas behind the laws, in
+//! Fields with other names and places are those of `wast_resolve_laws` (`Renamed`). The module meant is said by `wast_meant` (`Meaning`),
+//! its layout, and the module without names, by `wasm_layout` (`Layout`, `Lays`), breaches by `wast_meaning` (`WellFormed`). Of the lemmas
+//! behind the laws, in
 //! `proofs/`, laws of whole texts and what encodes trees may use:
 //!
 //! | File of `proofs/` | Says |

@@ -8,6 +8,7 @@ use Rattle.std.proofs.lemmas.List.{length-map}
 use Rattle.std.proofs.lemmas.List.Folds.{list_all-map}
 use Rattle.wasm_encoder_base.specs.Table.{Types, Locals, Fields}
 use Rattle.wast_parser.specs.Identifiers.{Reference, ByNumber, ByName}
+use Rattle.wast_parser_core.proofs.WordSets.{some_map}
 use Rattle.wast_names.specs.Walk.{first_unmet}
 use Rattle.wast_names.specs.Demand.{is_met}
 use Rattle.wast_names.specs.Space as names
@@ -154,10 +155,6 @@ module _ {N P : Type 0} (eq : N → N → Bool) where
   numbered_numbers fs e = numbered_so eq numbers_said whatever (λ t u j. refl) (λ s m h t. numbers_so s m h) fs e (each_true (λ f. list_all whatever (field_mentions f)) (λ f. each_true whatever (λ m. refl) (field_mentions f)) fs)
 
 -- USES that have their types
-some_kept : {A : Type 0} (f : A → A) (o : Option A) → is_some (option_map f o) ≡ is_some o
-some_kept f None = refl
-some_kept f (Some x) = refl
-
 module _ {N P : Type 0} where
   use_number : (i : Option (Reference N P)) (ms : List (Mention N P)) → list_all says_number (refers_if Types i ++ ms) ≡ true → is_some i ≡ true → has_number i ≡ true
   use_number None ms e t = elim (false≢true t) [ ]
@@ -184,8 +181,8 @@ module _ {N P : Type 0} where
   typed_kept s (Refers space i) = refl
   typed_kept s (Member t i) = refl
   typed_kept s (Repeats id) = refl
-  typed_kept s (Uses u) = some_kept (names.resolved (s.spaces Types)) u.index
-  typed_kept s (UsesInBlock u) = two (λ a b. a || b) (some_kept (names.resolved (s.spaces Types)) u.index) (short_kept (numbering s) u.inline)
+  typed_kept s (Uses u) = some_map (names.resolved (s.spaces Types)) u.index
+  typed_kept s (UsesInBlock u) = two (λ a b. a || b) (some_map (names.resolved (s.spaces Types)) u.index) (short_kept (numbering s) u.inline)
 
 pub numbered_settles : {N P : Type 0} (eq : N → N → Bool) (fs : List (Field N P)) → first_unmet is_met (demands eq fs) ≡ None → are_typed fs ≡ true → are_settled (numbered eq fs) ≡ true
 numbered_settles eq fs e t = numbered_so eq is_settled is_typed (λ x y i. refl) (λ s m h u. settled_if (mention_changed (numbering s) m) (numbers_so eq s m h) (typed_kept s m ∙ u)) fs e t

@@ -32,8 +32,8 @@ use wast_conversions::index;
 use wast_core::ModuleField;
 use wast_section_items::{FuncBody, SectionItem};
 
-/// The section of types, and groups of them (6.4.7). Refused for want of memory, and as too large where their count, or a count or length in them, is past
-/// 4294967295.
+/// The section of types, and groups of them (6.4.7). Refused for want of memory, and as too large where their count, or a count or length
+/// in them, is past 4294967295.
 pub fn types(alloc: Global, fields: &[ModuleField<'_>]) -> Result<TypeSection, EncodeError>
     requires { All (λ f. FieldReady (field_tree f)) fields.now }
     ensures { Holds entry_bytes EntryFits IsEntry (flat_map types_of (map field_tree fields.now)) result }
@@ -75,8 +75,8 @@ impl FieldItems for TypeItems {
     }
 }
 
-/// The section of imports, a group being one entry (6.6.9). Refused for want of memory, and as too large where their count, or a count or length in them, is past
-/// 4294967295.
+/// The section of imports, a group being one entry (6.6.9). Refused for want of memory, and as too large where their count, or a count or
+/// length in them, is past 4294967295.
 pub fn imports(alloc: Global, fields: &[ModuleField<'_>]) -> Result<ImportSection, EncodeError>
     requires { All (λ f. FieldReady (field_tree f)) fields.now }
     ensures { Holds imports_bytes ImportsFit IsImport (flat_map imports_of (map field_tree fields.now)) result }
@@ -117,8 +117,8 @@ impl FieldItems for ImportItems {
     }
 }
 
-/// The section of the types of functions (6.6.4). Refused for want of memory, and as too large where their count, or a count or length in them, is past
-/// 4294967295.
+/// The section of the types of functions (6.6.4). Refused for want of memory, and as too large where their count, or a count or length in
+/// them, is past 4294967295.
 pub fn functions(alloc: Global, fields: &[ModuleField<'_>]) -> Result<FunctionSection, EncodeError>
     requires { All (λ f. FieldReady (field_tree f)) fields.now }
     ensures { Holds (λ f. uleb f.type_index) NoCounts TypeSound (flat_map functions_of (flat_map defined_in (map field_tree fields.now))) result }
@@ -411,8 +411,8 @@ impl FieldItems for ElemItems {
     }
 }
 
-/// The section of the bodies of functions (6.6.4). Refused for want of memory, and as too large where their count, or a count or length in them, is past
-/// 4294967295.
+/// The section of the bodies of functions (6.6.4). Refused for want of memory, and as too large where their count, or a count or length in
+/// them, is past 4294967295.
 pub fn codes(alloc: Global, fields: &[ModuleField<'_>]) -> Result<CodeSection, EncodeError>
     requires { All (λ f. FieldReady (field_tree f)) fields.now }
     ensures { Holds (λ f. function_item (body_bytes f.body)) BodyFits BodySound (flat_map functions_of (flat_map defined_in (map field_tree fields.now))) result }

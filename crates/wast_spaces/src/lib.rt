@@ -1,8 +1,9 @@
 //! The index spaces of a module, and what its items must keep to (WebAssembly Core Specification 3.0, 6.1.3 and 6.6.14).
 //!
 //! [`Spaces::of`] numbers the items of fields, and refuses the first that bears the name of another, segments aside, and likewise fields of
-//! structures; [`Spaces::space`] answers one of the spaces, and [`Spaces::fields_of`] that of the fields of a type. [`check_order`] refuses a list of fields in which an import stands
-//! behind a definition of a function, a table, a memory, a global or a tag; an import may be a field of its own or stand inline.
+//! structures; [`Spaces::space`] answers one of the spaces, and [`Spaces::fields_of`] that of the fields of a type. [`check_order`] refuses
+//! a list of fields in which an import stands behind a definition of a function, a table, a memory, a global or a tag; an import may be a
+//! field of its own or stand inline.
 //!
 //! ```text
 //! (func) (import "m" "f" (func))

@@ -86,7 +86,8 @@ impl<'a> Spaces<'a> {
     /// The spaces of the items of these fields, in order.
     ///
     /// Refuses the first item that bears the name of one before it, and isn't a segment, or the first field of a structure that bears the
-    /// name of another of it, by `duplicate func identifier` and the like, at its identifier; else only where no memory is found, or a space would have more than 4294967295 items.
+    /// name of another of it, by `duplicate func identifier` and the like, at its identifier; else only where no memory is found, or a
+    /// space would have more than 4294967295 items.
     pub fn of(alloc: Global, fields: &[ModuleField<'a>]) -> Result<Self, Error>
         ensures spaces { IfOk result (λ s. spaces_of s ≡ spaces_behind (λ t. names.empty) (flat_map items (map field_tree fields.now))) }
         ensures fields { IfOk result (λ s. fields_of_types s ≡ type_fields (flat_map items (map field_tree fields.now))) }

@@ -4,8 +4,9 @@ use Rattle.std.proofs.lemmas.Result.{on_ok_weaker}
 use Rattle.wast_parser.specs.Identifiers.{identifier_tree}
 use Rattle.wast_core.specs.ModuleViews.{field_tree}
 use Rattle.wast_meaning.specs.Made.{made}
+use Rattle.wast_parser_core.proofs.WordSets.{some_map}
 use Rattle.wast_deinline.specs.Definitions.{definition_view}
-use Rattle.wast_deinline.proofs.Parts.{said_parts, said_count, unsaid_count, unsaid_out, unsaid_segment, is_some_map}
+use Rattle.wast_deinline.proofs.Parts.{said_parts, said_count, unsaid_count, unsaid_out, unsaid_segment}
 use Rattle.wast_deinline.proofs.deinline_import_export.write_definition.Goals as goal
 
 pub returns-in_ok-clone-clause-written : goal.returns-in_ok-clone-clause-written
@@ -22,14 +23,14 @@ returns-in_ok-clone-clause-counted c =
     let d = definition_view c.args.definition in
     let said = sym c.is_said-is_said.ensures ∙ c.if-is_said.true in
     said_count d c.args.gensym.now _ said
-    (c.own_id-id.ensures.counted ∙ ap (λ b. if b then c.args.gensym.now else c.args.gensym.now + 1) (sym (is_some_map identifier_tree c.args.definition.id)))
+    (c.own_id-id.ensures.counted ∙ ap (λ b. if b then c.args.gensym.now else c.args.gensym.now + 1) (sym (some_map identifier_tree c.args.definition.id)))
 
 pub returns-in_err-clone-clause-counted : goal.returns-in_err-clone-clause-counted
 returns-in_err-clone-clause-counted c =
     let d = definition_view c.args.definition in
     let said = sym c.is_said-is_said.ensures ∙ c.if-is_said.true in
     said_count d c.args.gensym.now _ said
-    (c.own_id-id.ensures.counted ∙ ap (λ b. if b then c.args.gensym.now else c.args.gensym.now + 1) (sym (is_some_map identifier_tree c.args.definition.id)))
+    (c.own_id-id.ensures.counted ∙ ap (λ b. if b then c.args.gensym.now else c.args.gensym.now + 1) (sym (some_map identifier_tree c.args.definition.id)))
 
 pub returns-else-is_said-clause-written : goal.returns-else-is_said-clause-written
 returns-else-is_said-clause-written c =
