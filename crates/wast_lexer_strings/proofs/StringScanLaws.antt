@@ -1,8 +1,8 @@
 -- Laws of the scan of a string.
-use Rattle.std.proofs.Common.{◌≡◌, ℕ, ◌+◌, ◌*◌, ◌<◌, ◌≤◌, Bool, true, false, ◌&&◌, inl, inr, List, [], ◌∷◌, ◌++◌, Option, Some, None, length, drop, get_or, refl, sym, ◌∙◌, ap, subst, arith, append_assoc, add-one}
-use Rattle.std.specs.Prelude.{encode_utf8, nat_lt, ◌==◌}
+use Rattle.std.proofs.Common.{◌≡◌, ℕ, ◌+◌, ◌*◌, ◌<◌, ◌≤◌, Bool, true, false, ◌&&◌, inl, inr, List, [], ◌∷◌, ◌++◌, Option, Some, None, length, take, drop, get_or, refl, sym, ◌∙◌, ap, subst, arith, append_assoc, add-one}
+use Rattle.std.specs.Prelude.{encode_utf8, nat_lt, ◌==◌, ◌-◌, slice_range}
 use Rattle.std.proofs.Math.Seq.{drop-cons}
-use Rattle.std.proofs.lemmas.List.{drop_all}
+use Rattle.std.proofs.lemmas.List.{drop_all, take_more, get_or-drop, length-drop}
 use Rattle.std.proofs.lemmas.Bool.{cases_Bool}
 use Rattle.std.proofs.lemmas.Bool.Decides.{nat_tests}
 use Rattle.wast_lexer_strings.specs.Strings.{is_quote, is_backslash, is_hex, hex_value, is_string_byte, escaped, is_scalar_value, is_digits, number, Element, Elements, IsString}
@@ -35,6 +35,26 @@ byte_apart c h = (grind (arith, nat_tests), grind (arith, nat_tests))
 
 pub plain_step : (c : ℕ) → is_string_byte c ≡ true → step Within c ≡ Go Within (c ∷ [])
 plain_step c h = let a = byte_apart c h in rw (h, a.0, a.1) refl
+
+-- ---- bytes that stand for themselves
+-- one more item of a range
+range_more : (text : List ℕ) (from at : ℕ) → from ≤ at → at < length text → slice_range text from at ++ get_or text at 0 ∷ [] ≡ slice_range text from (at + 1)
+range_more text from at low inside =
+    let on : (at + 1) - from ≡ (at - from) + 1 = omega (arith, low) in
+    let here : get_or (drop from text) (at - from) 0 ≡ get_or text at 0 = get_or-drop from text (at - from) 0 ∙ ap (λ (i : ℕ). get_or text i 0) (omega (arith, low)) in
+    let room : at - from < length (drop from text) = rw (length-drop) (omega (arith, low, inside)) in
+    ap (λ c. take (at - from) (drop from text) ++ c ∷ []) (sym here) ∙ sym (take_more (drop from text) (at - from) 0 room) ∙ ap (λ (n : ℕ). take n (drop from text)) (sym on)
+
+pub plain_none : (text : List ℕ) (from : ℕ) → read Within (drop from text) ≡ more (slice_range text from from) (read Within (drop from text))
+plain_none text from = let none : from - from ≡ 0 = omega arith in rw none (sym (more_none _))
+
+pub plain_more : (text : List ℕ) (from at : ℕ) → from ≤ at → at < length text → is_string_byte (get_or text at 0) ≡ true
+    → read Within (drop from text) ≡ more (slice_range text from at) (read Within (drop at text))
+    → read Within (drop from text) ≡ more (slice_range text from (at + 1)) (read Within (drop (at + 1) text))
+plain_more text from at low inside plain inv =
+    let c = get_or text at 0 in
+    let one : read Within (drop at text) ≡ more (c ∷ []) (read Within (drop (at + 1) text)) = ap (read Within) (cell text at inside) ∙ read_go Within Within (c ∷ []) c (drop (at + 1) text) (plain_step c plain) in
+    inv ∙ ap (more (slice_range text from at)) one ∙ more_more (slice_range text from at) (c ∷ []) _ ∙ ap (λ b. more b (read Within (drop (at + 1) text))) (range_more text from at low inside)
 
 hex_apart : (c : ℕ) → is_hex c ≡ true → (c == 117) ≡ false
 hex_apart c h = grind (arith, nat_tests)

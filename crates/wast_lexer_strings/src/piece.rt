@@ -1,8 +1,8 @@
 //! One character of a string, or one escape.
 
-ghost use Rattle.std.specs.Prelude.{◌≡◌, ◌≢◌, ◌≤◌, ◌<◌, ℕ, List, ◌++◌, MatchOption, length, slice_index, false, true};
+ghost use Rattle.std.specs.Prelude.{◌≡◌, ◌≢◌, ◌≤◌, ◌<◌, ℕ, List, ◌++◌, MatchOption, length, drop, slice_index, slice_range, false, true};
 ghost use Rattle.wast_lexer_strings.specs.Strings.{is_hex, hex_value, is_string_byte, escaped};
-ghost use Rattle.wast_lexer_strings.specs.StringScan.{Gives, meant};
+ghost use Rattle.wast_lexer_strings.specs.StringScan.{Gives, meant, read, more};
 ghost use Rattle.wast_lexer_strings.specs.StringScan.State.{Within, Escape, Digit, Open, Gap, Number};
 
 use crate::error::LexError;
@@ -12,6 +12,19 @@ use crate::error::LexError;
 pub(crate) enum Piece {
     Byte(u8),
     Char(char),
+}
+
+/// Where the bytes of a string end that stand for themselves, from a place on.
+pub(crate) fn plain_end(text: &[u8], from: usize) -> usize
+    requires { from ≤ length text.now }
+    ensures inside { (from ≤ result) × (result ≤ length text.now) }
+    ensures passed { read Within (drop from text.now) ≡ more (slice_range text.now from result) (read Within (drop result text.now)) }
+{
+    let mut at = from;
+    'plain: while at < text.len() && is_string_byte(text[at]) {
+        at += 1;
+    }
+    at
 }
 
 /// The part of a string that stands at a place, and where it ends.

@@ -1,12 +1,12 @@
 //! Whole strings.
 
-ghost use Rattle.std.specs.Prelude.{◌≡◌, ◌≤◌, ◌&&◌, ◌↔◌, ℕ, List, length, drop, IfOk, IsTrue};
+ghost use Rattle.std.specs.Prelude.{◌≡◌, ◌≤◌, ◌&&◌, ◌↔◌, ◌++◌, ℕ, List, length, drop, IfOk, OnOk, IsTrue};
 ghost use Rattle.wast_lexer_strings.specs.Strings.{IsString};
-ghost use Rattle.wast_lexer_strings.specs.StringScan.{FindsRest, read, is_text, is_empty};
+ghost use Rattle.wast_lexer_strings.specs.StringScan.{FindsRest, read, is_text, is_empty, meant};
 ghost use Rattle.wast_lexer_strings.specs.StringScan.State.{Within};
 
 use crate::error::LexError;
-use crate::piece::{Piece, behind_piece, read_piece};
+use crate::piece::{Piece, behind_piece, plain_end, read_piece};
 use crate::utf8::{Tail, follow_piece, is_closed};
 use std::alloc::{AllocError, Global};
 
@@ -15,13 +15,13 @@ pub fn string_end(text: &[u8], from: usize) -> Result<usize, LexError>
     requires { from ≤ length text.now }
     ensures { FindsRest result text.now from (read Within (drop from text.now)) }
 {
-    let mut at = from;
+    let mut at = plain_end(text, from);
     'elements: while at < text.len() {
         if text[at] == b'"' {
             return Ok(at + 1);
         }
         match read_piece(text, at) {
-            Ok((_, end)) => at = end,
+            Ok((_, end)) => at = plain_end(text, end),
             Err(error) => return Err(error),
         }
     }
@@ -60,24 +60,39 @@ pub fn string_value(alloc: Global, word: &[u8]) -> Result<Vec<u8>, AllocError>
     requires { (bytes : List ℕ) × IsString word.now bytes }
     ensures { IfOk result (λ v. IsString word.now v.items) }
 {
-    let mut out = Vec::new(alloc);
+    let mut out = Vec::with_capacity(alloc, word.len())?;
     let mut at = 1;
     'elements: while at < word.len() && word[at] != b'"' {
-        match read_piece(word, at) {
-            Err(_) => return Ok(out),
-            Ok((Piece::Byte(byte), end)) => {
-                out.push(byte)?;
-                at = end;
-            }
-            Ok((Piece::Char(c), end)) => {
-                let mut buffer = [0u8; 4];
-                let text = c.encode_utf8(&mut buffer);
-                out.extend_from_slice(text.as_bytes())?;
-                at = end;
+        let plain = plain_end(word, at);
+        if at < plain {
+            out.extend_from_slice(&word[at..plain])?;
+            at = plain;
+        } else {
+            match read_piece(word, at) {
+                Err(_) => return Ok(out),
+                Ok((piece, end)) => {
+                    push_piece(&mut out, piece)?;
+                    at = end;
+                }
             }
         }
     }
+    out.shrink_to_fit();
     Ok(out)
+}
+
+/// Appends the bytes that a part of a string stands for.
+fn push_piece(out: &mut Vec<u8>, piece: Piece) -> Result<(), AllocError>
+    ensures { OnOk result (out.new.items ≡ out.old.items ++ meant piece) }
+{
+    match piece {
+        Piece::Byte(byte) => out.push(byte)?,
+        Piece::Char(c) => {
+            let mut buffer = [0u8; 4];
+            out.extend_from_slice(c.encode_utf8(&mut buffer).as_bytes())?;
+        }
+    }
+    Ok(())
 }
 
 /// Whether a word is a string that stands for these bytes. It wants no memory.
