@@ -13,7 +13,7 @@ use crate::fault::LexFault;
 use crate::lexer::Lexer;
 use crate::paren::{Paren, paren_of};
 use crate::paren_ends::closing;
-use crate::token::Token;
+use crate::token::{Token, TokenKind};
 use std::alloc::{AllocError, Global};
 use std::marker::Model;
 
@@ -52,6 +52,16 @@ impl TokenTable {
         ensures { result ≡ length self.now.tokens }
     {
         self.entries.len()
+    }
+
+    /// What a token is, by its index.
+    pub fn kind(&self, index: usize) -> Option<TokenKind>
+        ensures { result ≡ option_map (λ t. t.kind) (slice_get self.now.tokens index) }
+    {
+        if self.entries.len() <= index {
+            return None;
+        }
+        Some(self.entries[index].kind)
     }
 
     /// A token by its index.
