@@ -1,5 +1,5 @@
 //! A text and its tokens.
-ghost use Rattle.std.specs.Prelude.{◌≡◌, ◌+◌, ◌<◌, ◌^◌, ℕ, length, false, IfSome, IfOk, IfErr, MatchOption, slice_get, true};
+ghost use Rattle.std.specs.Prelude.{◌≡◌, ◌+◌, ◌<◌, ◌^◌, ℕ, length, false, IfSome, IfOk, IfErr, MatchOption, option_map, slice_get, true};
 ghost use Rattle.wast_lexer.specs.Groups.{parens, IsGroupAt};
 ghost use Rattle.wast_lexer.specs.Source.{source, allows};
 ghost use Rattle.wast_lexer.specs.Table.{IsTable};
@@ -8,7 +8,7 @@ ghost use Rattle.wast_parser_core.specs.Reading.{out_of_memory};
 
 use std::alloc::Global;
 use std::marker::Model;
-use wast_lexer::{LexFault, Lexer, Token, TokenTable};
+use wast_lexer::{LexFault, Lexer, Token, TokenKind, TokenTable};
 use wast_parser_base::Error;
 
 /// A text and its tokens, up to its end or the first fault.
@@ -75,6 +75,15 @@ impl<'a> ParseBuffer<'a> {
         ensures { result.now ≡ self.now.text }
     {
         self.text
+    }
+
+    /// What a token is, by its index.
+    pub(crate) fn kind(&self, index: usize) -> Option<TokenKind>
+        ensures kind { result ≡ option_map (λ t. t.kind) (slice_get self.now.tokens index) }
+        ensures small { IfSome result (λ _. index + 1 < 2 ^ 64) }
+    {
+        let _count = self.table.len();
+        self.table.kind(index)
     }
 
     /// A token by its index.

@@ -1,5 +1,6 @@
 //! A parser: the tokens of a text, and how many of them are taken.
-ghost use Rattle.std.specs.Prelude.{◌≡◌, ◌≢◌, ◌≤◌, ◌⊎◌, ℕ, [], ◌∷◌, Some, None, Ok, IfOk, IfErr, OnErr, OnOk, length, true, Err};
+ghost use Rattle.std.specs.Prelude.{◌≡◌, ◌≢◌, ◌≤◌, ◌+◌, ◌⊎◌, ℕ, [], ◌∷◌, Some, None, Ok, IfOk, IfErr, IfSome, OnErr, OnOk, length, option_map, slice_get, true, Err};
+ghost use Rattle.wast_lexer.specs.TokenText.{IsOf};
 ghost use Rattle.wast_parser_base.specs.Problem.{is_memory, Said};
 ghost use Rattle.wast_parser_core.specs.State.{State, start, ahead, knowing, past, Keeps, place_ahead, place_behind, stop};
 ghost use Rattle.wast_parser_core.specs.declared.cursor.Cursor.{Cursor};
@@ -215,22 +216,33 @@ impl<'a> Parser<'a> {
         ensures { ShowsNext result (record self.now { at = from }) }
     {
         let mut at = from;
-        'tokens: while let Some(token) = self.buffer.get(at) {
-            if is_trivia(token.kind) {
+        'tokens: while let Some(kind) = self.buffer.kind(at) {
+            if is_trivia(kind) {
                 at += 1;
-            } else if is_lparen(token.kind) && self.drops(at + 1) {
+            } else if is_lparen(kind) && self.drops(at + 1) {
                 match self.buffer.group_end(at) {
                     Some(end) => at = end + 1,
                     None => return Err(stopped(self.buffer)),
                 }
             } else {
-                return Ok(Some((token, at + 1)));
+                return Ok(self.token_at(at));
             }
         }
         if self.buffer.fault().is_some() {
             return Err(stopped(self.buffer));
         }
         Ok(None)
+    }
+
+    /// A token by its index, and the index behind it.
+    fn token_at(&self, index: usize) -> Option<(Token, usize)>
+        ensures token { result ≡ option_map (λ t. (t, index + 1)) (slice_get self.now.source.tokens index) }
+        ensures own { IfSome result (λ r. IsOf self.now.source.text r.0) }
+    {
+        match self.buffer.get(index) {
+            Some(token) => Some((token, index + 1)),
+            None => None,
+        }
     }
 }
 
