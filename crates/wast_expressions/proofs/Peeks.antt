@@ -3,7 +3,7 @@ use Rattle.std.proofs.Common.{◌≡◌, ℕ, Bool, true, false, List, [], ◌�
 use Rattle.wast_grammar.specs.Tokens.{Name, Open, Close, Id, Word, Mark, Integer, Float, Text, Reserved, Broken}
 use Rattle.wast_grammar.specs.Significant.{TextToken}
 use Rattle.wast_grammar.specs.Spelling.{◌>>=◌}
-use Rattle.wast_grammar.specs.Look.{On, AWord, AMark, AFault, Any, This, OneOf, Opening, Look, Test, Texts, first, look, holds, any_fits, at, join, faults, ask, unders}
+use Rattle.wast_grammar.specs.Look.{On, AClose, AWord, AMark, Any, This, OneOf, Opening, Look, Test, Texts, first, look, holds, any_fits, at, join, faults, ask, unders}
 use Rattle.wast_grammar.specs.Grammar.{mark, string, only, seq}
 use Rattle.wast_grammar.specs.Lawful.{Lawful, Leads}
 use Rattle.wast_grammar.proofs.Looks.{absurd_of, first_deep, apart_no2, asked, answered, in_join, join_left, join_right}
@@ -59,6 +59,13 @@ hint_leads p =
 -- BEHIND A PARENTHESIS
 pub is_opening : {X : Type 0} (p : ℕ) (us : List TextToken) (b : Option Bool) → ask (Opening ∷ []) (Open p ∷ us) ≡ b → (b ≡ Some true → X) → X
 is_opening p us b e f = f (sym e ∙ rw (first_deep true us) refl)
+
+-- a parenthesis that closes
+abbrev pub closing_tests : List Test
+closing_tests = On false AClose Any ∷ []
+
+pub is_closing : {X : Type 0} (p : ℕ) (us : List TextToken) (b : Option Bool) → ask closing_tests (Open p ∷ us) ≡ b → (b ≡ Some false → X) → X
+is_closing p us b e f = f (sym e ∙ rw (first_deep true us) refl)
 
 module _ (t : Texts) where
   abbrev in_front : List Test
@@ -131,7 +138,8 @@ module _ (starts : List Test) (t : Texts) (e : starts ≡ On false AWord t ∷ [
   word_fault h = rw e (led_fault t ts h)
 
 -- ITEMS
-faulty : (b c : Bool) → cond b None (Some c) ≡ None → b ≡ true
+-- an answer that is none
+pub faulty : (b c : Bool) → cond b None (Some c) ≡ None → b ≡ true
 faulty true c e = refl
 faulty false c e = cc
 
@@ -152,19 +160,3 @@ module _ {I : Type 0} (heads : Heads I) (ts : List TextToken) where
       ∙ ap (λ b. cond (at hint_tests ts) true b) (in_join (look ts) (ins_tests heads) (group_tests heads) ∙ ap (λ b. cond b true (at (group_tests heads) ts)) n)
       ∙ sym (in_join (look ts) hint_tests (group_tests heads)) in
       ap (λ b. cond (at (faults hinted_tests) ts) None (Some b)) same
-
-  pub item_fault : ask (ins_tests heads) ts ≡ None → ask (item_tests heads) ts ≡ None
-  item_fault e =
-      let y = faulty (at (faults (ins_tests heads)) ts) (at (ins_tests heads) ts) e in
-      ap (λ b. cond b None (Some (at (item_tests heads) ts))) (join_left (look ts) (faults (ins_tests heads)) (On true AFault Any ∷ []) y)
-
-  pub hinted_hint : ask hint_tests ts ≡ Some true → ask hinted_tests ts ≡ Some true
-  hinted_hint e = let a = answered hint_tests ts true e in asked hinted_tests ts true a.0 (join_left (look ts) hint_tests (group_tests heads) a.1)
-
-  pub hinted_group : ask hint_tests ts ≡ Some false → ask hinted_tests ts ≡ ask (group_tests heads) ts
-  hinted_group e =
-      let k = (answered hint_tests ts false e).1 in
-      ap (λ b. cond (at (faults (group_tests heads)) ts) None (Some b)) (in_join (look ts) hint_tests (group_tests heads) ∙ ap (λ b. cond b true (at (group_tests heads) ts)) k)
-
-  pub hinted_fault : ask hint_tests ts ≡ None → ask hinted_tests ts ≡ None
-  hinted_fault e = ap (λ b. cond b None (Some (at hinted_tests ts))) (faulty (at (faults hint_tests) ts) (at hint_tests ts) e)

@@ -1,30 +1,30 @@
 -- What the turns of the code answer, by those of the machine.
 use Rattle.std.proofs.Common.{◌≡◌, ℕ, ◌<◌, Bool, true, false, not, List, [], ◌∷◌, ◌++◌, length, suc, map, Option, Some, None, inl, inr, refl, sym, ◌∙◌, ap, subst, cond, arith, ◌+◌}
-use Rattle.std.specs.Prelude.{Result, Ok, Err, OnOk, IfErr, codes}
+use Rattle.std.specs.Prelude.{if◌then◌else◌, Result, Ok, Err, OnOk, IfErr, codes}
 use Rattle.std.proofs.lemmas.Bool.{cases_lt}
 use Rattle.std.proofs.lemmas.List.{map-append}
 use Rattle.wast_grammar.specs.Tokens.{Name, Open, Close, Id, Word, Mark, Integer, Float, Text, Reserved, Broken}
 use Rattle.wast_grammar.specs.Significant.{TextToken}
-use Rattle.wast_grammar.specs.Spelling.{◌>>=◌, that_open, that_one}
-use Rattle.wast_grammar.specs.Look.{Opening, NotEnd, at, ask}
+use Rattle.wast_grammar.specs.Spelling.{◌>>=◌, that_open, that_close, that_one}
+use Rattle.wast_grammar.specs.Look.{On, AFault, Any, Opening, NotEnd, at, ask}
 use Rattle.wast_grammar.specs.Grammar.{Syntax, maybe, one_of}
 use Rattle.wast_grammar.specs.Lawful.{LawfulBut}
 use Rattle.wast_grammar.proofs.BehindLaws.{opens_on}
-use Rattle.wast_grammar.proofs.Looks.{absurd_of}
+use Rattle.wast_grammar.proofs.Looks.{absurd_of, first_deep}
 use Rattle.wast_parser_base.specs.Problem.{Problem}
 use Rattle.wast_parser_core.specs.State.{State, ahead, Keeps}
 use Rattle.wast_parser_core.specs.Reading.{Refuses, out_of_memory, ends_here}
 use Rattle.wast_expressions.specs.Items.{Made, either_hint, expression_of, hint_at, hints_from}
 use Rattle.wast_expressions.specs.Expressions.{Heads, hint_tests, hint, ins_tests, group_tests, item_tests, one_ins}
 use Rattle.wast_expressions.specs.Machine as machine
-use Rattle.wast_expressions.specs.Machine.{Reach, Here, More, step, done, none_open, both_hints, open_group, plain_item, one_item, close_level, row_turn, then_turn, else_turn, turn}
+use Rattle.wast_expressions.specs.Machine.{Reach, Here, More, step, done, none_open, both_hints, open_group, plain_item, one_item, close_level, close_items, row_turn, then_turn, else_turn, turn}
 use Rattle.wast_expressions.specs.Partial.{Partial, expression}
 use Rattle.wast_expressions.specs.declared.stack.Instructions.{Instructions}
 use Rattle.wast_expressions.specs.declared.stack.Level.{Level}
 use Rattle.wast_expressions.specs.declared.stack.Level.TheVariants as levels
 use Rattle.wast_expressions.specs.Views.{here, instructions_tree, level_tree, levels_tree, out_tree, Turns, arm_word}
 use Rattle.wast_expressions.proofs.ReadLaws.{bind_bind}
-use Rattle.wast_expressions.proofs.Peeks.{is_opening, item_word, item_other}
+use Rattle.wast_expressions.proofs.Peeks.{closing_tests, is_opening, is_closing, item_word, item_other}
 
 pub on_ok : {X E P Q : Type 0} (r : Result X E) → (P → Q) → OnOk r P → OnOk r Q
 on_ok (Ok x) f p = f p
@@ -64,16 +64,6 @@ pub behind_word : {B : Type 0} (w : List ℕ) (ts : List TextToken) (f : ℕ × 
 behind_word w ts f = sym (bind_bind (one_of that_open ts) (λ o. one_of (that_one w) o.1) f)
 
 module _ {I T : Type 0} (tree : I → T) (ins : Syntax Name ℕ T) (heads : Heads T) (m : Made ℕ T) where
-  -- where items stand
-  pub row_item : (u w : Partial I) (l : Level I) (ts : List TextToken) → w ≡ record u { stack = l ∷ u.stack } → ask (item_tests heads) ts ≡ Some true → one_item ins heads m (levels_tree tree w.stack) (out_tree tree w.out) ts ≡ row_turn ins heads m (level_tree tree l ∷ levels_tree tree u.stack) (out_tree tree u.out) ts
-  row_item u w l ts e f = ap (λ (z : Partial I). one_item ins heads m (levels_tree tree z.stack) (out_tree tree z.out) ts) e ∙ sym (rw f refl)
-
-  pub row_close : (u : Partial I) (l : Level I) (ts : List TextToken) → ask (item_tests heads) ts ≡ Some false → close_level ins heads m (level_tree tree l) (levels_tree tree u.stack) (out_tree tree u.out) ts ≡ row_turn ins heads m (level_tree tree l ∷ levels_tree tree u.stack) (out_tree tree u.out) ts
-  row_close u l ts f = sym (rw f refl)
-
-  pub row_none : (u : Partial I) (ts : List TextToken) → u.stack ≡ [] → ask (item_tests heads) ts ≡ Some false → row_turn ins heads m (levels_tree tree u.stack) (out_tree tree u.out) ts ≡ None
-  row_none u ts e f = ap (λ st. row_turn ins heads m (levels_tree tree st) (out_tree tree u.out) ts) e ∙ rw f refl
-
   -- where no word of an instruction stands none is read
   none_read : LawfulBut (one_ins ins heads) heads.own → (ts : List TextToken) → at (ins_tests heads) ts ≡ false → ins.reads ts ≡ None
   none_read li ts n = go (ins.reads ts) refl
@@ -87,52 +77,200 @@ module _ {I T : Type 0} (tree : I → T) (ins : Syntax Name ℕ T) (heads : Head
             | inr h ↦ absurd_of false h.0 refl
           ]
 
-  -- where no group is open and no parenthesis opens: an instruction, or nothing
-  module _ (li : LawfulBut (one_ins ins heads) heads.own) (out : List (Option ℕ × T)) where
-    abbrev plainly : List TextToken → Option (machine.State Name ℕ T)
-    plainly ts = plain_item ins heads m None [] out ts
+  -- a group opens
+  abbrev headed_by : List (machine.Level T) → List (Option ℕ × T) → Option ℕ → T × List TextToken → Option (machine.State Name ℕ T)
+  headed_by st out h i = Some (machine.headed ins heads m (heads.kind i.0) st out h i.0 i.1)
+
+  -- Items may be read by the parenthesis that stands in front.
+  module _ (li : LawfulBut (one_ins ins heads) heads.own) (st : List (machine.Level T)) (out : List (Option ℕ × T)) where
+    abbrev alone : Option ℕ → List TextToken → Option (machine.State Name ℕ T)
+    alone h ts = plain_item ins heads m h st out ts
+
+    abbrev opening : Option ℕ → List TextToken → Option (machine.State Name ℕ T)
+    opening h ts = open_group ins heads m st out h ts
+
+    -- behind a hint
+    abbrev led : Option ℕ → List TextToken → Option (machine.State Name ℕ T)
+    led h ts = ask (ins_tests heads) ts >>= λ b. if b then alone h ts else opening h ts
+
+    abbrev one : List TextToken → Option (machine.State Name ℕ T)
+    one ts = one_item ins heads m st out ts
 
     abbrev in_row : List TextToken → Option (machine.State Name ℕ T)
-    in_row ts = row_turn ins heads m [] out ts
+    in_row ts = row_turn ins heads m st out ts
 
-    abbrev put : T × List TextToken → Option (machine.State Name ℕ T)
-    put i = Some (machine.state [] (out ++ (None, i.0) ∷ []) i.1)
+    abbrev put : Option ℕ → T × List TextToken → Option (machine.State Name ℕ T)
+    put h i = Some (machine.state st (out ++ (h, i.0) ∷ []) i.1)
 
-    none_put : (ts : List TextToken) → at (ins_tests heads) ts ≡ false → plainly ts ≡ None
-    none_put ts n = ap (λ z. z >>= put) (none_read li ts n)
+    none_put : (h : Option ℕ) (ts : List TextToken) → at (ins_tests heads) ts ≡ false → alone h ts ≡ None
+    none_put h ts n = ap (λ z. z >>= put h) (none_read li ts n)
 
-    in_none : (ts : List TextToken) → ask (item_tests heads) ts ≡ Some false → in_row ts ≡ None
-    in_none ts f = rw f refl
+    none_headed : (h : Option ℕ) (p : ℕ) (ts : List TextToken) → at (ins_tests heads) ts ≡ false → opening h (Open p ∷ ts) ≡ None
+    none_headed h p ts n = ap (λ z. z >>= headed_by st out h) (none_read li ts n)
 
-    in_word : (ts : List TextToken) → ask (item_tests heads) ts ≡ Some true → (maybe hint_tests hint).reads ts ≡ Some (None, ts) → ask (ins_tests heads) ts ≡ Some true → in_row ts ≡ plainly ts
-    in_word ts f h e = rw (f, h, e) refl
+    led_by : (h : Option ℕ) (ts : List TextToken) (b : Bool) → ask (ins_tests heads) ts ≡ Some b → led h ts ≡ (if b then alone h ts else opening h ts)
+    led_by h ts b e = ap (λ z. z >>= λ b. if b then alone h ts else opening h ts) e
 
-    by_word : (w : List ℕ) (p : ℕ) (ts : List TextToken) (b : Bool) → ask (ins_tests heads) (Word w p ∷ ts) ≡ Some b → at (ins_tests heads) (Word w p ∷ ts) ≡ b → plainly (Word w p ∷ ts) ≡ in_row (Word w p ∷ ts)
-    by_word w p ts true e f = sym (in_word (Word w p ∷ ts) (item_word heads (Word w p ∷ ts) e) refl e)
-    by_word w p ts false e f = none_put (Word w p ∷ ts) f ∙ sym (in_none (Word w p ∷ ts) (item_other heads (Word w p ∷ ts) e))
+    word_led : (h : Option ℕ) (w : List ℕ) (p : ℕ) (ts : List TextToken) (b : Bool) → ask (ins_tests heads) (Word w p ∷ ts) ≡ Some b → at (ins_tests heads) (Word w p ∷ ts) ≡ b → alone h (Word w p ∷ ts) ≡ led h (Word w p ∷ ts)
+    word_led h w p ts true e f = sym (led_by h (Word w p ∷ ts) true e)
+    word_led h w p ts false e f = none_put h (Word w p ∷ ts) f ∙ sym (led_by h (Word w p ∷ ts) false e)
 
-    unopened : (ts : List TextToken) → ask (Opening ∷ []) ts ≡ Some false → plainly ts ≡ in_row ts
-    unopened [] e = none_put [] refl
-    unopened (Open p ∷ ts) e = is_opening p ts (Some false) e (λ q. absurd (cc))
-    unopened (Close p ∷ ts) e = none_put (Close p ∷ ts) refl
-    unopened (Id n p ∷ ts) e = none_put (Id n p ∷ ts) refl
-    unopened (Word w p ∷ ts) e = by_word w p ts (at (ins_tests heads) (Word w p ∷ ts)) refl refl
-    unopened (Mark w p ∷ ts) e = none_put (Mark w p ∷ ts) refl
-    unopened (Integer n w p ∷ ts) e = none_put (Integer n w p ∷ ts) refl
-    unopened (Float w p ∷ ts) e = none_put (Float w p ∷ ts) refl
-    unopened (Text s p ∷ ts) e = none_put (Text s p ∷ ts) refl
-    unopened (Reserved w p ∷ ts) e = none_put (Reserved w p ∷ ts) refl
-    unopened (Broken ∷ ts) e = cc
+    pub plain_led : (h : Option ℕ) (ts : List TextToken) → ask (Opening ∷ []) ts ≡ Some false → alone h ts ≡ led h ts
+    plain_led h [] e = none_put h [] refl
+    plain_led h (Open p ∷ ts) e = is_opening p ts (Some false) e (λ q. absurd (cc))
+    plain_led h (Close p ∷ ts) e = none_put h (Close p ∷ ts) refl
+    plain_led h (Id n p ∷ ts) e = none_put h (Id n p ∷ ts) refl
+    plain_led h (Word w p ∷ ts) e = word_led h w p ts (at (ins_tests heads) (Word w p ∷ ts)) refl refl
+    plain_led h (Mark w p ∷ ts) e = none_put h (Mark w p ∷ ts) refl
+    plain_led h (Integer n w p ∷ ts) e = none_put h (Integer n w p ∷ ts) refl
+    plain_led h (Float w p ∷ ts) e = none_put h (Float w p ∷ ts) refl
+    plain_led h (Text s p ∷ ts) e = none_put h (Text s p ∷ ts) refl
+    plain_led h (Reserved w p ∷ ts) e = none_put h (Reserved w p ∷ ts) refl
+    plain_led h (Broken ∷ ts) e = cc
+
+    no_word : (p : ℕ) (ts : List TextToken) → ask (ins_tests heads) (Open p ∷ ts) ≡ Some false
+    no_word p ts = rw (first_deep true ts) refl
+
+    pub group_led : (h : Option ℕ) (ts : List TextToken) → ask (Opening ∷ []) ts ≡ Some true → opening h ts ≡ led h ts
+    group_led h [] e = cc
+    group_led h (Open p ∷ ts) e = sym (led_by h (Open p ∷ ts) false (no_word p ts))
+    group_led h (Close p ∷ ts) e = cc
+    group_led h (Id n p ∷ ts) e = cc
+    group_led h (Word w p ∷ ts) e = cc
+    group_led h (Mark w p ∷ ts) e = cc
+    group_led h (Integer n w p ∷ ts) e = cc
+    group_led h (Float w p ∷ ts) e = cc
+    group_led h (Text s p ∷ ts) e = cc
+    group_led h (Reserved w p ∷ ts) e = cc
+    group_led h (Broken ∷ ts) e = cc
+
+    pub led_fault : (h : Option ℕ) (ts : List TextToken) → ask (Opening ∷ []) ts ≡ None → led h ts ≡ None
+    led_fault h [] e = cc
+    led_fault h (Open p ∷ ts) e = is_opening p ts None e (λ q. absurd (cc))
+    led_fault h (Close p ∷ ts) e = cc
+    led_fault h (Id n p ∷ ts) e = cc
+    led_fault h (Word w p ∷ ts) e = cc
+    led_fault h (Mark w p ∷ ts) e = cc
+    led_fault h (Integer n w p ∷ ts) e = cc
+    led_fault h (Float w p ∷ ts) e = cc
+    led_fault h (Text s p ∷ ts) e = cc
+    led_fault h (Reserved w p ∷ ts) e = cc
+    led_fault h (Broken ∷ ts) e = refl
+
+    pub hinted_led : (h : Option ℕ) (ts us : List TextToken) → (maybe hint_tests hint).reads ts ≡ Some (h, us) → led h us ≡ one ts
+    hinted_led h ts us e = sym (rw e refl)
+
+    -- a row, by what it asks
+    row_is : (ts : List TextToken) → ask (item_tests heads) ts ≡ Some true → one ts ≡ in_row ts
+    row_is ts f = sym (rw f refl)
+
+    closes_none : (st : List (machine.Level T)) (ts : List TextToken) → one_of that_close ts ≡ None → close_items ins heads m st out ts ≡ None
+    closes_none [] ts c = refl
+    closes_none (machine.EndWith h i ∷ st) ts c = rw c refl
+    closes_none (machine.BlockEnd ∷ st) ts c = rw c refl
+    closes_none (machine.Conditions h i ∷ st) ts c = refl
+    closes_none (machine.Arm ∷ st) ts c = rw c refl
+    closes_none (machine.AfterThen ∷ st) ts c = refl
+    closes_none (machine.AfterElse ∷ st) ts c = refl
+
+    row_not : (ts : List TextToken) → ask (item_tests heads) ts ≡ Some false → one_of that_close ts ≡ None → one ts ≡ None → one ts ≡ in_row ts
+    row_not ts f c n = n ∙ sym (rw f (closes_none st ts c))
+
+    word_row : (w : List ℕ) (p : ℕ) (ts : List TextToken) (b : Bool) → ask (ins_tests heads) (Word w p ∷ ts) ≡ Some b → one (Word w p ∷ ts) ≡ in_row (Word w p ∷ ts)
+    word_row w p ts true e = row_is (Word w p ∷ ts) (item_word heads (Word w p ∷ ts) e)
+    word_row w p ts false e = row_not (Word w p ∷ ts) (item_other heads (Word w p ∷ ts) e) refl (led_by None (Word w p ∷ ts) false e)
+
+    group_row : (p : ℕ) (w : List ℕ) (q : ℕ) (ts : List TextToken) (b : Bool) → at (ins_tests heads) (Word w q ∷ ts) ≡ b → one (Open p ∷ Word w q ∷ ts) ≡ in_row (Open p ∷ Word w q ∷ ts)
+    group_row p w q ts true e = row_is (Open p ∷ Word w q ∷ ts) (ap (λ b. Some b) e)
+    group_row p w q ts false e = row_not (Open p ∷ Word w q ∷ ts) (ap (λ b. Some b) e) refl (none_headed None p (Word w q ∷ ts) e)
+
+    hint_row : (p : ℕ) (w : List ℕ) (q : ℕ) (ts : List TextToken) (b : Bool) → at hint_tests (Open p ∷ Mark w q ∷ ts) ≡ b → one (Open p ∷ Mark w q ∷ ts) ≡ in_row (Open p ∷ Mark w q ∷ ts)
+    hint_row p w q ts true e = row_is (Open p ∷ Mark w q ∷ ts) (ap (λ b. Some b) e)
+    hint_row p w q ts false e = row_not (Open p ∷ Mark w q ∷ ts) (ap (λ b. Some b) e) refl (rw e (none_headed None p (Mark w q ∷ ts) refl))
+
+    behind_row : (p : ℕ) (ts : List TextToken) → one (Open p ∷ ts) ≡ in_row (Open p ∷ ts)
+    behind_row p [] = row_not (Open p ∷ []) refl refl (none_headed None p [] refl)
+    behind_row p (Open q ∷ ts) = row_not (Open p ∷ Open q ∷ ts) refl refl (none_headed None p (Open q ∷ ts) (rw (first_deep true ts) refl))
+    behind_row p (Close q ∷ ts) = row_not (Open p ∷ Close q ∷ ts) refl refl (none_headed None p (Close q ∷ ts) refl)
+    behind_row p (Id n q ∷ ts) = row_not (Open p ∷ Id n q ∷ ts) refl refl (none_headed None p (Id n q ∷ ts) refl)
+    behind_row p (Word w q ∷ ts) = group_row p w q ts (at (ins_tests heads) (Word w q ∷ ts)) refl
+    behind_row p (Mark w q ∷ ts) = hint_row p w q ts (at hint_tests (Open p ∷ Mark w q ∷ ts)) refl
+    behind_row p (Integer n w q ∷ ts) = row_not (Open p ∷ Integer n w q ∷ ts) refl refl (none_headed None p (Integer n w q ∷ ts) refl)
+    behind_row p (Float w q ∷ ts) = row_not (Open p ∷ Float w q ∷ ts) refl refl (none_headed None p (Float w q ∷ ts) refl)
+    behind_row p (Text s q ∷ ts) = row_not (Open p ∷ Text s q ∷ ts) refl refl (none_headed None p (Text s q ∷ ts) refl)
+    behind_row p (Reserved w q ∷ ts) = row_not (Open p ∷ Reserved w q ∷ ts) refl refl (none_headed None p (Reserved w q ∷ ts) refl)
+    behind_row p (Broken ∷ ts) = refl
+
+    -- where no group closes: an item, or nothing
+    pub item_row : (ts : List TextToken) → ask closing_tests ts ≡ Some false → one ts ≡ in_row ts
+    item_row [] e = row_not [] refl refl refl
+    item_row (Open p ∷ ts) e = behind_row p ts
+    item_row (Close p ∷ ts) e = cc
+    item_row (Id n p ∷ ts) e = row_not (Id n p ∷ ts) refl refl refl
+    item_row (Word w p ∷ ts) e = word_row w p ts (at (ins_tests heads) (Word w p ∷ ts)) refl
+    item_row (Mark w p ∷ ts) e = row_not (Mark w p ∷ ts) refl refl refl
+    item_row (Integer n w p ∷ ts) e = row_not (Integer n w p ∷ ts) refl refl refl
+    item_row (Float w p ∷ ts) e = row_not (Float w p ∷ ts) refl refl refl
+    item_row (Text s p ∷ ts) e = row_not (Text s p ∷ ts) refl refl refl
+    item_row (Reserved w p ∷ ts) e = row_not (Reserved w p ∷ ts) refl refl refl
+    item_row (Broken ∷ ts) e = cc
+
+    -- where one opens: an item, or nothing
+    pub opened_row : (ts : List TextToken) → ask (Opening ∷ []) ts ≡ Some true → one ts ≡ in_row ts
+    opened_row [] e = cc
+    opened_row (Open p ∷ ts) e = behind_row p ts
+    opened_row (Close p ∷ ts) e = cc
+    opened_row (Id n p ∷ ts) e = cc
+    opened_row (Word w p ∷ ts) e = cc
+    opened_row (Mark w p ∷ ts) e = cc
+    opened_row (Integer n w p ∷ ts) e = cc
+    opened_row (Float w p ∷ ts) e = cc
+    opened_row (Text s p ∷ ts) e = cc
+    opened_row (Reserved w p ∷ ts) e = cc
+    opened_row (Broken ∷ ts) e = cc
+
+  -- where no group is open and no parenthesis opens: an instruction, or nothing
+  pub plain_row : LawfulBut (one_ins ins heads) heads.own → (out : List (Option ℕ × T)) (ts : List TextToken) → ask (Opening ∷ []) ts ≡ Some false → plain_item ins heads m None [] out ts ≡ row_turn ins heads m [] out ts
+  plain_row li out [] e = none_put li [] out None [] refl
+  plain_row li out (Open p ∷ ts) e = is_opening p ts (Some false) e (λ q. absurd (cc))
+  plain_row li out (Close p ∷ ts) e = none_put li [] out None (Close p ∷ ts) refl
+  plain_row li out (Id n p ∷ ts) e = none_put li [] out None (Id n p ∷ ts) refl
+  plain_row li out (Word w p ∷ ts) e = plain_led li [] out None (Word w p ∷ ts) e ∙ item_row li [] out (Word w p ∷ ts) refl
+  plain_row li out (Mark w p ∷ ts) e = none_put li [] out None (Mark w p ∷ ts) refl
+  plain_row li out (Integer n w p ∷ ts) e = none_put li [] out None (Integer n w p ∷ ts) refl
+  plain_row li out (Float w p ∷ ts) e = none_put li [] out None (Float w p ∷ ts) refl
+  plain_row li out (Text s p ∷ ts) e = none_put li [] out None (Text s p ∷ ts) refl
+  plain_row li out (Reserved w p ∷ ts) e = none_put li [] out None (Reserved w p ∷ ts) refl
+  plain_row li out (Broken ∷ ts) e = cc
 
   pub row_plain : (u : Partial I) (ts : List TextToken) → LawfulBut (one_ins ins heads) heads.own → u.stack ≡ [] → ask (Opening ∷ []) ts ≡ Some false → plain_item ins heads m None (levels_tree tree u.stack) (out_tree tree u.out) ts ≡ row_turn ins heads m (levels_tree tree u.stack) (out_tree tree u.out) ts
   row_plain u ts li e f =
       ap (λ st. plain_item ins heads m None (levels_tree tree st) (out_tree tree u.out) ts) e
-      ∙ unopened li (out_tree tree u.out) ts f
+      ∙ plain_row li (out_tree tree u.out) ts f
       ∙ sym (ap (λ st. row_turn ins heads m (levels_tree tree st) (out_tree tree u.out) ts) e)
 
-  pub row_fault : (st : List (machine.Level T)) (out : List (Option ℕ × T)) (ts : List TextToken) → ask (Opening ∷ []) ts ≡ None → row_turn ins heads m st out ts ≡ None
+  -- where a group is open: an item
+  pub row_item : (u w : Partial I) (l : Level I) (ts : List TextToken) → LawfulBut (one_ins ins heads) heads.own → w ≡ record u { stack = l ∷ u.stack } → ask closing_tests ts ≡ Some false → one_item ins heads m (levels_tree tree w.stack) (out_tree tree w.out) ts ≡ row_turn ins heads m (level_tree tree l ∷ levels_tree tree u.stack) (out_tree tree u.out) ts
+  row_item u w l ts li e f = ap (λ (z : Partial I). one_item ins heads m (levels_tree tree z.stack) (out_tree tree z.out) ts) e ∙ item_row li (level_tree tree l ∷ levels_tree tree u.stack) (out_tree tree u.out) ts f
+
+  -- or its end
+  pub row_close : (l : machine.Level T) (st : List (machine.Level T)) (out : List (Option ℕ × T)) (ts : List TextToken) → ask closing_tests ts ≡ Some true → close_level ins heads m l st out ts ≡ row_turn ins heads m (l ∷ st) out ts
+  row_close l st out [] e = cc
+  row_close l st out (Open p ∷ ts) e = is_closing p ts (Some true) e (λ q. absurd (cc))
+  row_close l st out (Close p ∷ ts) e = refl
+  row_close l st out (Id n p ∷ ts) e = cc
+  row_close l st out (Word w p ∷ ts) e = cc
+  row_close l st out (Mark w p ∷ ts) e = cc
+  row_close l st out (Integer n w p ∷ ts) e = cc
+  row_close l st out (Float w p ∷ ts) e = cc
+  row_close l st out (Text s p ∷ ts) e = cc
+  row_close l st out (Reserved w p ∷ ts) e = cc
+  row_close l st out (Broken ∷ ts) e = cc
+
+  -- where no token can be read no row goes on
+  pub row_fault : (st : List (machine.Level T)) (out : List (Option ℕ × T)) (ts : List TextToken) → at (On false AFault Any ∷ []) ts ≡ true → row_turn ins heads m st out ts ≡ None
   row_fault st out [] e = cc
-  row_fault st out (Open p ∷ ts) e = is_opening p ts None e (λ q. absurd (cc))
+  row_fault st out (Open p ∷ ts) e = absurd_of (at (On false AFault Any ∷ []) (Open p ∷ ts)) e (rw (first_deep true ts) refl)
   row_fault st out (Close p ∷ ts) e = cc
   row_fault st out (Id n p ∷ ts) e = cc
   row_fault st out (Word w p ∷ ts) e = cc
@@ -158,10 +296,6 @@ module _ {I T : Type 0} (tree : I → T) (ins : Syntax Name ℕ T) (heads : Head
   -- one more condition
   pub more_condition : (u w : Partial I) (h : Option ℕ) (i : I) (ts : List TextToken) → w ≡ record u { stack = levels.Conditions h i ∷ u.stack } → ask (group_tests heads) ts ≡ Some true → open_group ins heads m (levels_tree tree w.stack) (out_tree tree w.out) None ts ≡ turn ins heads m (machine.Conditions h (tree i) ∷ levels_tree tree u.stack) (out_tree tree u.out) ts
   more_condition u w h i ts e f = ap (λ (z : Partial I). open_group ins heads m (levels_tree tree z.stack) (out_tree tree z.out) None ts) e ∙ sym (rw f refl)
-
-  -- a group opens
-  abbrev headed_by : List (machine.Level T) → List (Option ℕ × T) → Option ℕ → T × List TextToken → Option (machine.State Name ℕ T)
-  headed_by st out h i = Some (machine.headed ins heads m (heads.kind i.0) st out h i.0 i.1)
 
   pub group_opened : (st : List (machine.Level T)) (out : List (Option ℕ × T)) (h : Option ℕ) (p : ℕ) (t : T) (ts us rest : List TextToken) → one_of that_open ts ≡ Some (p, us) → ins.reads us ≡ Some (t, rest) → open_group ins heads m st out h ts ≡ Some (machine.headed ins heads m (heads.kind t) st out h t rest)
   group_opened st out h p t ts us rest e f = ap (λ z. z >>= λ o. ins.reads o.1 >>= headed_by st out h) e ∙ ap (λ z. z >>= headed_by st out h) f

@@ -1,14 +1,13 @@
 //! What stands before a parser.
 ghost use Rattle.std.specs.Prelude.{◌≡◌, ℕ, List, [], ◌∷◌, false, refl, codes};
-ghost use Rattle.wast_parser.specs.Look.{ask, join, unders, On, AWord, Texts};
+ghost use Rattle.wast_parser.specs.Look.{ask, unders, On, AWord, Texts};
 ghost use Rattle.wast_parser.specs.Lawful.{Lawful, Leads};
 ghost use Rattle.wast_parser.specs.State.{ahead};
 ghost use Rattle.wast_parser.specs.Reading.{Asks};
 ghost use Rattle.wast_parser.specs.Cursors.{stands};
-ghost use Rattle.wast_expressions.specs.Expressions.{hint_tests, ins_tests, group_tests, item_tests};
+ghost use Rattle.wast_expressions.specs.Expressions.{ins_tests, group_tests};
 ghost use Rattle.wast_expressions.specs.Views.{any_word};
 
-use crate::hint::HintValue;
 use crate::operation::Operation;
 use std::marker::PhantomData;
 use wast_parser::{Cursor, Error, KeywordName, LParen, Meaning, Parser, Peek};
@@ -86,26 +85,4 @@ pub(crate) fn peek_group<I: Operation>(parser: &Parser<'_>) -> Result<bool, Erro
     ensures { Asks result parser.now.source (ask (group_tests I.heads) (ahead parser.now)) }
 {
     peek_led::<Word<I>>(parser)
-}
-
-/// Whether an item begins here: an instruction, a hint or a group.
-pub(crate) fn peek_item<I: Operation>(parser: &Parser<'_>) -> Result<bool, Error>
-    ensures { Asks result parser.now.source (ask (item_tests I.heads) (ahead parser.now)) }
-{
-    match parser.peek::<Word<I>>() {
-        Ok(true) => Ok(true),
-        Ok(false) => peek_hinted::<I>(parser),
-        Err(e) => Err(e),
-    }
-}
-
-/// The same where no instruction begins here.
-fn peek_hinted<I: Operation>(parser: &Parser<'_>) -> Result<bool, Error>
-    ensures { Asks result parser.now.source (ask (join hint_tests (group_tests I.heads)) (ahead parser.now)) }
-{
-    match parser.peek::<HintValue>() {
-        Ok(true) => Ok(true),
-        Ok(false) => peek_group::<I>(parser),
-        Err(e) => Err(e),
-    }
 }

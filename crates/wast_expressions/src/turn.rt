@@ -10,13 +10,13 @@ ghost use Rattle.wast_expressions.specs.declared.stack.Level.TheVariants as leve
 ghost use Rattle.wast_expressions.specs.Views.{here, kind_of, level_tree, levels_tree, out_tree, Turns};
 
 use crate::hint::hint;
-use crate::look::{Else, Word, peek_group, peek_item, peek_led};
+use crate::look::{Else, peek_group, peek_led};
 use crate::operation::{
     GroupKind, MadeKind, Operation, ParseOperation, make, parse_head, parse_operation,
 };
 use crate::stack::{Level, Unfolding};
 use crate::token::{close, open, open_word};
-use wast_parser::{Error, Keyword, LParen, Parser};
+use wast_parser::{Error, Keyword, LParen, Parser, RParen};
 
 /// One turn: an item is read, up to what its head opens, or what is open goes on or closes.
 pub(crate) fn turn<'a, I: ParseOperation<'a>>(
@@ -50,29 +50,13 @@ fn items<'a, I: ParseOperation<'a>>(
 {
     I::lawful();
     match parser.peek::<LParen>() {
-        Ok(true) => opened(work, parser),
+        Ok(true) => item(work, parser),
         Ok(false) => plain(None, work, parser),
         Err(e) => Err(e),
     }
 }
 
-/// The same where a parenthesis opens.
-fn opened<'a, I: ParseOperation<'a>>(
-    work: &mut Unfolding<I>,
-    parser: &mut Parser<'a>,
-) -> Result<(), Error>
-    requires { work.old.stack ≡ [] }
-    ensures gives { Turns result (row_turn I.syntax I.heads I.made (levels_tree I.tree work.old.stack) (out_tree I.tree work.old.out) (ahead parser.old)) (here I.tree work.new (ahead parser.new)) }
-    ensures keeps { Keeps parser.old parser.new }
-{
-    match peek_item::<I>(parser) {
-        Ok(true) => item(work, parser),
-        Ok(false) => Err(parser.error("expected an instruction")),
-        Err(e) => Err(e),
-    }
-}
-
-/// Where a group is open: an item, or what closes them.
+/// Where a group is open: what closes it, or an item.
 fn items_within<'a, I: ParseOperation<'a>>(
     level: Level<I>,
     work: &mut Unfolding<I>,
@@ -81,12 +65,13 @@ fn items_within<'a, I: ParseOperation<'a>>(
     ensures gives { Turns result (row_turn I.syntax I.heads I.made (level_tree I.tree level ∷ levels_tree I.tree work.old.stack) (out_tree I.tree work.old.out) (ahead parser.old)) (here I.tree work.new (ahead parser.new)) }
     ensures keeps { Keeps parser.old parser.new }
 {
-    match peek_item::<I>(parser) {
-        Ok(true) => match work.open(level) {
+    I::lawful();
+    match parser.peek::<RParen>() {
+        Ok(true) => close_level(level, work, parser),
+        Ok(false) => match work.open(level) {
             Ok(()) => item(work, parser),
             Err(e) => Err(e),
         },
-        Ok(false) => close_level(level, work, parser),
         Err(e) => Err(e),
     }
 }
@@ -99,13 +84,14 @@ fn item<'a, I: ParseOperation<'a>>(
     ensures gives { Turns result (one_item I.syntax I.heads I.made (levels_tree I.tree work.old.stack) (out_tree I.tree work.old.out) (ahead parser.old)) (here I.tree work.new (ahead parser.new)) }
     ensures keeps { Keeps parser.old parser.new }
 {
+    I::lawful();
     let hint = match hint(parser) {
         Ok(hint) => hint,
         Err(e) => return Err(e),
     };
-    match parser.peek::<Word<I>>() {
-        Ok(true) => plain(hint, work, parser),
-        Ok(false) => group(hint, work, parser),
+    match parser.peek::<LParen>() {
+        Ok(true) => group(hint, work, parser),
+        Ok(false) => plain(hint, work, parser),
         Err(e) => Err(e),
     }
 }

@@ -1,7 +1,15 @@
-use Rattle.std.proofs.Common.{Some, ap, ◌∙◌, inr}
+use Rattle.std.proofs.Common.{Some, ap, ◌∙◌, inr, [], ◌∷◌}
+use Rattle.wast_grammar.specs.Look.{Opening, at, faults}
 use Rattle.wast_parser_core.specs.State.{ahead}
-use Rattle.wast_expressions.proofs.Turned.{turns_so, row_plain, row_fault}
+use Rattle.wast_expressions.specs.Views.{levels_tree, out_tree}
+use Rattle.wast_expressions.proofs.Peeks.{faulty}
+use Rattle.wast_expressions.proofs.Turned.{turns_so, opened_row, row_plain, row_fault}
 use Rattle.wast_expressions.proofs.turn.items.Goals as goal
+
+pub returns-in-Ok-true-clause-gives : goal.returns-in-Ok-true-clause-gives
+returns-in-Ok-true-clause-gives g c =
+    let T = g.I.Operation in
+    turns_so c.item.result _ _ _ (opened_row T.tree T.syntax T.heads T.made c.lawful.ensures (levels_tree T.tree c.args.work.now.stack) (out_tree T.tree c.args.work.now.out) (ahead c.args.parser.now) (c.in-Ok-true.ensures ∙ ap (λ v. Some v) c.in-Ok-true.field-0-test)) c.item.ensures.gives
 
 pub returns-in-Ok-false-clause-gives : goal.returns-in-Ok-false-clause-gives
 returns-in-Ok-false-clause-gives g c =
@@ -11,4 +19,5 @@ returns-in-Ok-false-clause-gives g c =
 pub returns-in-Err-clause-gives : goal.returns-in-Err-clause-gives
 returns-in-Err-clause-gives g c =
     let T = g.I.Operation in
-    inr (row_fault T.tree T.syntax T.heads T.made _ _ (ahead c.args.parser.now) c.in-Err.ensures.0)
+    let ts = ahead c.args.parser.now in
+    inr (row_fault T.tree T.syntax T.heads T.made _ _ ts (faulty (at (faults (Opening ∷ [])) ts) (at (Opening ∷ []) ts) c.in-Err.ensures.0))
