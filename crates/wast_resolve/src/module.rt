@@ -32,7 +32,7 @@ pub trait ResolveModule<'a> {
     /// Refuses a module of which a demand of names isn't met, by the first, with its place and message; else only where no memory is found,
     /// or there are more than 4294967295 items of a kind or blocks inside each other. The module then keeps why, and each later call is
     /// refused by a copy of that, or for want of memory for the copy; it takes no name. The fields of a module that is refused may be gone,
-    /// and names are taken as they are where it isn't refused; for want of memory, so far at most.
+    /// and as many names are taken as where it is resolved; fewer, it may be, where no memory is found.
     fn resolve(&mut self, alloc: Global, gensym: &mut Gensym) -> Result<Names<'a>, Error>
         requires { (tree self.old).refusal ≡ None → gensym.old + length (content_fields (tree self.old).content) < 2 ^ 32 }
         ensures answers { (tree self.old).refusal ≡ None → Answers result (module_demands_by gensym.old (tree self.old)) }
@@ -41,7 +41,7 @@ pub trait ResolveModule<'a> {
         ensures counted { OnOk result (gensym.new ≡ counter_after gensym.old (content_fields (tree self.old).content)) }
         ensures rises { gensym.old ≤ gensym.new }
         ensures bounded { gensym.new ≤ counter_after gensym.old (content_fields (tree self.old).content) }
-        ensures told { (tree self.old).refusal ≡ None → (why : Problem) → (tree self.new).refusal ≡ Some why → is_memory why.cause ≡ false → gensym.new ≡ counter_after gensym.old (content_fields (tree self.old).content) }
+        ensures counted_unmet { (tree self.old).refusal ≡ None → (why : Problem) → (tree self.new).refusal ≡ Some why → is_memory why.cause ≡ false → gensym.new ≡ counter_after gensym.old (content_fields (tree self.old).content) }
         ensures refused { IfErr result (IsRefused (tree self.new)) }
         ensures cause { (tree self.old).refusal ≡ None → (why : Problem) → (tree self.new).refusal ≡ Some why → Refuses (module_demands_by gensym.old (tree self.old)) why }
         ensures called { IsCalledAlike (tree self.old) (tree self.new) }
@@ -86,7 +86,7 @@ fn resolve_first<'a>(
     ensures counted { OnOk result (gensym.new ≡ counter_after gensym.old (content_fields (content_tree «module».old.kind))) }
     ensures rises { gensym.old ≤ gensym.new }
     ensures bounded { gensym.new ≤ counter_after gensym.old (content_fields (content_tree «module».old.kind)) }
-    ensures told { (why : Problem) → (module_tree «module».new).refusal ≡ Some why → is_memory why.cause ≡ false → gensym.new ≡ counter_after gensym.old (content_fields (content_tree «module».old.kind)) }
+    ensures counted_unmet { (why : Problem) → (module_tree «module».new).refusal ≡ Some why → is_memory why.cause ≡ false → gensym.new ≡ counter_after gensym.old (content_fields (content_tree «module».old.kind)) }
     ensures refused { IfErr result (IsRefused (module_tree «module».new)) }
     ensures cause { (why : Problem) → (module_tree «module».new).refusal ≡ Some why → Refuses (module_demands_by gensym.old (module_tree «module».old)) why }
     ensures called { IsCalledAlike (module_tree «module».old) (module_tree «module».new) }
@@ -114,7 +114,7 @@ fn resolve_content<'a>(
     ensures counted { OnOk result (gensym.new ≡ counter_after gensym.old (content_fields (content_tree content.old))) }
     ensures rises { gensym.old ≤ gensym.new }
     ensures bounded { gensym.new ≤ counter_after gensym.old (content_fields (content_tree content.old)) }
-    ensures told { IfErr result (λ e. is_memory e.cause ≡ false → gensym.new ≡ counter_after gensym.old (content_fields (content_tree content.old))) }
+    ensures counted_unmet { IfErr result (λ e. is_memory e.cause ≡ false → gensym.new ≡ counter_after gensym.old (content_fields (content_tree content.old))) }
 {
     match content {
         ModuleKind::Text(fields) => resolve_in_place(alloc, fields, gensym),

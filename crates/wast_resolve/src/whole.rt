@@ -90,8 +90,8 @@ impl<'a> Names<'a> {
 /// field that is referred to and has no name takes the next one of `gensym`, and there is room for one a field.
 ///
 /// Refuses fields of which, written out, a demand of names isn't met, by the first, with its place and message; else only where no memory
-/// is found, or there are more than 4294967295 items of a kind or blocks inside each other. The fields are gone then, and names are
-/// taken as they are where it isn't refused; for want of memory, so far at most.
+/// is found, or there are more than 4294967295 items of a kind or blocks inside each other. The fields are gone then, and as many names
+/// are taken as where they are resolved; fewer, it may be, where no memory is found.
 pub fn resolve<'a>(
     alloc: Global,
     fields: Vec<ModuleField<'a>>,
@@ -104,7 +104,7 @@ pub fn resolve<'a>(
     ensures counted { OnOk result (gensym.new ≡ counter_after gensym.old (map field_tree fields.entry.items)) }
     ensures rises { gensym.old ≤ gensym.new }
     ensures bounded { gensym.new ≤ counter_after gensym.old (map field_tree fields.entry.items) }
-    ensures told { IfErr result (λ e. is_memory e.cause ≡ false → gensym.new ≡ counter_after gensym.old (map field_tree fields.entry.items)) }
+    ensures counted_unmet { IfErr result (λ e. is_memory e.cause ≡ false → gensym.new ≡ counter_after gensym.old (map field_tree fields.entry.items)) }
 {
     match by_value(&Resolves { alloc }, gensym, fields) {
         (fields, Ok(names)) => Ok((fields, names)),
@@ -160,7 +160,7 @@ pub(crate) fn resolve_in_place<'a>(
     ensures counted { OnOk result (gensym.new ≡ counter_after gensym.old (map field_tree fields.old.items)) }
     ensures rises { gensym.old ≤ gensym.new }
     ensures bounded { gensym.new ≤ counter_after gensym.old (map field_tree fields.old.items) }
-    ensures told { IfErr result (λ e. is_memory e.cause ≡ false → gensym.new ≡ counter_after gensym.old (map field_tree fields.old.items)) }
+    ensures counted_unmet { IfErr result (λ e. is_memory e.cause ≡ false → gensym.new ≡ counter_after gensym.old (map field_tree fields.old.items)) }
 {
     match expand_written(alloc, fields, gensym) {
         Ok(()) => number_expanded(alloc, fields),

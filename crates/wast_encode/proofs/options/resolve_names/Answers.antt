@@ -6,4 +6,4 @@ pub returns-clause-fault : goal.returns-clause-fault
 returns-clause-fault c = unresolved c.args.gensym.now (module_tree c.args.«module».now) _ c.in-Err.why c.unmet.result c.unmet.ensures c.in-Err.ensures.answers c.in-Err.ensures.refused c.in-Err.ensures.cause
 
 pub returns-clause-reached : goal.returns-clause-reached
-returns-clause-reached c = unresolved_counts c.args.gensym.now (module_tree c.args.«module».now) _ c.in-Err.why c.unmet.result _ c.unmet.ensures c.in-Err.ensures.refused c.in-Err.ensures.told
+returns-clause-reached c = unresolved_counts c.args.gensym.now (module_tree c.args.«module».now) _ c.in-Err.why c.unmet.result _ c.unmet.ensures c.in-Err.ensures.refused c.in-Err.ensures.counted_unmet

@@ -23,8 +23,8 @@ returns-in-Ok-clause-names c =
     let written = written_by c.args.gensym.now (map field_tree c.args.fields.now.items) in
     IfOk-weaker c.number_expanded.result _ (λ n. Means (names_spaces n) written) (λ n. means_before written _ c.in-Ok.ensures.expanded (names_spaces n)) c.number_expanded.ensures.names
 
-pub returns-in-Ok-clause-told : goal.returns-in-Ok-clause-told
-returns-in-Ok-clause-told c = if_refused c.number_expanded.result _ (λ e other. c.in-Ok.ensures.counted)
+pub returns-in-Ok-clause-counted_unmet : goal.returns-in-Ok-clause-counted_unmet
+returns-in-Ok-clause-counted_unmet c = if_refused c.number_expanded.result _ (λ e other. c.in-Ok.ensures.counted)
 
-pub returns-in-Err-clause-told : goal.returns-in-Err-clause-told
-returns-in-Err-clause-told c = λ other. absurd (false≢true (sym other ∙ ap (λ (p : Problem). is_memory p.cause) c.from.ensures))
+pub returns-in-Err-clause-counted_unmet : goal.returns-in-Err-clause-counted_unmet
+returns-in-Err-clause-counted_unmet c = λ other. absurd (false≢true (sym other ∙ ap (λ (p : Problem). is_memory p.cause) c.from.ensures))
