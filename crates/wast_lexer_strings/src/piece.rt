@@ -19,6 +19,7 @@ pub(crate) fn plain_end(text: &[u8], from: usize) -> usize
     requires { from ≤ length text.now }
     ensures inside { (from ≤ result) × (result ≤ length text.now) }
     ensures passed { read Within (drop from text.now) ≡ more (slice_range text.now from result) (read Within (drop result text.now)) }
+    ensures all { result < length text.now → is_string_byte (slice_index text.now result) ≡ false }
 {
     let mut at = from;
     'plain: while at < text.len() && is_string_byte(text[at]) {
