@@ -3,7 +3,7 @@ use Rattle.std.proofs.Common.{◌≡◌, ℕ, Bool, true, false, List, [], ◌�
 use Rattle.wast_grammar.specs.Tokens.{Name, Open, Close, Id, Word, Mark, Integer, Float, Text, Reserved, Broken}
 use Rattle.wast_grammar.specs.Significant.{TextToken}
 use Rattle.wast_grammar.specs.Spelling.{◌>>=◌}
-use Rattle.wast_grammar.specs.Look.{On, AClose, AWord, AMark, Any, This, OneOf, Opening, Look, Test, Texts, first, look, holds, any_fits, at, join, faults, ask, unders}
+use Rattle.wast_grammar.specs.Look.{On, AClose, AWord, AMark, AFault, Any, This, OneOf, Opening, Look, Test, Texts, first, look, holds, any_fits, at, join, faults, ask, unders}
 use Rattle.wast_grammar.specs.Grammar.{mark, string, only, seq}
 use Rattle.wast_grammar.specs.Lawful.{Lawful, Leads}
 use Rattle.wast_grammar.proofs.Looks.{absurd_of, first_deep, apart_no2, asked, answered, in_join, join_left, join_right}
@@ -56,6 +56,42 @@ hint_leads p =
     (λ a. (0 ∷ [], Text (0 ∷ []) p ∷ [], (refl, (Text (0 ∷ []) p, refl, refl))))))
     refl refl refl refl refl)
 
+-- A FIRST TOKEN
+-- where none is to be had
+faulty : (b c : Bool) → cond b None (Some c) ≡ None → b ≡ true
+faulty true c e = refl
+faulty false c e = cc
+
+pub no_token : (tests : List Test) (ts : List TextToken) → ask tests ts ≡ None → at (faults tests) ts ≡ true
+no_token tests ts e = faulty (at (faults tests) ts) (at tests ts) e
+
+pub fault_stands : (ts : List TextToken) → at (On false AFault Any ∷ []) ts ≡ true → (us : List TextToken) × (ts ≡ Broken ∷ us)
+fault_stands [] e = cc
+fault_stands (Open p ∷ us) e = absurd_of (at (On false AFault Any ∷ []) (Open p ∷ us)) e (rw (first_deep true us) refl)
+fault_stands (Close p ∷ us) e = cc
+fault_stands (Id n p ∷ us) e = cc
+fault_stands (Word w p ∷ us) e = cc
+fault_stands (Mark w p ∷ us) e = cc
+fault_stands (Integer n w p ∷ us) e = cc
+fault_stands (Float w p ∷ us) e = cc
+fault_stands (Text s p ∷ us) e = cc
+fault_stands (Reserved w p ∷ us) e = cc
+fault_stands (Broken ∷ us) e = (us, refl)
+
+-- where a parenthesis opens
+pub open_stands : (ts : List TextToken) → ask (Opening ∷ []) ts ≡ Some true → (p : ℕ) × (us : List TextToken) × (ts ≡ Open p ∷ us)
+open_stands [] e = cc
+open_stands (Open p ∷ us) e = (p, us, refl)
+open_stands (Close p ∷ us) e = cc
+open_stands (Id n p ∷ us) e = cc
+open_stands (Word w p ∷ us) e = cc
+open_stands (Mark w p ∷ us) e = cc
+open_stands (Integer n w p ∷ us) e = cc
+open_stands (Float w p ∷ us) e = cc
+open_stands (Text s p ∷ us) e = cc
+open_stands (Reserved w p ∷ us) e = cc
+open_stands (Broken ∷ us) e = cc
+
 -- BEHIND A PARENTHESIS
 pub is_opening : {X : Type 0} (p : ℕ) (us : List TextToken) (b : Option Bool) → ask (Opening ∷ []) (Open p ∷ us) ≡ b → (b ≡ Some true → X) → X
 is_opening p us b e f = f (sym e ∙ rw (first_deep true us) refl)
@@ -88,17 +124,7 @@ module _ (t : Texts) where
   opened p (Broken ∷ us) = refl
 
   led_open : (ts : List TextToken) → ask (Opening ∷ []) ts ≡ Some true → ask behind ts ≡ ask in_front (past ts)
-  led_open [] e = cc
-  led_open (Open p ∷ us) e = opened p us
-  led_open (Close q ∷ us) e = cc
-  led_open (Id n q ∷ us) e = cc
-  led_open (Word w q ∷ us) e = cc
-  led_open (Mark w q ∷ us) e = cc
-  led_open (Integer n w q ∷ us) e = cc
-  led_open (Float w q ∷ us) e = cc
-  led_open (Text s q ∷ us) e = cc
-  led_open (Reserved w q ∷ us) e = cc
-  led_open (Broken ∷ us) e = cc
+  led_open ts e = let s = open_stands ts e in rw s.2 (opened s.0 s.1)
 
   led_none : (ts : List TextToken) → ask (Opening ∷ []) ts ≡ Some false → ask behind ts ≡ Some false
   led_none [] e = refl
@@ -114,17 +140,7 @@ module _ (t : Texts) where
   led_none (Broken ∷ us) e = cc
 
   led_fault : (ts : List TextToken) → ask (Opening ∷ []) ts ≡ None → ask behind ts ≡ None
-  led_fault [] e = cc
-  led_fault (Open p ∷ us) e = is_opening p us None e (λ q. absurd (cc))
-  led_fault (Close q ∷ us) e = cc
-  led_fault (Id n q ∷ us) e = cc
-  led_fault (Word w q ∷ us) e = cc
-  led_fault (Mark w q ∷ us) e = cc
-  led_fault (Integer n w q ∷ us) e = cc
-  led_fault (Float w q ∷ us) e = cc
-  led_fault (Text s q ∷ us) e = cc
-  led_fault (Reserved w q ∷ us) e = cc
-  led_fault (Broken ∷ us) e = refl
+  led_fault ts e = let s = fault_stands ts (no_token (Opening ∷ []) ts e) in rw s.1 refl
 
 -- the same of what begins with a word
 module _ (starts : List Test) (t : Texts) (e : starts ≡ On false AWord t ∷ []) (ts : List TextToken) where
@@ -138,11 +154,6 @@ module _ (starts : List Test) (t : Texts) (e : starts ≡ On false AWord t ∷ [
   word_fault h = rw e (led_fault t ts h)
 
 -- ITEMS
--- an answer that is none
-pub faulty : (b c : Bool) → cond b None (Some c) ≡ None → b ≡ true
-faulty true c e = refl
-faulty false c e = cc
-
 module _ {I : Type 0} (heads : Heads I) (ts : List TextToken) where
   abbrev hinted_tests : List Test
   hinted_tests = join hint_tests (group_tests heads)

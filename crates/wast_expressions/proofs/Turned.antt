@@ -24,7 +24,7 @@ use Rattle.wast_expressions.specs.declared.stack.Level.{Level}
 use Rattle.wast_expressions.specs.declared.stack.Level.TheVariants as levels
 use Rattle.wast_expressions.specs.Views.{here, instructions_tree, level_tree, levels_tree, out_tree, Turns, arm_word}
 use Rattle.wast_expressions.proofs.ReadLaws.{bind_bind}
-use Rattle.wast_expressions.proofs.Peeks.{closing_tests, is_opening, is_closing, item_word, item_other}
+use Rattle.wast_expressions.proofs.Peeks.{closing_tests, no_token, fault_stands, open_stands, is_opening, is_closing, item_word, item_other}
 
 pub on_ok : {X E P Q : Type 0} (r : Result X E) → (P → Q) → OnOk r P → OnOk r Q
 on_ok (Ok x) f p = f p
@@ -132,30 +132,10 @@ module _ {I T : Type 0} (tree : I → T) (ins : Syntax Name ℕ T) (heads : Head
     no_word p ts = rw (first_deep true ts) refl
 
     pub group_led : (h : Option ℕ) (ts : List TextToken) → ask (Opening ∷ []) ts ≡ Some true → opening h ts ≡ led h ts
-    group_led h [] e = cc
-    group_led h (Open p ∷ ts) e = sym (led_by h (Open p ∷ ts) false (no_word p ts))
-    group_led h (Close p ∷ ts) e = cc
-    group_led h (Id n p ∷ ts) e = cc
-    group_led h (Word w p ∷ ts) e = cc
-    group_led h (Mark w p ∷ ts) e = cc
-    group_led h (Integer n w p ∷ ts) e = cc
-    group_led h (Float w p ∷ ts) e = cc
-    group_led h (Text s p ∷ ts) e = cc
-    group_led h (Reserved w p ∷ ts) e = cc
-    group_led h (Broken ∷ ts) e = cc
+    group_led h ts e = let s = open_stands ts e in rw s.2 (sym (led_by h (Open s.0 ∷ s.1) false (no_word s.0 s.1)))
 
     pub led_fault : (h : Option ℕ) (ts : List TextToken) → ask (Opening ∷ []) ts ≡ None → led h ts ≡ None
-    led_fault h [] e = cc
-    led_fault h (Open p ∷ ts) e = is_opening p ts None e (λ q. absurd (cc))
-    led_fault h (Close p ∷ ts) e = cc
-    led_fault h (Id n p ∷ ts) e = cc
-    led_fault h (Word w p ∷ ts) e = cc
-    led_fault h (Mark w p ∷ ts) e = cc
-    led_fault h (Integer n w p ∷ ts) e = cc
-    led_fault h (Float w p ∷ ts) e = cc
-    led_fault h (Text s p ∷ ts) e = cc
-    led_fault h (Reserved w p ∷ ts) e = cc
-    led_fault h (Broken ∷ ts) e = refl
+    led_fault h ts e = let s = fault_stands ts (no_token (Opening ∷ []) ts e) in rw s.1 refl
 
     pub hinted_led : (h : Option ℕ) (ts us : List TextToken) → (maybe hint_tests hint).reads ts ≡ Some (h, us) → led h us ≡ one ts
     hinted_led h ts us e = sym (rw e refl)
@@ -217,17 +197,7 @@ module _ {I T : Type 0} (tree : I → T) (ins : Syntax Name ℕ T) (heads : Head
 
     -- where one opens: an item, or nothing
     pub opened_row : (ts : List TextToken) → ask (Opening ∷ []) ts ≡ Some true → one ts ≡ in_row ts
-    opened_row [] e = cc
-    opened_row (Open p ∷ ts) e = behind_row p ts
-    opened_row (Close p ∷ ts) e = cc
-    opened_row (Id n p ∷ ts) e = cc
-    opened_row (Word w p ∷ ts) e = cc
-    opened_row (Mark w p ∷ ts) e = cc
-    opened_row (Integer n w p ∷ ts) e = cc
-    opened_row (Float w p ∷ ts) e = cc
-    opened_row (Text s p ∷ ts) e = cc
-    opened_row (Reserved w p ∷ ts) e = cc
-    opened_row (Broken ∷ ts) e = cc
+    opened_row ts e = let s = open_stands ts e in rw s.2 (behind_row s.0 s.1)
 
   -- where no group is open and no parenthesis opens: an instruction, or nothing
   pub plain_row : LawfulBut (one_ins ins heads) heads.own → (out : List (Option ℕ × T)) (ts : List TextToken) → ask (Opening ∷ []) ts ≡ Some false → plain_item ins heads m None [] out ts ≡ row_turn ins heads m [] out ts
@@ -269,17 +239,7 @@ module _ {I T : Type 0} (tree : I → T) (ins : Syntax Name ℕ T) (heads : Head
 
   -- where no token can be read no row goes on
   pub row_fault : (st : List (machine.Level T)) (out : List (Option ℕ × T)) (ts : List TextToken) → at (On false AFault Any ∷ []) ts ≡ true → row_turn ins heads m st out ts ≡ None
-  row_fault st out [] e = cc
-  row_fault st out (Open p ∷ ts) e = absurd_of (at (On false AFault Any ∷ []) (Open p ∷ ts)) e (rw (first_deep true ts) refl)
-  row_fault st out (Close p ∷ ts) e = cc
-  row_fault st out (Id n p ∷ ts) e = cc
-  row_fault st out (Word w p ∷ ts) e = cc
-  row_fault st out (Mark w p ∷ ts) e = cc
-  row_fault st out (Integer n w p ∷ ts) e = cc
-  row_fault st out (Float w p ∷ ts) e = cc
-  row_fault st out (Text s p ∷ ts) e = cc
-  row_fault st out (Reserved w p ∷ ts) e = cc
-  row_fault st out (Broken ∷ ts) e = refl
+  row_fault st out ts e = let s = fault_stands ts e in rw s.1 refl
 
   -- a turn by what the stack waits for
   pub turn_top : (u v : Partial I) (k l : Level I) (ts : List TextToken) → u ≡ record v { stack = k ∷ v.stack } → k ≡ l → turn ins heads m (level_tree tree l ∷ levels_tree tree v.stack) (out_tree tree v.out) ts ≡ turn ins heads m (levels_tree tree u.stack) (out_tree tree u.out) ts

@@ -1,8 +1,8 @@
 use Rattle.std.proofs.Common.{Some, ap, ◌∙◌, inr, [], ◌∷◌}
-use Rattle.wast_grammar.specs.Look.{Opening, at, faults}
+use Rattle.wast_grammar.specs.Look.{Opening}
 use Rattle.wast_parser_core.specs.State.{ahead}
 use Rattle.wast_expressions.specs.Views.{levels_tree, out_tree}
-use Rattle.wast_expressions.proofs.Peeks.{faulty}
+use Rattle.wast_expressions.proofs.Peeks.{no_token}
 use Rattle.wast_expressions.proofs.Turned.{turns_so, opened_row, row_plain, row_fault}
 use Rattle.wast_expressions.proofs.turn.items.Goals as goal
 
@@ -20,4 +20,4 @@ pub returns-in-Err-clause-gives : goal.returns-in-Err-clause-gives
 returns-in-Err-clause-gives g c =
     let T = g.I.Operation in
     let ts = ahead c.args.parser.now in
-    inr (row_fault T.tree T.syntax T.heads T.made _ _ ts (faulty (at (faults (Opening ∷ [])) ts) (at (Opening ∷ []) ts) c.in-Err.ensures.0))
+    inr (row_fault T.tree T.syntax T.heads T.made _ _ ts (no_token (Opening ∷ []) ts c.in-Err.ensures.0))

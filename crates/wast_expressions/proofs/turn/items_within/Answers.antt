@@ -1,8 +1,7 @@
 use Rattle.std.proofs.Common.{Some, ap, ◌∙◌, inr}
-use Rattle.wast_grammar.specs.Look.{at, faults}
 use Rattle.wast_parser_core.specs.State.{ahead}
 use Rattle.wast_expressions.specs.Views.{level_tree, levels_tree, out_tree}
-use Rattle.wast_expressions.proofs.Peeks.{closing_tests, faulty}
+use Rattle.wast_expressions.proofs.Peeks.{closing_tests, no_token}
 use Rattle.wast_expressions.proofs.Turned.{turns_so, row_item, row_close, row_fault}
 use Rattle.wast_expressions.proofs.turn.items_within.Goals as goal
 
@@ -20,4 +19,4 @@ pub returns-in-Err-clause-gives : goal.returns-in-Err-clause-gives
 returns-in-Err-clause-gives g c =
     let T = g.I.Operation in
     let ts = ahead c.args.parser.now in
-    inr (row_fault T.tree T.syntax T.heads T.made _ _ ts (faulty (at (faults closing_tests) ts) (at closing_tests ts) c.in-Err.ensures.0))
+    inr (row_fault T.tree T.syntax T.heads T.made _ _ ts (no_token closing_tests ts c.in-Err.ensures.0))
