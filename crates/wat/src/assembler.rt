@@ -5,9 +5,8 @@ ghost use Rattle.std.specs.Str.{IsUtf8};
 ghost use Rattle.wast_parser.specs.Problem.{Problem};
 ghost use Rattle.wast_parser.specs.Table.{IsTable};
 ghost use Rattle.wast_meaning.specs.Modules.{content_fields};
-ghost use Rattle.wast_resolve.specs.Whole.{IsCalledAlike, counter_after, module_by};
 ghost use Rattle.wast_encode.specs.Encoded as encoded;
-ghost use Rattle.wast_encode.specs.Encoded.{CountsFor, IsRefusedFor, LeavesFor};
+ghost use Rattle.wast_encode.specs.Encoded.{CountsFor, IsCalledAlike, IsRefusedFor, LeavesFor, counter_after, module_by};
 ghost use Rattle.wat_verdict.specs.Verdict.{Assembles, Fails, TooLong, NotUtf8, tree_breach};
 ghost use Rattle.wat.specs.Headline.{Deserves};
 ghost use Rattle.wat.specs.NoText.{IsNoText};
@@ -18,9 +17,8 @@ use crate::fault::Fault;
 use crate::text::{Wat, parse_text};
 use std::alloc::Global;
 use wast_core::{Module, ModuleKind};
-use wast_encode::{EncodeFault, EncodeOptions};
+use wast_encode::{EncodeFault, EncodeOptions, ResolveModule};
 use wast_parser::{Gensym, ParseBuffer, Span};
-use wast_resolve::ResolveModule;
 
 /// The binary of the module that a text spells.
 ///

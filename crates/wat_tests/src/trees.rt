@@ -12,9 +12,8 @@ use wast_core::{
     CustomPlaceAnchor, Data, Elem, Export, Func, Global as GlobalField, Imports, Memory,
     ModuleKind, Rec, Table, Tag, TypeItem,
 };
-use wast_encode::{FuncBody, SectionItem};
+use wast_encode::{FuncBody, ResolveModule, SectionItem};
 use wast_parser::{Gensym, ParseBuffer, parse};
-use wast_resolve::ResolveModule;
 use wat::{EncodeFault, EncodeOptions, Wat, encode_wat};
 
 /// The binary of a module of one function, which is called `f`.
