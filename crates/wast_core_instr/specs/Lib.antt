@@ -4,3 +4,5 @@ pub mod InstructionSyntax
 pub mod InstructionTree
 pub mod InstructionViews
 pub mod WordViews
+pub use Rattle.wast_operands.specs.OperandTree
+pub use Rattle.wast_typed_operands.specs.TypedTree

@@ -6,3 +6,9 @@ pub mod DataSyntax
 pub mod TableSyntax
 pub mod FieldViews
 pub mod ElemViews
+pub use Rattle.wast_value_types.specs.ValueTree
+pub use Rattle.wast_core_types.specs.TypeTree
+pub use Rattle.wast_core_instr.specs.InstructionTree
+pub use Rattle.wast_core_instr.specs.OperandTree
+pub use Rattle.wast_core_instr.specs.TypedTree
+pub use Rattle.wast_data.specs.DataTree

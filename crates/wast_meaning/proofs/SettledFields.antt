@@ -7,8 +7,8 @@ use Rattle.std.proofs.lemmas.Grind.{flat_map-append}
 use Rattle.wasm_encoder_base.specs.Table.{Space, Functions, Types, Tables, Memories}
 use Rattle.wast_parser.specs.Identifiers.{Reference, ByNumber, ByName}
 use Rattle.wast_names.specs.Space as names
-use Rattle.wast_value_types.specs.ValueTree.{RefType, TableType, GlobalType}
-use Rattle.wast_core_instr.specs.InstructionTree.{Instruction}
+use Rattle.wast_fields.specs.ValueTree.{RefType, TableType, GlobalType}
+use Rattle.wast_fields.specs.InstructionTree.{Instruction}
 use Rattle.wast_imports.specs.ImportTree.{ExternType, OfFunc, OfExactFunc, OfTable, OfMemory, OfGlobal, OfTag, Item, ImportItems, Single, Group1, Group2}
 use Rattle.wast_fields.specs.FieldTree.{Expr, Function, Elements, Indices, Expressions, Defined, Imported, Func, Table, TableOf, Memory, MemoryOf, Global, Tag, ElemMode, PassiveElem, DeclaredElem, ActiveElem, DataMode, PassiveData, ActiveData, Field, TypeField, RecField, ImportField, Define, ExportField, StartField, ElemField, DataField, CustomField}
 use Rattle.wast_meaning.specs.Written.{space_of_kind}

@@ -4,8 +4,8 @@ use Rattle.std.specs.List.{flat_map, list_any, position_from}
 use Rattle.std.specs.Cmp.Lexicographic.{pointwise}
 use Rattle.wasm_encoder_base.specs.Types.{abstract_heap_byte}
 use Rattle.wast_parser.specs.Identifiers.{Reference, ByNumber, ByName}
-use Rattle.wast_value_types.specs.ValueTree.{NumberType, I32, I64, F32, F64, V128, HeapWord, Known, Cont, NoCont, HeapType, Abstract, Concrete, Exact, ValType, Number, Ref}
-use Rattle.wast_core_types.specs.TypeTree.{Local, Sig, InnerType, FuncType, TypeItem, TypeUse}
+use Rattle.wast_fields.specs.ValueTree.{NumberType, I32, I64, F32, F64, V128, HeapWord, Known, Cont, NoCont, HeapType, Abstract, Concrete, Exact, ValType, Number, Ref}
+use Rattle.wast_fields.specs.TypeTree.{Local, Sig, InnerType, FuncType, TypeItem, TypeUse}
 use Rattle.wast_fields.specs.FieldTree.{Field, TypeField, RecField, field_place}
 use Rattle.wast_meaning.specs.Mentions.{Mention, Uses, UsesInBlock, field_mentions}
 

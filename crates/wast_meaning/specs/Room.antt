@@ -2,7 +2,7 @@
 use Rattle.std.specs.Prelude.{ℕ, ◌^◌, ◌-◌, Bool, true, ◌&&◌, nat_lt, List, [], ◌∷◌, length}
 use Rattle.std.specs.List.{list_all}
 use Rattle.wasm_encoder_base.specs.Table.{Functions, Types, Tables, Memories, Globals, Tags, Datas, Elems}
-use Rattle.wast_core_instr.specs.InstructionTree.{Instruction}
+use Rattle.wast_fields.specs.InstructionTree.{Instruction}
 use Rattle.wast_fields.specs.FieldTree.{Field}
 use Rattle.wast_meaning.specs.Mentions.{Part, Says, Constant, Body, parts}
 use Rattle.wast_meaning.specs.Spaces.{items_in}

@@ -6,7 +6,7 @@ use Rattle.wasm_encoder_base.specs.Balanced.{Turn, Opens, Closes, Stays}
 use Rattle.wast_names.specs.Walk.{walked}
 use Rattle.wast_names.specs.Demand.{Complaint, Unknown, Demand}
 use Rattle.wast_expressions.specs.Items.{Hint}
-use Rattle.wast_core_instr.specs.InstructionTree.{Operands, Memory, MemoryLane, Instruction}
+use Rattle.wast_fields.specs.InstructionTree.{Operands, Memory, MemoryLane, Instruction}
 use Rattle.wast_fields.specs.FieldTree.{Expr, Defined, MemoryOf, Field, Define, is_start, field_place}
 use Rattle.wast_meaning.specs.Mentions.{Part, Says, Constant, Body, parts}
 use Rattle.wast_meaning.specs.Scope.{Scope, turn_of_head, scope_of}

@@ -5,7 +5,7 @@ use Rattle.wast_parser.specs.Identifiers.{identifier_tree}
 use Rattle.wast_typed_operands.specs.declared.block.BlockType.{BlockType}
 use Rattle.wast_core_instr.specs.InstructionViews.{instruction_tree}
 use Rattle.wast_meaning.specs.Scope.{turn_of_head, own_label}
-use Rattle.wast_well_formed.proofs.Turns.{block_opens, loop_opens, if_opens, try_opens, try_table_opens, end_closes, delegate_closes, other_turn}
+use Rattle.wast_mentions.proofs.Turns.{block_opens, loop_opens, if_opens, try_opens, try_table_opens, end_closes, delegate_closes, other_turn}
 use Rattle.wast_name_maps.specs.Gathered.{opened_name}
 use Rattle.wast_name_maps.specs.Given.{identified}
 use Rattle.wast_name_maps.specs.Numbered.{NamesJoin, NamesJoined}

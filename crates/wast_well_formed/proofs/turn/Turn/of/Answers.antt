@@ -1,5 +1,5 @@
 use Rattle.std.proofs.Common.{inl, inr}
-use Rattle.wast_well_formed.proofs.Turns.{block_opens, loop_opens, if_opens, try_opens, try_table_opens, end_closes, delegate_closes, other_turn}
+use Rattle.wast_mentions.proofs.Turns.{block_opens, loop_opens, if_opens, try_opens, try_table_opens, end_closes, delegate_closes, other_turn}
 use Rattle.wast_well_formed.proofs.turn.Turn.of.Goals as goal
 
 pub returns-in-Block : goal.returns-in-Block
