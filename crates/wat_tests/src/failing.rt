@@ -61,20 +61,27 @@ pub enum Then {
 
 const ROOM: usize = 64;
 
-/// Takes one byte a call, so many in all.
+/// Takes at most so many bytes a call, and so many in all.
 #[derive(Drop)]
 pub struct Taker {
     bytes: [u8; ROOM],
     taken: usize,
+    most: usize,
     room: usize,
     then: Then,
 }
 
 impl Taker {
+    /// Takes one byte a call.
     pub fn new(room: usize, then: Then) -> Taker {
+        Taker::by(1, room, then)
+    }
+
+    pub fn by(most: usize, room: usize, then: Then) -> Taker {
         Taker {
             bytes: [0; ROOM],
             taken: 0,
+            most,
             room: room.min(ROOM),
             then,
         }
@@ -87,13 +94,15 @@ impl Taker {
 
 impl Write for Taker {
     fn write(&mut self, bytes: &[u8]) -> io::Result<usize> {
-        match bytes.first() {
-            Some(byte) if self.taken < self.room.min(ROOM) => {
-                self.bytes[self.taken] = *byte;
-                self.taken += 1;
-                Ok(1)
-            }
-            Some(_) if matches!(self.then, Then::Fails) => Err(ErrorKind::Other.into()),
+        let (from, room) = (self.taken, self.room.min(ROOM));
+        if from < room && !bytes.is_empty() {
+            let count = bytes.len().min(self.most).min(room - from);
+            self.bytes[from..from + count].copy_from_slice(&bytes[..count]);
+            self.taken = from + count;
+            return Ok(count);
+        }
+        match self.then {
+            Then::Fails if !bytes.is_empty() => Err(ErrorKind::Other.into()),
             _ => Ok(0),
         }
     }

@@ -67,22 +67,24 @@ fn no_more_than_the_bound(rt: HostRuntime) {
     assert_eq!(rt; (endless.given, input.len()), (16, 16));
 }
 
-fn assert_written(rt: &impl Abort, alloc: Global, room: usize, then: Then) {
-    let mut writer = Taker::new(room, then);
+fn assert_written(rt: &impl Abort, alloc: Global, mut writer: Taker, bytes: usize) {
     match ran(alloc, &mut writer) {
-        Err(Fault::Write { written }) => assert_eq!(rt; written, room as u64),
-        _ => assert!(rt; false, "no failed write after {room}"),
+        Err(Fault::Write { written }) => assert_eq!(rt; written, bytes as u64),
+        _ => assert!(rt; false, "no failed write after {bytes}"),
     }
-    assert_eq!(rt; writer.taken(), &HEADER[..room.min(8)]);
+    assert_eq!(rt; writer.taken(), &HEADER[..bytes.min(8)]);
 }
 
 #[test]
 fn writes_that_fail(rt: HostRuntime) {
     for room in 0..8 {
-        assert_written(&rt, rt.alloc(), room, Then::Fails);
-        assert_written(&rt, rt.alloc(), room, Then::TakesNothing);
+        for then in [Then::Fails, Then::TakesNothing] {
+            assert_written(&rt, rt.alloc(), Taker::new(room, then), room);
+        }
     }
-    assert_written(&rt, rt.alloc(), 8, Then::FailsToFlush);
+    assert_written(&rt, rt.alloc(), Taker::new(8, Then::FailsToFlush), 8);
+    // two bytes are taken, then one
+    assert_written(&rt, rt.alloc(), Taker::by(2, 3, Then::Fails), 3);
 }
 
 /// A report goes out as far as the error writer takes it.
