@@ -78,9 +78,8 @@ fn assert_written(rt: &impl Abort, alloc: Global, mut writer: Taker, bytes: usiz
 #[test]
 fn writes_that_fail(rt: HostRuntime) {
     for room in 0..8 {
-        for then in [Then::Fails, Then::TakesNothing] {
-            assert_written(&rt, rt.alloc(), Taker::new(room, then), room);
-        }
+        assert_written(&rt, rt.alloc(), Taker::new(room, Then::Fails), room);
+        assert_written(&rt, rt.alloc(), Taker::new(room, Then::TakesNothing), room);
     }
     assert_written(&rt, rt.alloc(), Taker::new(8, Then::FailsToFlush), 8);
     // two bytes are taken, then one
