@@ -1,15 +1,16 @@
 //! Trees that are encoded.
 
-ghost use Rattle.std.specs.Prelude.{◌≡◌, ◌<◌, ◌^◌, true, length, None};
-ghost use Rattle.wast_meaning.specs.Modules.{content_fields};
-ghost use Rattle.wat.specs.TextViews.{wat_tree};
-ghost use Rattle.wat_verdict.specs.Verdict.{tree_breach};
+ghost use Rattle.std.specs.Prelude.{◌≡◌, ◌<◌, ◌^◌, [], true, length};
+ghost use Rattle.wast_grammar.specs.Spelling.{same_name};
+ghost use Rattle.wast_core.specs.ModuleViews.{module_tree};
+ghost use Rattle.wast_meaning.specs.Modules.{content_fields, module_breaches};
+ghost use Rattle.wast_meaning.specs.Made.{is_made};
 
 use std::alloc::Global;
 use std::process::Abort;
 use std::test::Fail;
 use wast_core::{
-    CustomPlaceAnchor, Data, Elem, Export, Func, Global as GlobalField, Imports, Memory,
+    CustomPlaceAnchor, Data, Elem, Export, Func, Global as GlobalField, Imports, Memory, Module,
     ModuleKind, Rec, Table, Tag, TypeItem,
 };
 use wast_encode::{FuncBody, ResolveModule, SectionItem};
@@ -22,40 +23,61 @@ const NAMED: &[u8] =
 
 /// A tree that was encoded is resolved; encoded again, it has the same binary.
 #[test]
-fn ample_encode_wat(rt: HostRuntime) -> Result<(), Fail> {
+fn ample_encode_module(rt: HostRuntime) -> Result<(), Fail> {
     match ParseBuffer::new(rt.alloc(), "(module (func $f))") {
         Ok(buffer) => {
-            let mut wat: Wat = parse(&buffer)?;
-            assert_named(&rt, rt.alloc(), &mut wat)?;
-            assert_named(&rt, rt.alloc(), &mut wat)
+            let Wat::Module(mut tree) = parse(&buffer)?;
+            assert_named(&rt, rt.alloc(), &mut tree)?;
+            assert_named(&rt, rt.alloc(), &mut tree)
         }
         Err(_) => Err("out of memory".into()),
     }
 }
 
-fn assert_named(rt: &impl Abort, alloc: Global, wat: &mut Wat<'_>) -> Result<(), Fail> {
-    assert_eq!(rt; encoded(alloc, wat)?.as_slice(), NAMED);
+fn assert_named(rt: &impl Abort, alloc: Global, tree: &mut Module<'_>) -> Result<(), Fail> {
+    assert_eq!(rt; encoded(alloc, tree)?.as_slice(), NAMED);
     Ok(())
 }
 
 /// The binary of a tree that can be encoded.
-fn encoded(alloc: Global, wat: &mut Wat<'_>) -> Result<Vec<u8>, EncodeFault> {
-    if is_encodable(wat) {
-        encode_wat(alloc, &EncodeOptions::new(), wat, &mut Gensym::new())
+fn encoded(alloc: Global, tree: &mut Module<'_>) -> Result<Vec<u8>, EncodeFault> {
+    if is_encodable(tree) {
+        EncodeOptions::new().encode_module(alloc, tree, &mut Gensym::new())
     } else {
         Err(EncodeFault::TooLarge)
     }
 }
 
 /// Whether a tree is well formed, and has but few fields.
-fn is_encodable(wat: &Wat<'_>) -> bool
-    ensures formed { result ≡ true → tree_breach (wat_tree wat.now) ≡ None }
-    ensures room { result ≡ true → length (content_fields (wat_tree wat.now).content) < 2 ^ 32 }
+fn is_encodable(tree: &Module<'_>) -> bool
+    ensures formed { result ≡ true → module_breaches same_name is_made (module_tree tree.now) ≡ [] }
+    ensures room { result ≡ true → length (content_fields (module_tree tree.now).content) < 2 ^ 32 }
 {
-    let Wat::Module(module) = wat;
-    match (module.well_formed(), &module.kind) {
+    match (tree.well_formed(), &tree.kind) {
         (None, ModuleKind::Text(fields)) => fields.len() < 16,
         _ => false,
+    }
+}
+
+#[test]
+fn ample_encode_wat(rt: HostRuntime) -> Result<(), Fail> {
+    match ParseBuffer::new(rt.alloc(), "(module (func $f))") {
+        Ok(buffer) => {
+            let mut wat: Wat = parse(&buffer)?;
+            assert_eq!(rt; encoded_wat(rt.alloc(), &mut wat)?.as_slice(), NAMED);
+            Ok(())
+        }
+        Err(_) => Err("out of memory".into()),
+    }
+}
+
+/// The same of what is read.
+fn encoded_wat(alloc: Global, wat: &mut Wat<'_>) -> Result<Vec<u8>, EncodeFault> {
+    let Wat::Module(tree) = &*wat;
+    if is_encodable(tree) {
+        encode_wat(alloc, &EncodeOptions::new(), wat, &mut Gensym::new())
+    } else {
+        Err(EncodeFault::TooLarge)
     }
 }
 
