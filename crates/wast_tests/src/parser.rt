@@ -1,5 +1,7 @@
 //! Buffers and parsers. A buffer is lent in the arm that gives it.
 
+ghost use Rattle.wast_parser.specs.State.{Keeps};
+
 use std::alloc::Global;
 use std::process::Abort;
 use std::test::Fail;
@@ -77,6 +79,26 @@ fn reads_box(rt: &impl Abort, buffer: &ParseBuffer<'_>) -> Result<(), Fail> {
 }
 
 /// A refused call tells its message and its place.
+#[test]
+fn ample_parens(rt: HostRuntime) -> Result<(), Fail> {
+    match ParseBuffer::new(rt.alloc(), "(7)") {
+        Ok(buffer) => match Parser::new(&buffer).parens(number) {
+            Ok(value) => {
+                assert_eq!(rt; value, 7);
+                Ok(())
+            }
+            Err(error) => Err(failed(error)),
+        },
+        Err(error) => Err(failed(error)),
+    }
+}
+
+fn number(parser: &mut Parser<'_>) -> Result<u8, Error>
+    ensures { Keeps parser.old parser.new }
+{
+    parser.parse()
+}
+
 #[test]
 fn ample_error(rt: HostRuntime) -> Result<(), Fail> {
     match ParseBuffer::new(rt.alloc(), " x") {
