@@ -78,7 +78,6 @@ fn reads_box(rt: &impl Abort, buffer: &ParseBuffer<'_>) -> Result<(), Fail> {
     }
 }
 
-/// A refused call tells its message and its place.
 #[test]
 fn ample_parens(rt: HostRuntime) -> Result<(), Fail> {
     match ParseBuffer::new(rt.alloc(), "(7)") {
@@ -99,6 +98,7 @@ fn number(parser: &mut Parser<'_>) -> Result<u8, Error>
     parser.parse()
 }
 
+/// A refused call tells its message and its place.
 #[test]
 fn ample_error(rt: HostRuntime) -> Result<(), Fail> {
     match ParseBuffer::new(rt.alloc(), " x") {

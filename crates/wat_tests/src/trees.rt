@@ -71,7 +71,7 @@ fn ample_encode_wat(rt: HostRuntime) -> Result<(), Fail> {
     }
 }
 
-/// The same of what is read.
+/// The binary of a text that is read, where it can be encoded.
 fn encoded_wat(alloc: Global, wat: &mut Wat<'_>) -> Result<Vec<u8>, EncodeFault> {
     let Wat::Module(tree) = &*wat;
     if is_encodable(tree) {
