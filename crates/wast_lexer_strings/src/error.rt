@@ -1,6 +1,6 @@
 use thiserror::Error;
 
-/// Why no token begins at a place.
+/// Why no token begins at a place, or why an identifier has no name.
 #[derive(Clone, Copy, Debug, PartialEq, Eq, Error)]
 pub enum LexError {
     #[error("unterminated block comment")]

@@ -6,3 +6,4 @@ pub use Rattle.wast_grammar.proofs.RecursionLaws
 pub use Rattle.wast_grammar.proofs.TokenLaws
 pub use Rattle.wast_parser_core.proofs.IdentifierLaws
 pub use Rattle.wast_parser_core.proofs.IntegerLaws
+pub use Rattle.wast_parser_core.proofs.States

@@ -27,5 +27,6 @@ pub use Rattle.wast_parser_core.specs.Literals
 pub use Rattle.wast_parser_core.specs.Marks
 pub use Rattle.wast_parser_core.specs.Productions
 pub use Rattle.wast_parser_core.specs.Reading
+pub use Rattle.wast_parser_core.specs.Standing
 pub use Rattle.wast_parser_core.specs.State
 pub use Rattle.wast_parser_core.specs.Comments

@@ -8,7 +8,7 @@ use Rattle.wast_parser_base.specs.Snippet.{place_lines}
 pub data Cause : Type 0 where
   -- with a message
   Said : List ℕ → Cause
-  -- no token begins at the place
+  -- no token begins at the place, or the identifier there has no name
   Lexical : LexError → Cause
   -- a growth found no memory
   Memory : Cause
@@ -19,7 +19,7 @@ pub record Problem : Type 0 where
   pub cause : Cause
   pub lines : Option (List ℕ)
 
--- why no token begins at a place, in words
+-- why no token begins at a place, or why an identifier has no name, in words
 abbrev pub lexical_text : LexError → List ℕ
 lexical_text lexical.DanglingBlockComment = codes "unterminated block comment"
 lexical_text lexical.Unexpected = codes "unexpected character"

@@ -81,7 +81,7 @@ impl<'a> Id<'a> {
         self.span
     }
 
-    /// The same identifier at the same place. Fails only where its name owns memory and none is found for the copy.
+    /// The same identifier at the same place. Fails only for want of memory.
     pub fn clone(&self, alloc: Global) -> Result<Self, AllocError>
         ensures { IfOk result (λ copy. copy ≡ self.now) }
     {

@@ -1,7 +1,7 @@
 //! Indices, and what is written around them.
 
-ghost use Rattle.std.specs.Prelude.{◌≡◌, IfOk};
-ghost use Rattle.wast_parser_base.specs.Indices.{place_of};
+ghost use Rattle.std.specs.Prelude.{◌≡◌, IfOk, IsOk, true};
+ghost use Rattle.wast_parser_base.specs.Indices.{is_number, place_of};
 
 use crate::id::Id;
 use std::alloc::{AllocError, Global};
@@ -28,9 +28,10 @@ impl<'a> Index<'a> {
         }
     }
 
-    /// The same index at the same place. Fails only where its name owns memory and none is found for the copy.
+    /// The same index at the same place. Fails only for want of memory, of which a number needs none.
     pub fn clone(&self, alloc: Global) -> Result<Self, AllocError>
-        ensures { IfOk result (λ copy. copy ≡ self.now) }
+        ensures same { IfOk result (λ copy. copy ≡ self.now) }
+        ensures number { is_number self.now ≡ true → IsOk result }
     {
         match self {
             Index::Num(number, span) => Ok(Index::Num(*number, *span)),

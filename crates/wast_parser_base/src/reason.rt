@@ -52,7 +52,7 @@ impl Shown {
     }
 }
 
-/// Why no token begins at a place, in words.
+/// Why no token begins at a place, or why an identifier has no name, in words.
 pub fn lexical_text(error: LexError) -> &'static str
     ensures { result.now ≡ lexical_text error }
 {

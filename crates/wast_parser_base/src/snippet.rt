@@ -1,6 +1,6 @@
 //! The lines of a text that show a place of it.
 
-ghost use Rattle.std.specs.Prelude.{◌≡◌, ◌++◌, take, drop, replicate, encode_utf8_all, string_bytes, OnOk};
+ghost use Rattle.std.specs.Prelude.{◌≡◌, ◌++◌, take, drop, replicate, encode_utf8_all, string_bytes, IfOk, OnErr, OnOk};
 ghost use Rattle.std.specs.Str.{IsCharBoundary, IsUtf8};
 ghost use Rattle.wast_lexer.specs.Span.{column_of};
 ghost use Rattle.wast_parser_base.specs.Snippet.{caret, excerpt, in_four_places, is_left_out, line_at, location, place_lines, shown, snippet, until_line_feed, without_return};
@@ -13,19 +13,30 @@ use wast_lexer::Span;
 /// Appends the lines that show a place of a text: its line and column, both from 1, that line, and a caret below the
 /// place. Nothing is appended where no character begins at the offset and the text does not end there.
 ///
-/// Fails only where no memory is found; what was appended then is a part of these lines.
+/// Fails only where no memory is found; the text stays then.
 pub fn push_place(
     alloc: Global,
     text: &mut String,
     source: &str,
     offset: usize,
 ) -> Result<(), AllocError>
-    ensures { OnOk result (string_bytes text.new ≡ string_bytes text.old ++ place_lines source.now offset) }
+    ensures lines { OnOk result (string_bytes text.new ≡ string_bytes text.old ++ place_lines source.now offset) }
+    ensures refused { OnErr result (string_bytes text.new ≡ string_bytes text.old) }
+{
+    let lines = lines_at(alloc, source, offset)?;
+    text.push_str(lines.as_str())
+}
+
+/// The lines that show a place of a text, none where no place is.
+fn lines_at(alloc: Global, source: &str, offset: usize) -> Result<String, AllocError>
+    ensures { IfOk result (λ lines. string_bytes lines ≡ place_lines source.now offset) }
 {
     if source.is_char_boundary(offset) {
-        push_excerpt(alloc, text, source, offset)
+        let mut lines = String::new(alloc);
+        push_excerpt(alloc, &mut lines, source, offset)?;
+        Ok(lines)
     } else {
-        Ok(())
+        Ok(String::new(alloc))
     }
 }
 

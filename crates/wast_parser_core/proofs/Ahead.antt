@@ -41,10 +41,10 @@ lexeme_parens text [] = refl
 lexeme_parens text (t ∷ ts) = ap (λ y. paren_of t.kind ∷ y) (lexeme_parens text ts)
 
 -- the parentheses behind a token
-behind_it : (text : List ℕ) (ts : List Token) (i : ℕ) → map (λ l. paren_of l.kind) (map (lexeme_of text) (drop (i + 1) ts)) ≡ drop (i + 1) (parens ts)
+pub behind_it : (text : List ℕ) (ts : List Token) (i : ℕ) → map (λ l. paren_of l.kind) (map (lexeme_of text) (drop (i + 1) ts)) ≡ drop (i + 1) (parens ts)
 behind_it text ts i = lexeme_parens text (drop (i + 1) ts) ∙ sym (drop-map (λ t. paren_of t.kind) (i + 1) ts)
 
-group_closes : (ts : List Token) (i end : ℕ) → IsGroupAt (parens ts) i end → (n : ℕ) × (closing 0 (drop (i + 1) (parens ts)) ≡ Some n) × (end ≡ i + 1 + n)
+pub group_closes : (ts : List Token) (i end : ℕ) → IsGroupAt (parens ts) i end → (n : ℕ) × (closing 0 (drop (i + 1) (parens ts)) ≡ Some n) × (end ≡ i + 1 + n)
 group_closes ts i end g =
     let n : i + 1 ≡ length g.front + 1 = omega (arith, g.index_is) in
     let tail = ap (drop (i + 1)) g.split ∙ ap (λ k. drop k (g.front ++ paren_of kinds.LParen ∷ (g.inner ++ paren_of kinds.RParen ∷ g.rest))) n ∙ seam g.front (paren_of kinds.LParen) (g.inner ++ paren_of kinds.RParen ∷ g.rest) in

@@ -4,7 +4,7 @@ use Rattle.std.specs.Prelude.{◌-◌, ◌^◌, codes}
 use Rattle.wast_grammar.specs.Tokens.{Id}
 use Rattle.wast_grammar.specs.Lawful.{Lawful, Leads}
 use Rattle.wast_grammar.specs.Look.{On, AnInteger, AnId, Any, this_word, this_group, this_annotation}
-use Rattle.wast_grammar.specs.Grammar.{id, seen, seq, mark, word, paren, maybe}
+use Rattle.wast_grammar.specs.Grammar.{seen, seq, mark, word, paren, maybe}
 use Rattle.wast_grammar.proofs.GrammarLaws.{seen_laws, seq_laws, either_laws, paren_laws, maybe_laws, id_laws, mark_laws, word_laws}
 use Rattle.wast_grammar.proofs.LeadLaws.{id_leads, seen_leads, either_leads, headed_leads, paren_leads}
 use Rattle.wast_parser_core.specs.Integers.{number_in, unsigned}

@@ -1,4 +1,5 @@
 pub mod Ahead
+pub mod Standing
 pub mod Fronts
 pub mod Words
 pub mod Names

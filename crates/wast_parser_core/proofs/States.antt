@@ -2,19 +2,23 @@
 use Rattle.std.proofs.Common.{Bool, Result, ◌≡◌, ◌≤◌, Option, Some, None, subst, ◌+◌, inl, inr, [], ◌∷◌, List, ℕ, ◌∙◌, ap, refl, sym, arith}
 use Rattle.wast_grammar.specs.Tokens.{Name, Broken}
 use Rattle.wast_parser_base.specs.Problem.{Problem}
-use Rattle.wast_parser_core.specs.State.{Source, State, ahead, Keeps, knowing}
+use Rattle.wast_parser_core.specs.State.{Source, State, ahead, slack, Keeps, KeepsWith, knowing}
 use Rattle.wast_grammar.specs.Grammar.{Reader}
 use Rattle.wast_parser_core.specs.Reading.{Refuses, Asks}
 
 pub keeps_trans : (a b c : State) → Keeps a b → Keeps b c → Keeps a c
-keeps_trans a b c p q = record { source = q.source ∙ p.source; names = q.names ∙ p.names; depth = q.depth ∙ p.depth; onward = omega (arith, p.onward, q.onward) }
+keeps_trans a b c p q = record { source = q.source ∙ p.source; names = q.names ∙ p.names; depth = q.depth ∙ p.depth; onward = omega (arith, p.onward, q.onward); tight = omega (arith, p.tight, q.tight) }
 
 pub keeps_self : (a : State) → Keeps a a
-keeps_self a = record { source = refl; names = refl; depth = refl; onward = omega arith }
+keeps_self a = record { source = refl; names = refl; depth = refl; onward = omega arith; tight = omega arith }
 
 -- what is read inside parentheses
-pub keeps_in : (old s t : State) → s ≡ record old { at = s.at; depth = old.depth + 1 } → old.at ≤ s.at → Keeps s t → Keeps (record old { depth = t.depth }) t
-keeps_in old s t e l q = record { source = q.source ∙ ap (λ z. z.source) e; names = q.names ∙ ap (λ z. z.names) e; depth = refl; onward = omega (arith, l, q.onward) }
+pub keeps_in : (old s t : State) → s ≡ record old { at = s.at; depth = old.depth + 1 } → old.at ≤ s.at → slack s ≤ slack old → Keeps s t → Keeps (record old { depth = t.depth }) t
+keeps_in old s t e l m q = record { source = q.source ∙ ap (λ z. z.source) e; names = q.names ∙ ap (λ z. z.names) e; depth = refl; onward = omega (arith, l, q.onward); tight = omega (arith, m, q.tight) }
+
+-- where no name is registered too
+pub keeps_plain : (more : List (List ℕ)) (a b : State) → more ≡ [] → KeepsWith more a b → Keeps a b
+keeps_plain more a b e k = subst (λ m. KeepsWith m a b) e k
 
 -- what registers no name is read by the names that are registered
 pub read_plain : {A : Type 0} (more : List (List ℕ)) (reads : Reader Name ℕ A) (a : A) (old new : State) → more ≡ [] → reads (ahead (knowing more old)) ≡ Some (a, ahead (knowing more new)) → reads (ahead old) ≡ Some (a, ahead new)

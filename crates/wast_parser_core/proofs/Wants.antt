@@ -5,7 +5,7 @@ use Rattle.wast_lexer.specs.declared.token.Token.{Token}
 use Rattle.wast_lexer.specs.declared.token.TokenKind.{TokenKind}
 use Rattle.wast_lexer.specs.declared.token.TokenKind.TheVariants as kinds
 use Rattle.wast_lexer.specs.TokenText.{text_of}
-use Rattle.wast_grammar.specs.Tokens.{Name, as_read, Open, Close, Id, Word, Mark, Integer, Float, Text, Reserved, Broken, id_name, literal, marked_value, string_value}
+use Rattle.wast_grammar.specs.Tokens.{Name, as_read, Open, Close, Id, Word, Mark, Integer, Float, Text, Reserved, Broken, id_name, marked_value, string_value}
 use Rattle.wast_grammar.specs.Significant.{TextToken, token_of, is_trivia}
 use Rattle.wast_grammar.specs.Spelling.{that_close}
 use Rattle.wast_grammar.specs.Look.{Shape, AnEnd, AnOpen, AClose, AWord, AMark, AnId, AnInteger, AFloat, AString, AReserved, same_shape, ask, On, Any}
@@ -204,11 +204,11 @@ no_integer (Text n p ∷ ts) h = refl
 no_integer (Reserved n p ∷ ts) h = refl
 no_integer (Broken ∷ ts) h = refl
 
-took_integer : (k : TokenKind) (w : List ℕ) (p : ℕ) (ts : List TextToken) → same_shape AnInteger (shape_of k) ≡ true → one_of said_integer (token_of k w p ++ ts) ≡ Some (literal w, ts)
+took_integer : (k : TokenKind) (w : List ℕ) (p : ℕ) (ts : List TextToken) → same_shape AnInteger (shape_of k) ≡ true → one_of said_integer (token_of k w p ++ ts) ≡ Some (w, ts)
 took_integer (kinds.Integer j) w p ts h = refl
 took_integer _ w p ts h = absurd (cc)
 
-pub next_integer : (s : State) (t : Token) (i : ℕ) → IsNext s t i → same_shape AnInteger (shape_of t.kind) ≡ true → one_of said_integer (ahead s) ≡ Some (literal (text_of s.source.text t), ahead (record s { at = i }))
+pub next_integer : (s : State) (t : Token) (i : ℕ) → IsNext s t i → same_shape AnInteger (shape_of t.kind) ≡ true → one_of said_integer (ahead s) ≡ Some (text_of s.source.text t, ahead (record s { at = i }))
 next_integer s t i n h = ap (one_of said_integer) n.found ∙ took_integer t.kind (text_of s.source.text t) t.offset (ahead (record s { at = i })) h
 
 pub no_float : (ts : List TextToken) → same_shape AFloat (front_shape ts) ≡ false → one_of said_float ts ≡ None

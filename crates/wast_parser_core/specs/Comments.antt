@@ -1,5 +1,5 @@
 -- The comment that follows a place, with white space alone between (WebAssembly 3.0, 6.2.3 and 6.2.4).
-use Rattle.std.specs.Prelude.{◌≡◌, ◌<◌, ◌&&◌, ℕ, Bool, true, false, if◌then◌else◌, is_some, List, [], ◌∷◌, drop, Option, Some, None, Result, Ok, Err}
+use Rattle.std.specs.Prelude.{◌≡◌, ◌≤◌, ◌<◌, ◌&&◌, ℕ, Bool, true, false, if◌then◌else◌, is_some, List, [], ◌∷◌, length, drop, Option, Some, None, Result, Ok, Err}
 use Rattle.wast_lexer.specs.declared.token.Token.{Token}
 use Rattle.wast_lexer.specs.declared.token.TokenKind.{TokenKind}
 use Rattle.wast_lexer.specs.declared.token.TokenKind.TheVariants as kinds
@@ -35,12 +35,12 @@ left s = drop s.at s.source.tokens
 
 -- A comment is shown where one follows; none where another token does, or the text ends; a fault where the lexer's does.
 abbrev pub ShowsComment : Result (Option (Token × ℕ)) Problem → State → Type 0
-ShowsComment (Ok (Some (t, i))) s = (comment_in (left s) ≡ Some (t, drop i s.source.tokens)) × IsOf s.source.text t × (s.at < i)
+ShowsComment (Ok (Some (t, i))) s = (comment_in (left s) ≡ Some (t, drop i s.source.tokens)) × IsOf s.source.text t × (s.at < i) × (i ≤ length s.source.tokens)
 ShowsComment (Ok None) s = (comment_in (left s) ≡ None) × (blank (left s) && is_some s.source.fault ≡ false)
 ShowsComment (Err p) s = (blank (left s) && is_some s.source.fault ≡ true) × IsStop p s.source
 
--- the same of a cursor, which then stands behind the comment
+-- the same of a cursor, which then stands directly behind the comment
 abbrev pub TakesComment : {X : Type 0} → (X → List ℕ) → Cursor → Result (Option (X × Cursor)) Problem → Type 0
-TakesComment view c (Ok (Some (x, d))) = (t : Token) × (comment_in (left (stands c)) ≡ Some (t, left (stands d))) × (view x ≡ text_of (stands c).source.text t) × Follows c d
+TakesComment view c (Ok (Some (x, d))) = (t : Token) × (comment_in (left (stands c)) ≡ Some (t, left (stands d))) × (view x ≡ text_of (stands c).source.text t) × Follows c d × (d.at ≤ length (stands c).source.tokens)
 TakesComment view c (Ok None) = (comment_in (left (stands c)) ≡ None) × (blank (left (stands c)) && is_some (stands c).source.fault ≡ false)
 TakesComment view c (Err p) = (blank (left (stands c)) && is_some (stands c).source.fault ≡ true) × IsStop p (stands c).source

@@ -2,11 +2,13 @@
 use Rattle.std.specs.Prelude.{◌≡◌, ◌⊎◌, ℕ, ◌≤◌, true, false, List, [], Option, Some, None, Result, Ok, Err}
 use Rattle.wast_lexer.specs.declared.token.Token.{Token}
 use Rattle.wast_parser_core.specs.declared.cursor.Cursor.{Cursor}
-use Rattle.wast_parser_base.specs.Problem.{Problem}
-use Rattle.wast_parser_core.specs.State.{State, ahead, IsNext}
+use Rattle.wast_lexer.specs.LexError.TheVariants.{EmptyId, InvalidUtf8Id}
+use Rattle.wast_parser_base.specs.Problem.{Problem, Lexical}
+use Rattle.wast_parser_core.specs.State.{State, ahead, slack, IsNext}
 use Rattle.wast_lexer.specs.Float.{Float as FloatParts}
-use Rattle.wast_lexer.specs.NumberParts.{IsFloatOf}
-use Rattle.wast_grammar.specs.Tokens.{Name, SignificantToken, Literal, Id, Word, Mark, Integer, Float, Text, Reserved}
+use Rattle.wast_lexer.specs.Integer.{Integer as IntegerParts}
+use Rattle.wast_lexer.specs.NumberParts.{IsFloatOf, IsIntegerOf}
+use Rattle.wast_grammar.specs.Tokens.{Name, SignificantToken, Id, Word, Mark, Integer, Float, Text, Reserved}
 use Rattle.wast_grammar.specs.Significant.{TextToken}
 use Rattle.wast_grammar.specs.Look.{Shape, same_shape}
 use Rattle.wast_grammar.specs.Grammar.{one_of}
@@ -41,8 +43,8 @@ abbrev pub said_mark : {N P : Type 0} → SignificantToken N P → Option (List 
 said_mark (Mark w p) = Some w
 said_mark t = None
 
-abbrev pub said_integer : {N P : Type 0} → SignificantToken N P → Option Literal
-said_integer (Integer n w p) = Some n
+abbrev pub said_integer : {N P : Type 0} → SignificantToken N P → Option (List ℕ)
+said_integer (Integer n w p) = Some w
 said_integer t = None
 
 abbrev pub said_float : {N P : Type 0} → SignificantToken N P → Option (List ℕ)
@@ -62,9 +64,9 @@ said_id t = None
 abbrev pub TakesNone : {Y : Type 0} → (TextToken → Option Y) → Cursor → Type 0
 TakesNone f c = (one_of f (ahead (stands c)) ≡ None) × (is_stuck (ahead (stands c)) ≡ false)
 
--- the token in front says this, and the other cursor stands behind it
+-- the token in front says this, and the other cursor stands directly behind it
 abbrev pub TakesOne : {Y : Type 0} → (TextToken → Option Y) → Cursor → Y → Cursor → Type 0
-TakesOne f c y d = (one_of f (ahead (stands c)) ≡ Some (y, ahead (stands d))) × Follows c d
+TakesOne f c y d = (one_of f (ahead (stands c)) ≡ Some (y, ahead (stands d))) × Follows c d × (slack (stands d) ≤ slack (stands c))
 
 -- A call takes the token in front exactly where it is such a one; none is taken where it is another or the end, and where
 -- none can be read that is told.
@@ -73,7 +75,13 @@ Takes view f c (Ok (Some (x, d))) = TakesOne f c (view x) d
 Takes view f c (Ok None) = TakesNone f c
 Takes view f c (Err p) = Stops p (stands c)
 
--- the same of a float, which is answered in its parts
+-- the same of an integer, which is answered in its parts
+abbrev pub TakesInteger : Cursor → Result (Option (IntegerParts × Cursor)) Problem → Type 0
+TakesInteger c (Ok (Some (x, d))) = (w : List ℕ) × IsIntegerOf w x × TakesOne said_integer c w d
+TakesInteger c (Ok None) = TakesNone said_integer c
+TakesInteger c (Err p) = Stops p (stands c)
+
+-- the same of a float
 abbrev pub TakesFloat : Cursor → Result (Option (FloatParts × Cursor)) Problem → Type 0
 TakesFloat c (Ok (Some (x, d))) = (w : List ℕ) × IsFloatOf w x × TakesOne said_float c w d
 TakesFloat c (Ok None) = TakesNone said_float c
@@ -85,11 +93,15 @@ Copies view f c (Ok (Some (x, d))) = TakesOne f c (view x) d
 Copies view f c (Ok None) = TakesNone f c
 Copies view f c (Err p) = (p ≡ out_of_memory) ⊎ Stops p (stands c)
 
--- the same of an identifier; one without a name is refused
+-- why an identifier has no name
+abbrev pub IsNameless : Problem → Type 0
+IsNameless p = (p.cause ≡ Lexical EmptyId) ⊎ (p.cause ≡ Lexical InvalidUtf8Id)
+
+-- the same of an identifier; one without a name is refused by a lexical error
 abbrev pub TakesId : {X : Type 0} → (X → Name) → Cursor → Result (Option (X × Cursor)) Problem → Type 0
 TakesId view c (Ok (Some (x, d))) = TakesOne said_id c (Some (view x)) d
 TakesId view c (Ok None) = TakesNone said_id c
-TakesId view c (Err p) = (p ≡ out_of_memory) ⊎ (Stops p (stands c) ⊎ ((rest : List TextToken) × (one_of said_id (ahead (stands c)) ≡ Some (None, rest))))
+TakesId view c (Err p) = (p ≡ out_of_memory) ⊎ (Stops p (stands c) ⊎ ((rest : List TextToken) × (one_of said_id (ahead (stands c)) ≡ Some (None, rest)) × IsNameless p))
 
 -- the same, where the cursor behind it alone is answered
 abbrev pub Passes : {Y : Type 0} → (TextToken → Option Y) → Cursor → Result (Option Cursor) Problem → Type 0

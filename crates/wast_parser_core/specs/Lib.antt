@@ -1,3 +1,4 @@
+pub mod Standing
 pub mod State
 pub mod Reading
 pub mod Kinds

@@ -1,12 +1,12 @@
 -- What a parser's calls answer.
-use Rattle.std.specs.Prelude.{◌≡◌, ◌≢◌, ◌⊎◌, ℕ, ◌+◌, Bool, true, false, List, [], ◌∷◌, Option, Some, None, Result, Ok, Err}
+use Rattle.std.specs.Prelude.{◌≡◌, ◌≢◌, ◌≤◌, ◌⊎◌, ℕ, ◌+◌, Bool, true, false, List, [], ◌∷◌, Option, Some, None, Result, Ok, Err}
 use Rattle.wast_lexer.specs.declared.token.Token.{Token}
 use Rattle.wast_grammar.specs.Tokens.{Name, Broken, Open, Close}
 use Rattle.wast_grammar.specs.Spelling.{that_close}
 use Rattle.wast_grammar.specs.Significant.{TextToken}
 use Rattle.wast_grammar.specs.Grammar.{Reader, one_of}
 use Rattle.wast_parser_base.specs.Problem.{Problem, Said, Memory}
-use Rattle.wast_parser_core.specs.State.{Source, State, start, ahead, knowing, Keeps, IsNext, stop}
+use Rattle.wast_parser_core.specs.State.{Source, State, start, ahead, knowing, slack, KeepsWith, IsNext, stop}
 
 -- want of memory, which has no place
 abbrev pub out_of_memory : Problem
@@ -23,17 +23,17 @@ Gives view (Err p) s read = Refuses p read
 
 -- All of a text is read, where these names are registered while it is: no significant token is left behind it.
 abbrev pub ReadsAll : {A : Type 0} → Reader Name ℕ A → List (List ℕ) → Source → A → Type 0
-ReadsAll reads more source a = (end : State) × Keeps (start source) end × (reads (ahead (knowing more (start source))) ≡ Some (a, ahead (knowing more end))) × (ahead end ≡ [])
+ReadsAll reads more source a = (end : State) × KeepsWith more (start source) end × (reads (ahead (knowing more (start source))) ≡ Some (a, ahead (knowing more end))) × (ahead end ≡ [])
 
 -- Nothing is read, or a significant token is left.
 abbrev pub ReadsNotAll : {A : Type 0} → Reader Name ℕ A → List (List ℕ) → Source → Type 0
 ReadsNotAll {A} reads more source =
     (reads (ahead (knowing more (start source))) ≡ None)
-    ⊎ ((a : A) × (end : State) × Keeps (start source) end × (reads (ahead (knowing more (start source))) ≡ Some (a, ahead (knowing more end))) × (ahead end ≢ []))
+    ⊎ ((a : A) × (end : State) × KeepsWith more (start source) end × (reads (ahead (knowing more (start source))) ≡ Some (a, ahead (knowing more end))) × (ahead end ≢ []))
 
--- the problem tells why no token of these can be read, or there was no memory for its message
+-- The problem tells why no token of these can be read; or there was no memory for its message, which the lexer's fault doesn't want.
 abbrev pub IsStop : Problem → Source → Type 0
-IsStop p source = (p ≡ out_of_memory) ⊎ (p ≡ stop source)
+IsStop p source = (p ≡ stop source) ⊎ ((source.fault ≡ None) × (p ≡ out_of_memory))
 
 -- A peek's answer is what the look asks; where it meets a fault, that is told.
 abbrev pub Asks : Result Bool Problem → Source → Option Bool → Type 0
@@ -59,11 +59,12 @@ ShowsNext (Ok (Some found)) s = IsNext s found.0 found.1
 ShowsNext (Ok None) s = ahead s ≡ []
 ShowsNext (Err p) s = Stops p s
 
--- A parenthesis opens before one state, and the other stands behind it, one deeper.
+-- A parenthesis opens before one state, and the other stands directly behind it, one deeper.
 pub record Enters (old within : State) : Type 0 where
   pub place : ℕ
   pub opens : ahead old ≡ Open place ∷ ahead within
   pub deeper : within ≡ record old { at = within.at; depth = old.depth + 1 }
+  pub tight : slack within ≤ slack old
 
 -- A parenthesis closes before one state, and the other stands behind it.
 abbrev pub Leaves : State → State → Type 0

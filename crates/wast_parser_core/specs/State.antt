@@ -8,6 +8,7 @@ use Rattle.wast_grammar.specs.Tokens.{SignificantToken, Open, Close, Id, Word, M
 use Rattle.wast_grammar.specs.Significant.{TextToken, token_of, is_trivia, significant}
 use Rattle.wast_parser_base.specs.Problem.{Problem, Said}
 use Rattle.wast_parser_base.specs.Faults.{problem_of}
+use Rattle.wast_parser_core.specs.Standing.{Standing, Behind, stand, slack_of}
 
 -- A text and its tokens, up to its end or a fault; `track`: the places of instructions are asked for.
 pub record Source : Type 0 where
@@ -31,23 +32,49 @@ start s = record { source = s; names = []; depth = 0; at = 0 }
 abbrev pub knowing : List (List ℕ) → State → State
 knowing more s = record s { names = more ++ s.names }
 
+-- where this one is too, behind them
+abbrev pub also : List ℕ → State → State
+also name s = record s { names = s.names ++ name ∷ [] }
+
 -- THE TOKENS BEFORE A PARSER: those not yet taken that are significant under the names registered now
 abbrev pub ahead : State → List TextToken
 ahead s = significant s.names (is_some s.source.fault) (map (lexeme_of s.source.text) (drop s.at s.source.tokens))
 
--- They begin with this token, and go on as they do after so many.
+-- HOW IT STANDS AMONG THEM
+abbrev pub standing : State → Standing
+standing s = stand s.names s.at Behind (map (lexeme_of s.source.text) s.source.tokens)
+
+-- HOW FAR IT HAS GONE BEYOND WHAT IT TOOK: nothing directly behind a significant token; its place, where it has passed one that isn't;
+-- and within a group that is dropped more than any place. So where this doesn't grow, a parser stays where it was or stands
+-- directly behind the last token that it took, unless it was within such a group.
+abbrev pub slack : State → ℕ
+slack s = slack_of s.at (length s.source.tokens) (standing s)
+
+-- They begin with this token, and go on as they do after so many, which is directly behind it.
 pub record IsNext (s : State) (t : Token) (after : ℕ) : Type 0 where
   pub found : ahead s ≡ token_of t.kind (text_of s.source.text t) t.offset ++ ahead (record s { at = after })
   pub seen : is_trivia t.kind ≡ false
   pub own : IsOf s.source.text t
   pub onward : s.at < after
+  pub tight : slack (record s { at = after }) ≤ slack s
 
--- What reading leaves alone, and that it goes back nowhere.
-pub record Keeps (old new : State) : Type 0 where
+-- What taking leaves alone, and that it goes back nowhere.
+pub record Moves (old new : State) : Type 0 where
   pub source : new.source ≡ old.source
   pub names : new.names ≡ old.names
   pub depth : new.depth ≡ old.depth
   pub onward : old.at ≤ new.at
+
+-- The same of reading, where these names are registered too while it reads: it passes nothing behind what it takes.
+pub record KeepsWith (more : List (List ℕ)) (old new : State) : Type 0 where
+  pub source : new.source ≡ old.source
+  pub names : new.names ≡ old.names
+  pub depth : new.depth ≡ old.depth
+  pub onward : old.at ≤ new.at
+  pub tight : slack (knowing more new) ≤ slack (knowing more old)
+
+abbrev pub Keeps : State → State → Type 0
+Keeps old new = KeepsWith [] old new
 
 -- the tokens behind the first, where one can be read
 abbrev pub past : {N P : Type 0} → List (SignificantToken N P) → List (SignificantToken N P)

@@ -1,12 +1,12 @@
 //! Annotations that are registered by name; the groups of all others are passed.
-ghost use Rattle.std.specs.Prelude.{◌≡◌, ◌≢◌, ◌+◌, ◌-◌, ◌<◌, ◌++◌, ℕ, List, [], ◌∷◌, IfOk, IfErr, OnOk, length, take, drop, map, true};
+ghost use Rattle.std.specs.Prelude.{◌≡◌, ◌≢◌, ◌+◌, ◌-◌, ◌<◌, ◌≤◌, ◌++◌, ℕ, List, [], ◌∷◌, IfOk, IfErr, OnOk, length, take, drop, map, true};
 ghost use Rattle.wast_lexer.specs.Lexeme.{lexeme_of};
 ghost use Rattle.wast_lexer.specs.TokenText.{IsOf, text_of};
 ghost use Rattle.wast_lexer.specs.declared.token.TokenKind.TheVariants as kinds;
 ghost use Rattle.wast_grammar.specs.Spelling.{any_is, same_text};
 ghost use Rattle.wast_grammar.specs.Tokens.{marked_value};
 ghost use Rattle.wast_grammar.specs.Significant.{begins_unknown};
-ghost use Rattle.wast_parser_core.specs.State.{State, ahead, knowing, Keeps};
+ghost use Rattle.wast_parser_core.specs.State.{State, ahead, knowing, also, slack, Moves, KeepsWith};
 ghost use Rattle.wast_parser_core.specs.Reading.{out_of_memory, Gives};
 
 use crate::kind::is_annotation;
@@ -45,9 +45,9 @@ impl<'a> Parser<'a> {
 
     /// Reads one with one more annotation registered, which is taken back on both outcomes.
     pub fn with_annotation<T: Parse<'a>>(&mut self, name: &'a str) -> Result<T, Error>
-        requires { T.registers ≡ [] }
-        ensures read { Gives T.tree result (record self.new { names = self.old.names ++ name.now ∷ [] }) (T.syntax.reads (ahead (record self.old { names = self.old.names ++ name.now ∷ [] }))) }
-        ensures keeps { Keeps self.old self.new }
+        ensures read { Gives T.tree result (knowing T.registers (also name.now self.new)) (T.syntax.reads (ahead (knowing T.registers (also name.now self.old)))) }
+        ensures keeps { Moves self.old self.new }
+        ensures tight { slack (knowing T.registers (also name.now self.new)) ≤ slack (knowing T.registers (also name.now self.old)) }
     {
         self.register_annotation(name)?;
         let result = T::parse(self);
@@ -57,9 +57,8 @@ impl<'a> Parser<'a> {
 
     /// Reads one with more annotations registered, which are taken back on both outcomes.
     pub fn with_annotations<T: Parse<'a>>(&mut self, names: &[&'a str]) -> Result<T, Error>
-        requires { T.registers ≡ [] }
-        ensures read { Gives T.tree result (knowing (map (λ n. n.now) names.now) self.new) (T.syntax.reads (ahead (knowing (map (λ n. n.now) names.now) self.old))) }
-        ensures keeps { Keeps self.old self.new }
+        ensures read { Gives T.tree result (knowing (T.registers ++ map (λ n. n.now) names.now) self.new) (T.syntax.reads (ahead (knowing (T.registers ++ map (λ n. n.now) names.now) self.old))) }
+        ensures keeps { KeepsWith (T.registers ++ map (λ n. n.now) names.now) self.old self.new }
     {
         let mut more = Vec::from_slice(self.alloc(), names)?;
         more.extend_from_slice(&self.names)?;

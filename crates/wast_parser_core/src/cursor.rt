@@ -4,9 +4,8 @@ ghost use Rattle.wast_grammar.specs.Tokens.{as_read};
 ghost use Rattle.wast_grammar.specs.Look.{ask, On, Opening, AClose, AnId, AReserved, AWord, AnInteger, AFloat, AString, Any, this_word, this_group};
 ghost use Rattle.wast_parser_core.specs.State.{ahead, place_ahead};
 ghost use Rattle.wast_parser_core.specs.Reading.{Asks, SaysAt};
-ghost use Rattle.wast_parser_core.specs.Cursors.{stands, GivesToken, FindsKind, Takes, Passes, Copies, TakesFloat, TakesId, said_word, said_reserved, said_integer, said_text, said_mark};
+ghost use Rattle.wast_parser_core.specs.Cursors.{stands, GivesToken, FindsKind, Takes, Passes, Copies, TakesFloat, TakesInteger, TakesId, said_word, said_reserved, said_text, said_mark};
 ghost use Rattle.wast_parser_core.specs.Kinds.{wanted};
-ghost use Rattle.wast_parser_core.specs.Literals.{literal_of};
 ghost use Rattle.std.specs.Cow.{cow_str_bytes};
 ghost use Rattle.wast_grammar.specs.Spelling.{that_open, that_close};
 
@@ -200,7 +199,7 @@ impl<'b, 'a> Cursor<'b, 'a> {
 
     /// Takes an integer; answers its parts.
     pub fn integer(self) -> Result<Option<(Integer<'a>, Cursor<'b, 'a>)>, Error>
-        ensures { Takes literal_of said_integer self.entry result }
+        ensures { TakesInteger self.entry result }
     {
         match self.take(Wanted::Integer)? {
             Some((token, rest)) => match token.kind {
@@ -224,7 +223,7 @@ impl<'b, 'a> Cursor<'b, 'a> {
         }
     }
 
-    /// Takes a string; answers the bytes that it stands for. Memory is wanted only where something is escaped.
+    /// Takes a string; answers the bytes that it stands for.
     pub fn string(self) -> Result<Option<(Bytes<'a>, Cursor<'b, 'a>)>, Error>
         ensures { Copies (λ b. b) said_text self.entry result }
     {
@@ -237,7 +236,7 @@ impl<'b, 'a> Cursor<'b, 'a> {
         }
     }
 
-    /// Takes the name of an annotation. Memory is wanted only where something is escaped.
+    /// Takes the name of an annotation.
     pub fn annotation(self) -> Result<Option<(CowStr<'a, Global>, Cursor<'b, 'a>)>, Error>
         ensures { Copies cow_str_bytes said_mark self.entry result }
     {
@@ -250,8 +249,7 @@ impl<'b, 'a> Cursor<'b, 'a> {
         }
     }
 
-    /// Takes an identifier that has a name. One without a name is refused by a lexical error. Memory is wanted only where
-    /// something is escaped.
+    /// Takes an identifier that has a name. One without a name is refused by a lexical error.
     pub fn id(self) -> Result<Option<(CowStr<'a, Global>, Cursor<'b, 'a>)>, Error>
         ensures { TakesId (λ name. as_read (cow_str_bytes name)) self.entry result }
     {

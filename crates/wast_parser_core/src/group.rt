@@ -4,7 +4,7 @@ ghost use Rattle.std.specs.Fn.{FnOnceReturnsAtMut};
 ghost use Rattle.wast_grammar.specs.Spelling.{that_open, that_close};
 ghost use Rattle.wast_grammar.specs.Grammar.{one_of, paren, paren_reads};
 ghost use Rattle.wast_parser_base.specs.Problem.{Problem};
-ghost use Rattle.wast_parser_core.specs.State.{State, ahead, Keeps};
+ghost use Rattle.wast_parser_core.specs.State.{State, ahead, slack, Keeps};
 ghost use Rattle.wast_parser_core.specs.Reading.{Gives, Refuses, Enters, Leaves, IsRefusedWithin};
 
 use crate::kind::{is_lparen, is_rparen};
@@ -91,6 +91,7 @@ impl<'a> Parser<'a> {
         ensures read { Gives (λ s. s) result self.new (one_of that_open (ahead self.old)) }
         ensures ok { OnOk result (self.new ≡ record self.old { at = self.new.at; depth = self.old.depth + 1 }) }
         ensures onward { self.old.at ≤ self.new.at }
+        ensures tight { slack self.new ≤ slack self.old }
         ensures refused { OnErr result (self.new ≡ self.old) }
     {
         match self.next()? {

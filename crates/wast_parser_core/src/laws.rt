@@ -1,5 +1,5 @@
 //! Laws of what can be read: functions whose contracts are the laws. They do nothing.
-ghost use Rattle.wast_parser_core.specs.Laws.{OneValue, ReadWhereSpelled};
+ghost use Rattle.wast_parser_core.specs.Laws.{OneValue, ReadWhereSpelled, StaysOrStandsBehind};
 
 use crate::meaning::Meaning;
 
@@ -16,3 +16,9 @@ pub fn one_value<T: Meaning>()
 {
     T::lawful();
 }
+
+/// Outside of the groups that are passed, a parser that reads stands where it did, or directly behind the last token that it
+/// took.
+pub fn stays_or_stands_behind()
+    ensures { StaysOrStandsBehind }
+{}

@@ -12,18 +12,24 @@
 //! a spelling of its type that isn't nothing stands at the first, second or third significant token, and only where that token,
 //! and behind `(` the next too, begins one by kind and word.
 //!
+//! From outside of the groups that are passed, a call that reads passes nothing behind the last token that it takes. So what
+//! comes next is seen by the names that are registered by then, and a comment can be taken there
+//! ([`laws::stays_or_stands_behind`]).
+//!
 //! # What has to be believed
 //!
 //! | File of `specs/` | Says |
 //! |---|---|
-//! | `State` | what a parser holds, which tokens are before it, where it stands, and why tokens end |
+//! | `State` | what a parser holds, which tokens are before it, where it stands, what reading leaves alone, and why tokens end |
+//! | `Standing` | how a parser stands among its tokens |
 //! | `Reading` | what its calls answer, and when they refuse |
 //! | `Cursors`, `Kinds` | what the calls of a cursor look at and take |
-//! | `Literals`, `Productions` | ranges of integers, names |
+//! | `Comments` | the comment that follows a place |
+//! | `Literals`, `Integers`, `Productions`, `Identifiers`, `Marks` | ranges of integers and the numbers that they say, names, identifiers, indices, the annotation that names |
 //! | `Laws` | the statements of the law functions |
 //!
-//! An error that tells of want of memory has no place. All others stand where reading was refused, or where no token can be
-//! read.
+//! An error that tells of want of memory has no place. What others tell is told of the calls of a cursor; of a text that isn't
+//! read, which message and place they have is promised nowhere.
 #![tactic(auto)]
 
 mod annotation;

@@ -4,7 +4,7 @@ ghost use Rattle.wast_grammar.specs.Tokens.{Name};
 ghost use Rattle.wast_grammar.specs.Look.{ask, apart, faults, any_end};
 ghost use Rattle.wast_grammar.specs.Grammar.{Syntax};
 ghost use Rattle.wast_grammar.specs.Lawful.{Lawful, Leads};
-ghost use Rattle.wast_parser_core.specs.State.{State, ahead, knowing, Keeps, past};
+ghost use Rattle.wast_parser_core.specs.State.{State, ahead, knowing, KeepsWith, past};
 ghost use Rattle.wast_parser_core.specs.Reading.{Gives, Asks};
 ghost use Rattle.wast_parser_core.specs.Cursors.{stands};
 
@@ -33,10 +33,11 @@ pub trait Meaning: Sized + Drop {
 /// What can be read.
 pub trait Parse<'a>: Meaning {
     /// Reads one exactly where the grammar does, and takes the tokens that it takes; refused elsewhere, or for want of
-    /// memory. Depth and registered names are as they were on both outcomes, and the parser stands where it did or behind.
+    /// memory. Depth and registered names are as they were on both outcomes, and, from outside of the groups that are
+    /// passed, the parser stands where it did or directly behind the last token that it took.
     fn parse(parser: &mut Parser<'a>) -> Result<Self, Error>
         ensures read { Gives Self.tree result (knowing Self.registers parser.new) (Self.syntax.reads (ahead (knowing Self.registers parser.old))) }
-        ensures keeps { Keeps parser.old parser.new };
+        ensures keeps { KeepsWith Self.registers parser.old parser.new };
 }
 
 /// What can be looked for: it registers no annotation, and how it begins can be told.

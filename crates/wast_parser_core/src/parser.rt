@@ -2,7 +2,7 @@
 ghost use Rattle.std.specs.Prelude.{◌≡◌, ◌≢◌, ◌≤◌, ◌+◌, ◌⊎◌, ℕ, [], ◌∷◌, Some, None, Ok, IfOk, IfErr, IfSome, OnErr, OnOk, length, option_map, slice_get, true, Err};
 ghost use Rattle.wast_lexer.specs.TokenText.{IsOf};
 ghost use Rattle.wast_parser_base.specs.Problem.{is_memory, Said};
-ghost use Rattle.wast_parser_core.specs.State.{State, start, ahead, knowing, past, Keeps, place_ahead, place_behind, stop};
+ghost use Rattle.wast_parser_core.specs.State.{State, start, ahead, knowing, past, Moves, KeepsWith, place_ahead, place_behind, stop};
 ghost use Rattle.wast_parser_core.specs.declared.cursor.Cursor.{Cursor};
 ghost use Rattle.wast_parser_core.specs.Reading.{out_of_memory, ReadsAll, ReadsNotAll, Gives, Asks, ShowsNext, IsStop, SaysAt, ends_here};
 ghost use Rattle.wast_parser_core.specs.Cursors.{stands, Follows};
@@ -108,7 +108,7 @@ impl<'a> Parser<'a> {
     /// Reads one.
     pub fn parse<T: Parse<'a>>(&mut self) -> Result<T, Error>
         ensures read { Gives T.tree result (knowing T.registers self.new) (T.syntax.reads (ahead (knowing T.registers self.old))) }
-        ensures keeps { Keeps self.old self.new }
+        ensures keeps { KeepsWith T.registers self.old self.new }
     {
         T::parse(self)
     }
@@ -121,7 +121,7 @@ impl<'a> Parser<'a> {
         requires callable { F.IsAlwaysCallable f }
         requires follows { (c d : Cursor) (value : T) → F.post f c (Ok (value, d)) → Follows c d }
         ensures ok { IfOk result (λ value. (c d : Cursor) × (stands c ≡ self.old) × (stands d ≡ self.new) × F.post f c (Ok (value, d))) }
-        ensures keeps { Keeps self.old self.new }
+        ensures keeps { Moves self.old self.new }
         ensures refused { OnErr result (self.new ≡ self.old) }
         ensures why { IfErr result (λ e. (c : Cursor) × (stands c ≡ self.old) × F.post f c (Err e)) }
     {

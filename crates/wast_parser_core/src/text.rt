@@ -18,7 +18,7 @@ use std::borrow::CowStr;
 use wasm_encoder_base::Bytes;
 use wast_parser_base::Error;
 
-/// The bytes that a string stands for, borrowed from the text where nothing is escaped.
+/// The bytes that a string stands for.
 impl<'a> Meaning for Bytes<'a> {
     ghost Tree = { List ℕ };
 
@@ -61,7 +61,7 @@ impl<'a> Item for Bytes<'a> {
     ghost inside = { refl };
 }
 
-/// The text that a string is, where it is one; borrowed where nothing is escaped.
+/// The text that a string is, where it is one.
 impl<'a> Meaning for CowStr<'a, Global> {
     ghost Tree = { List ℕ };
 

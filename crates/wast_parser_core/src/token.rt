@@ -2,6 +2,7 @@
 ghost use Rattle.std.specs.Prelude.{◌≡◌, ◌++◌, [], Some, MatchResult, true, codes};
 ghost use Rattle.std.specs.Cow.{cow_str_bytes};
 ghost use Rattle.wast_lexer.specs.declared.token.TokenKind.TheVariants as kinds;
+ghost use Rattle.wast_lexer.specs.NumberParts.{IsIntegerOf};
 ghost use Rattle.wast_lexer.specs.TokenText.{IsOf, text_of};
 ghost use Rattle.wast_grammar.specs.Tokens.{as_read, literal, string_value};
 ghost use Rattle.wast_grammar.specs.Grammar.{word, mark, id, string};
@@ -45,8 +46,7 @@ impl<'a> Parser<'a> {
         }
     }
 
-    /// Takes an identifier that has a name; answers the name, and where it stands. One without a name is refused by a
-    /// lexical error.
+    /// Takes an identifier that has a name; answers the name, and where it stands.
     pub fn id(&mut self) -> Result<(CowStr<'a, Global>, Span), Error>
         ensures read { Gives (λ x. (as_read (cow_str_bytes x.0), x.1)) result self.new (id.reads (ahead self.old)) }
         ensures keeps { Keeps self.old self.new }
@@ -137,7 +137,8 @@ impl<'a> Parser<'a> {
     pub(crate) fn integer(&self, token: Token, kind: IntegerKind) -> Integer<'a>
         requires own { IsOf self.now.source.text token }
         requires kind { token.kind ≡ kinds.Integer kind }
-        ensures { literal_of result ≡ literal (text_of self.now.source.text token) }
+        ensures literal { literal_of result ≡ literal (text_of self.now.source.text token) }
+        ensures parts { IsIntegerOf (text_of self.now.source.text token) result }
     {
         token.integer(self.text(), kind)
     }

@@ -10,6 +10,9 @@
 //! - `looks TEXT`: whether an identifier stands in front: as it is, with annotations `a` registered, and with that taken
 //!   back; or where the text can't be read;
 //! - `comment TEXT`: the comment in front of the text, behind white space alone, or that there is none;
+//! - `behind TEXT`: the same, behind the identifier in front of the text;
+//! - `registered TEXT`: whether a parenthesis opens behind the identifier in front of the text: as it is, and with
+//!   annotations `a` registered once the identifier is read;
 //! - `errors`: the text of each lexical error.
 #![tactic(auto)]
 
@@ -47,7 +50,11 @@ fn answer(rt: HostRuntime, line: &str) -> io::Result<()> {
     } else if word == "looks" {
         parser::looks(rt, text.as_str())
     } else if word == "comment" {
-        parser::comment(rt, text.as_str())
+        parser::comment(rt, text.as_str(), false)
+    } else if word == "behind" {
+        parser::comment(rt, text.as_str(), true)
+    } else if word == "registered" {
+        parser::registered_behind(rt, text.as_str())
     } else if word == "errors" {
         lexer::errors(rt)
     } else {

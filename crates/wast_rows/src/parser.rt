@@ -5,7 +5,7 @@ ghost use Rattle.wast_parser.specs.Cursors.{Follows};
 use std::alloc::Global;
 use std::borrow::CowStr;
 use std::io;
-use wast_parser::{Cursor, Error, Id, ParseBuffer, Parser, parse};
+use wast_parser::{Cursor, Error, Id, LParen, ParseBuffer, Parser, parse};
 
 /// Prints what a text is, read as one of a type, which stands before it.
 pub fn read(rt: HostRuntime, words: &str) -> io::Result<()> {
@@ -42,19 +42,50 @@ fn looks_for_id(buffer: &ParseBuffer<'_>) -> Result<(bool, bool, bool), Error> {
     Ok((before, registered, parser.peek::<Id>()?))
 }
 
-/// Prints the comment in front of a text, or that there is none.
-pub fn comment(rt: HostRuntime, text: &str) -> io::Result<()> {
+/// Prints the comment in front of a text, or behind the identifier there, or that there is none.
+pub fn comment(rt: HostRuntime, text: &str, behind_id: bool) -> io::Result<()> {
     if 4_294_967_295 < text.len() {
         return println!(rt; "too long");
     }
     match ParseBuffer::new(rt.alloc(), text) {
-        Ok(buffer) => match Parser::new(&buffer).step(front_comment) {
+        Ok(buffer) => match comment_of(&buffer, behind_id) {
             Ok(Some(comment)) => println!(rt; "{comment}"),
             Ok(None) => println!(rt; "none"),
             Err(error) => refused(rt, &error),
         },
         Err(_) => println!(rt; "no tokens"),
     }
+}
+
+fn comment_of<'a>(buffer: &'a ParseBuffer<'a>, behind_id: bool) -> Result<Option<&'a str>, Error> {
+    let mut parser = Parser::new(buffer);
+    if behind_id {
+        let _: Id<'a> = parser.parse()?;
+    }
+    parser.step(front_comment)
+}
+
+/// Prints of a text whether a parenthesis opens behind the identifier in front of it: as it is, and with annotations `a`
+/// registered once the identifier is read.
+pub fn registered_behind(rt: HostRuntime, text: &str) -> io::Result<()> {
+    if 4_294_967_295 < text.len() {
+        return println!(rt; "too long");
+    }
+    match ParseBuffer::new(rt.alloc(), text) {
+        Ok(buffer) => match opens_behind_id(&buffer) {
+            Ok((before, registered)) => println!(rt; "{before} {registered}"),
+            Err(error) => refused(rt, &error),
+        },
+        Err(_) => println!(rt; "no tokens"),
+    }
+}
+
+fn opens_behind_id<'a>(buffer: &'a ParseBuffer<'a>) -> Result<(bool, bool), Error> {
+    let mut parser = Parser::new(buffer);
+    let _: Id<'a> = parser.parse()?;
+    let before = parser.peek::<LParen>()?;
+    parser.register_annotation("a")?;
+    Ok((before, parser.peek::<LParen>()?))
 }
 
 fn front_comment<'b, 'a>(cursor: Cursor<'b, 'a>) -> Result<(Option<&'a str>, Cursor<'b, 'a>), Error>

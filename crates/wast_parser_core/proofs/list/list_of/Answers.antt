@@ -6,7 +6,7 @@ use Rattle.wast_grammar.specs.Grammar.{many_reads}
 use Rattle.wast_grammar.proofs.GrammarLaws.{shrinks}
 use Rattle.wast_grammar.proofs.Repeats.{with_front, many_next, many_done, many_refused, many_faulty}
 use Rattle.wast_parser_core.specs.State.{ahead}
-use Rattle.wast_parser_core.proofs.States.{keeps_trans, read_plain, refused_plain, refuses_all}
+use Rattle.wast_parser_core.proofs.States.{keeps_trans, keeps_plain, read_plain, refused_plain, refuses_all}
 use Rattle.wast_parser_core.proofs.list.list_of.Goals as goal
 
 pub items-smaller : goal.items-smaller
@@ -20,7 +20,7 @@ items-preserved g c =
     let less = shrinks t.syntax c.lawful.ensures (or_parts t.syntax.empty (any_end t.syntax.starts) g.met.T.Item.inside).0 (or_parts t.syntax.empty (any_end t.syntax.starts) g.met.T.Item.inside).1 in
     let rest = ahead c.parse.new.parser in
     record {
-      keeps = keeps_trans _ _ _ c.items.invariant.keeps c.in-Ok.ensures.keeps;
+      keeps = keeps_trans _ _ _ c.items.invariant.keeps (keeps_plain t.registers _ _ g.met.T.Peek.plain c.in-Ok.ensures.keeps);
       same =
           ap (λ zs. with_front (map t.tree zs) (many_reads t.syntax.starts t.syntax.reads (length rest) rest)) c.in_ok-push-in-Ok.ensures.items
           ∙ ap (λ zs. with_front zs (many_reads t.syntax.starts t.syntax.reads (length rest) rest)) (map-append t.tree c.items.items.items (c.in-Ok.item ∷ []))

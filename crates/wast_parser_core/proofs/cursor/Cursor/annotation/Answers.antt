@@ -1,11 +1,11 @@
-use Rattle.std.proofs.Common.{subst, sym, ◌∙◌, ap, Ok, Some, arith}
+use Rattle.std.proofs.Common.{◌≤◌, subst, sym, ◌∙◌, ap, Ok, Some, arith}
 use Rattle.std.specs.Cow.{cow_str_bytes}
 use Rattle.wast_lexer.specs.Kinds.{IsAnnotationOf}
 use Rattle.wast_lexer.specs.TokenText.{text_of}
 use Rattle.wast_grammar.specs.Tokens.{marked_value}
 use Rattle.wast_grammar.proofs.TextLaws.{annotation_is}
 use Rattle.wast_parser_core.specs.Kinds.{wanted}
-use Rattle.wast_parser_core.specs.State.{State, ahead}
+use Rattle.wast_parser_core.specs.State.{State, ahead, slack}
 use Rattle.wast_parser_core.specs.Cursors.{stands, FindsKind}
 use Rattle.wast_parser_core.specs.declared.kind.Wanted.TheVariants.{Annotation}
 use Rattle.wast_parser_core.proofs.Wants.{next_mark, no_mark}
@@ -24,6 +24,7 @@ returns-in_ok-name-in-Some c =
           ∙ ap (λ (z : State). Some (marked_value (text_of s.source.text t), ahead (record z { at = d.at }))) (sym next.1)
           ∙ ap (λ w. Some (w, ahead (stands d))) (annotation_is (text_of s.source.text t) bytes is),
       record { same = next.1; onward = omega (arith, low) },
+      subst (λ (z : State). slack (record z { at = d.at }) ≤ slack s) (sym next.1) next.0.tight,
     )
 
 pub returns-in-None : goal.returns-in-None

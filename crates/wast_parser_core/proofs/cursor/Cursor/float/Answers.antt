@@ -1,7 +1,7 @@
-use Rattle.std.proofs.Common.{subst, sym, ◌∙◌, ap, Ok, Some, arith}
+use Rattle.std.proofs.Common.{◌≤◌, subst, sym, ◌∙◌, ap, Ok, Some, arith}
 use Rattle.wast_lexer.specs.NumberParts.{IsFloatOf}
 use Rattle.wast_lexer.specs.TokenText.{text_of}
-use Rattle.wast_parser_core.specs.State.{State, ahead}
+use Rattle.wast_parser_core.specs.State.{State, ahead, slack}
 use Rattle.wast_parser_core.specs.Kinds.{wanted}
 use Rattle.wast_parser_core.specs.Cursors.{stands, FindsKind}
 use Rattle.wast_parser_core.specs.declared.kind.Wanted.TheVariants.{Float}
@@ -21,4 +21,4 @@ returns-in-Float c =
     let next = subst (λ o. FindsKind (wanted Float) c.args.self (Ok o)) c.in-Some.is c.in_ok-token.ensures in
     let is = subst (λ x. IsFloatOf (text_of x t) c.float.result) c.text.ensures c.float.ensures in
     let low = next.0.onward in
-    (text_of s.source.text t, is, (next_float s t d.at next.0 next.2 ∙ ap (λ (z : State). Some (text_of s.source.text t, ahead (record z { at = d.at }))) (sym next.1), record { same = next.1; onward = omega (arith, low) }))
+    (text_of s.source.text t, is, (next_float s t d.at next.0 next.2 ∙ ap (λ (z : State). Some (text_of s.source.text t, ahead (record z { at = d.at }))) (sym next.1), record { same = next.1; onward = omega (arith, low) }, subst (λ (z : State). slack (record z { at = d.at }) ≤ slack s) (sym next.1) next.0.tight))

@@ -1,4 +1,4 @@
-use Rattle.std.proofs.Common.{◌≢◌, [], subst, sym, ◌∙◌, ap, Ok, Some, inl, inr, arith}
+use Rattle.std.proofs.Common.{◌≤◌, ◌≢◌, [], subst, sym, ◌∙◌, ap, Ok, Some, inl, inr, arith}
 use Rattle.std.specs.Prelude.{option_map}
 use Rattle.std.specs.Str.{IsUtf8}
 use Rattle.std.specs.Cow.{cow_str_bytes}
@@ -8,8 +8,8 @@ use Rattle.wast_grammar.specs.Tokens.{as_read, id_name}
 use Rattle.wast_grammar.proofs.TextLaws.{id_named}
 use Rattle.wast_parser_core.proofs.Texts.{is_id, nameless}
 use Rattle.wast_parser_core.specs.Kinds.{wanted}
-use Rattle.wast_parser_core.specs.State.{State, ahead}
-use Rattle.wast_parser_core.specs.Cursors.{stands, FindsKind}
+use Rattle.wast_parser_core.specs.State.{State, ahead, slack}
+use Rattle.wast_parser_core.specs.Cursors.{stands, FindsKind, IsNameless}
 use Rattle.wast_parser_core.specs.declared.kind.Wanted.TheVariants.{Id}
 use Rattle.wast_parser_core.proofs.Wants.{next_id, no_id, identifier}
 use Rattle.wast_parser_core.proofs.cursor.Cursor.id.Goals as goal
@@ -27,6 +27,7 @@ returns-in-Ok c =
           ∙ ap (λ (z : State). Some (option_map as_read (id_name (text_of s.source.text t)), ahead (record z { at = d.at }))) (sym next.1)
           ∙ ap (λ w. Some (option_map as_read w, ahead (stands d))) ((id_named (text_of s.source.text t) bytes (is_id s.source.text t next.0.own (identifier t.kind next.2))).1 is),
       record { same = next.1; onward = omega (arith, low) },
+      subst (λ (z : State). slack (record z { at = d.at }) ≤ slack s) (sym next.1) next.0.tight,
     )
 
 pub returns-in-Err : goal.returns-in-Err
@@ -38,7 +39,7 @@ returns-in-Err c =
     let fault = subst (λ x. IsIdFault (text_of x t) t.offset c.in-Err.fault) c.text.ensures c.in-Err.ensures.err in
     elim (nameless s.source.text t c.in-Err.fault next.0.own (identifier t.kind next.2) fault) [
       | inl m ↦ inl (c.from_fault.ensures ∙ m)
-      | inr n ↦ inr (inr (_, next_id s t d.at next.0 next.2 ∙ ap (λ w. Some (option_map as_read w, ahead (record s { at = d.at }))) n))
+      | inr n ↦ inr (inr (_, next_id s t d.at next.0 next.2 ∙ ap (λ w. Some (option_map as_read w, ahead (record s { at = d.at }))) n.0, subst IsNameless (sym c.from_fault.ensures) n.1))
     ]
 
 pub returns-in-None : goal.returns-in-None

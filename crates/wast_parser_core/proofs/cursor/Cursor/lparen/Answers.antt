@@ -1,7 +1,7 @@
-use Rattle.std.proofs.Common.{subst, sym, ◌∙◌, ap, Ok, Some, arith}
+use Rattle.std.proofs.Common.{◌≤◌, subst, sym, ◌∙◌, ap, Ok, Some, arith}
 use Rattle.wast_grammar.specs.Grammar.{one_of}
 use Rattle.wast_grammar.specs.Spelling.{that_open}
-use Rattle.wast_parser_core.specs.State.{State, ahead}
+use Rattle.wast_parser_core.specs.State.{State, ahead, slack}
 use Rattle.wast_parser_core.specs.Reading.{is_stuck}
 use Rattle.wast_parser_core.specs.Cursors.{stands, GivesToken}
 use Rattle.wast_parser_core.proofs.Fronts.{not_open, took_open}
@@ -15,7 +15,7 @@ returns-in-Some c =
     let d = c.in-Some.rest in
     let next = subst (λ o. GivesToken (Ok o) c.args.self) c.in-Some.is c.in_ok-token.ensures in
     let low = next.0.onward in
-    (t.offset, (took_open (stands c.args.self) t d.at next.0 (sym c.is_lparen.ensures ∙ c.if-is_lparen.true) ∙ ap (λ (s : State). Some (t.offset, ahead (record s { at = d.at }))) (sym next.1), record { same = next.1; onward = omega (arith, low) }))
+    (t.offset, (took_open (stands c.args.self) t d.at next.0 (sym c.is_lparen.ensures ∙ c.if-is_lparen.true) ∙ ap (λ (s : State). Some (t.offset, ahead (record s { at = d.at }))) (sym next.1), record { same = next.1; onward = omega (arith, low) }, subst (λ (z : State). slack (record z { at = d.at }) ≤ slack (stands c.args.self)) (sym next.1) next.0.tight))
 
 pub returns-in_default : goal.returns-in_default
 returns-in_default c =

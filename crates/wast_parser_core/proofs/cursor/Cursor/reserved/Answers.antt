@@ -1,7 +1,7 @@
-use Rattle.std.proofs.Common.{subst, sym, ◌∙◌, ap, Ok, Some, arith}
+use Rattle.std.proofs.Common.{◌≤◌, subst, sym, ◌∙◌, ap, Ok, Some, arith}
 use Rattle.wast_lexer.specs.TokenText.{text_of}
 use Rattle.wast_parser_core.specs.Kinds.{wanted}
-use Rattle.wast_parser_core.specs.State.{State, ahead}
+use Rattle.wast_parser_core.specs.State.{State, ahead, slack}
 use Rattle.wast_parser_core.specs.Cursors.{stands, FindsKind}
 use Rattle.wast_parser_core.specs.declared.kind.Wanted.TheVariants.{Reserved}
 use Rattle.wast_parser_core.proofs.Wants.{next_reserved, no_reserved}
@@ -18,6 +18,7 @@ returns-in-Some c =
           ∙ ap (λ (z : State). Some (text_of s.source.text t, ahead (record z { at = d.at }))) (sym next.1)
           ∙ ap (λ w. Some (w, ahead (stands d))) (sym (c.src.ensures ∙ ap (λ x. text_of x t) c.text.ensures)),
       record { same = next.1; onward = omega (arith, low) },
+      subst (λ (z : State). slack (record z { at = d.at }) ≤ slack s) (sym next.1) next.0.tight,
     )
 
 pub returns-in-None : goal.returns-in-None

@@ -1,6 +1,6 @@
-use Rattle.std.proofs.Common.{subst, sym, ◌∙◌, ap, Ok, Some, arith}
+use Rattle.std.proofs.Common.{◌≤◌, subst, sym, ◌∙◌, ap, Ok, Some, arith}
 use Rattle.wast_parser_core.specs.Kinds.{wanted}
-use Rattle.wast_parser_core.specs.State.{State, ahead}
+use Rattle.wast_parser_core.specs.State.{State, ahead, slack}
 use Rattle.wast_parser_core.specs.Cursors.{stands, FindsKind}
 use Rattle.wast_parser_core.specs.declared.kind.Wanted.TheVariants.{RParen}
 use Rattle.wast_parser_core.proofs.Wants.{next_close, no_close}
@@ -13,7 +13,7 @@ returns-in-Some c =
     let d = c.in-Some.rest in
     let next = subst (λ o. FindsKind (wanted RParen) c.args.self (Ok o)) c.in-Some.is c.in_ok-rest.ensures in
     let low = next.0.onward in
-    (t.offset, (next_close s t d.at next.0 next.2 ∙ ap (λ (z : State). Some (t.offset, ahead (record z { at = d.at }))) (sym next.1), record { same = next.1; onward = omega (arith, low) }))
+    (t.offset, (next_close s t d.at next.0 next.2 ∙ ap (λ (z : State). Some (t.offset, ahead (record z { at = d.at }))) (sym next.1), record { same = next.1; onward = omega (arith, low) }, subst (λ (z : State). slack (record z { at = d.at }) ≤ slack s) (sym next.1) next.0.tight))
 
 pub returns-in-None : goal.returns-in-None
 returns-in-None c =

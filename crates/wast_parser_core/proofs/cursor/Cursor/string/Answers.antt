@@ -1,10 +1,10 @@
-use Rattle.std.proofs.Common.{subst, sym, ◌∙◌, ap, Ok, Some, arith}
+use Rattle.std.proofs.Common.{◌≤◌, subst, sym, ◌∙◌, ap, Ok, Some, arith}
 use Rattle.wast_lexer.specs.Strings.{IsString}
 use Rattle.wast_lexer.specs.TokenText.{text_of}
 use Rattle.wast_grammar.specs.Tokens.{string_value}
 use Rattle.wast_grammar.proofs.TextLaws.{string_is}
 use Rattle.wast_parser_core.specs.Kinds.{wanted}
-use Rattle.wast_parser_core.specs.State.{State, ahead}
+use Rattle.wast_parser_core.specs.State.{State, ahead, slack}
 use Rattle.wast_parser_core.specs.Cursors.{stands, FindsKind}
 use Rattle.wast_parser_core.specs.declared.kind.Wanted.TheVariants.{String}
 use Rattle.wast_parser_core.proofs.Wants.{next_text, no_text}
@@ -23,6 +23,7 @@ returns-in_ok-bytes-in-Some c =
           ∙ ap (λ (z : State). Some (string_value (text_of s.source.text t), ahead (record z { at = d.at }))) (sym next.1)
           ∙ ap (λ w. Some (w, ahead (stands d))) (string_is (text_of s.source.text t) bytes is),
       record { same = next.1; onward = omega (arith, low) },
+      subst (λ (z : State). slack (record z { at = d.at }) ≤ slack s) (sym next.1) next.0.tight,
     )
 
 pub returns-in-None : goal.returns-in-None

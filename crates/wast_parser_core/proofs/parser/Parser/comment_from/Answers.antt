@@ -1,5 +1,6 @@
 use Rattle.std.proofs.Common.{◌∙◌, sym, ap, subst, arith, ◌&&◌}
 use Rattle.std.specs.Prelude.{slice_get, is_some}
+use Rattle.std.proofs.lemmas.Option.{slice_get_within}
 use Rattle.wast_lexer.specs.TokenText.{IsOf}
 use Rattle.wast_parser_core.specs.State.{State}
 use Rattle.wast_parser_core.specs.Reading.{IsStop}
@@ -23,10 +24,12 @@ returns-then-is_comment c =
     let s = c.args.self.now in
     let t = c.in-Some.token in
     let got = ap (λ (s : State). slice_get s.source.tokens c.tokens.at) (sym c.self.view_is) ∙ sym c.in-Some.ensures.token in
+    let inside = slice_get_within s.source.tokens c.tokens.at t got in
     let low = c.tokens.invariant.onward in (
       sym c.tokens.invariant.same ∙ found s.source.tokens c.tokens.at t got (sym c.is_space.ensures ∙ c.if-is_space.false) (sym c.is_comment.ensures ∙ c.if-is_comment.true),
       subst (λ (s : State). IsOf s.source.text t) c.self.view_is c.in-Some.ensures.own,
       omega (arith, low),
+      omega (arith, inside),
     )
 
 pub returns-else-is_comment : goal.returns-else-is_comment

@@ -9,6 +9,7 @@ use Rattle.wast_parser_core.specs.State.{State}
 use Rattle.wast_parser_core.specs.Reading.{IsStop, ShowsNext}
 use Rattle.wast_grammar.proofs.SignificantLaws.{lparen_kind}
 use Rattle.wast_parser_core.proofs.Ahead.{lexemes, ahead_trivia, ahead_group, ahead_open, ahead_seen, ahead_end, end_broken, end_whole, not_both, not_first}
+use Rattle.wast_parser_core.proofs.Standing.{past_trivia, past_group, shown_tight}
 use Rattle.wast_parser_core.proofs.parser.Parser.next_from.Goals.{else-is_lparen-via-then-is_lparen+else-drops, else-is_lparen-via-else-is_lparen}
 use Rattle.wast_parser_core.proofs.parser.Parser.next_from.Goals as goal
 
@@ -36,7 +37,7 @@ tokens-preserved-then-is_trivia c =
     let s = c.args.self.now in
     let t = of_kind s.source.tokens c.tokens.at c.in-Some.kind (ap (λ (s : State). kind_at s c.tokens.at) (sym c.self.view_is) ∙ sym c.in-Some.ensures.kind) in
     let low = c.tokens.invariant.onward in
-    record { same = sym (ahead_trivia s c.tokens.at t.0 t.1 (ap is_trivia t.2 ∙ sym c.is_trivia.ensures ∙ c.if-is_trivia.true)) ∙ c.tokens.invariant.same; onward = omega (arith, low) }
+    record { same = sym (ahead_trivia s c.tokens.at t.0 t.1 (ap is_trivia t.2 ∙ sym c.is_trivia.ensures ∙ c.if-is_trivia.true)) ∙ c.tokens.invariant.same; onward = omega (arith, low); outside = λ o. past_trivia s c.tokens.at t.0 t.1 (ap is_trivia t.2 ∙ sym c.is_trivia.ensures ∙ c.if-is_trivia.true) (c.tokens.invariant.outside o) }
 
 pub returns-in-None : goal.returns-in-None
 returns-in-None c =
@@ -57,7 +58,7 @@ tokens-preserved c =
     let d = sym c.drops.ensures ∙ c.if-drops.true in
     let g = subst (λ (s : State). IsGroupAt (parens s.source.tokens) i c.in-Some-group_end.end) c.self.view_is c.in-Some-group_end.ensures.group in
     let low = c.tokens.invariant.onward in
-    record { same = sym (ahead_group s i c.in-Some-group_end.end t.0 t.1 is d g) ∙ c.tokens.invariant.same; onward = omega (arith, low, g.end_is) }
+    record { same = sym (ahead_group s i c.in-Some-group_end.end t.0 t.1 is d g) ∙ c.tokens.invariant.same; onward = omega (arith, low, g.end_is); outside = λ o. past_group s i c.in-Some-group_end.end t.0 t.1 is d g (c.tokens.invariant.outside o) }
 
 pub returns-else-is_lparen : goal.returns-else-is_lparen
 returns-else-is_lparen c =
@@ -72,12 +73,14 @@ returns-else-is_lparen c =
       | else-is_lparen-via-else-is_lparen w ↦ not_first (is_lparen t.kind) (begins_unknown s.names (lexemes s (i + 1))) (ap is_lparen found.2 ∙ sym c.is_lparen.ensures ∙ w.if-is_lparen.false)
     ] in
     let answer : c.token_at.result ≡ Some (t, i + 1) = c.token_at.ensures.token ∙ ap (option_map (λ (t : Token). (t, i + 1))) got in
+    let seen = ap is_trivia found.2 ∙ sym c.is_trivia.ensures ∙ c.if-is_trivia.false in
     let own = subst (λ r. IfSome r (λ (r : Token × ℕ). IsOf s.source.text r.0)) answer c.token_at.ensures.own in
     subst (λ r. ShowsNext (Ok r) (record s { at = c.args.from })) (sym answer) (record {
       found = sym c.tokens.invariant.same ∙ ahead_seen s i t got kept;
-      seen = ap is_trivia found.2 ∙ sym c.is_trivia.ensures ∙ c.if-is_trivia.false;
+      seen = seen;
       own = own;
       onward = omega (arith, low);
+      tight = shown_tight s c.args.from i t got kept seen c.tokens.invariant.outside;
     })
 
 pub returns-then-is_some : goal.returns-then-is_some
