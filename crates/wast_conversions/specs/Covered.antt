@@ -1,5 +1,6 @@
 -- The forms in trees that have no bytes here, in the order in which they stand: those of the proposals on stack switching, shared
--- types, custom descriptors and exact types, and literals of floating-point numbers. A tree is covered where it has none. Each is
+-- types, custom descriptors and exact types, orderings other than sequential consistency, memory arguments that name an array, literals
+-- of floating-point numbers, and each instruction that no opcode is listed of. A tree is covered where it has none. Each is
 -- called by what it is, and in an instruction by the mnemonic.
 use Rattle.std.specs.Prelude.{ℕ, Bool, true, false, ◌||◌, is_some, List, [], ◌∷◌, ◌++◌, map, Option, Some, None, codes}
 use Rattle.std.specs.List.{flat_map}

@@ -1,5 +1,5 @@
--- Trees in which each index is a number, and each use of a type has its index, but for that of a short block (WebAssembly 3.0, 6.1.3
--- and 6.6.3).
+-- Trees in which each index that is encoded is a number, and each use of a type has its index, but for that of a short block
+-- (WebAssembly 3.0, 6.1.3 and 6.6.3). What a type describes or is described by has no bytes, nor has a signature beside an index.
 use Rattle.std.specs.Prelude.{◌≡◌, List, [], ◌∷◌, All, Option, Some, None}
 use Rattle.wast_parser.specs.Identifiers.{Reference, ByNumber, ByName}
 use Rattle.wast_value_types.specs.ValueTree.{HeapType, Abstract, Concrete, Exact, RefType, ValType, Number, Ref, StorageType, Packed, Value, FieldType, TableType, GlobalType}

@@ -46,7 +46,7 @@ impl Drop for Module<'_> {
 /// What a module holds.
 #[derive(Drop)]
 pub enum ModuleKind<'a> {
-    /// Fields, among which is one start function at most.
+    /// Fields, among which is one start function at most where they are read.
     Text(Vec<ModuleField<'a>>),
     /// `(module binary "\00asm" ..)`: the bytes of each string.
     Binary(Vec<Bytes<'a>>),

@@ -1,20 +1,14 @@
 -- What is read in parts.
-use Rattle.std.proofs.Common.{◌≡◌, Bool, true, false, List, Option, Some, None, Result, Ok, Err, inl, inr, refl, ◌∙◌, ap, arith}
+use Rattle.std.proofs.Common.{◌≡◌, Bool, true, false, List, Option, Some, None, Result, Ok, Err, inl, inr, refl, ◌∙◌, ap}
 use Rattle.wast_parser.specs.Tokens.{SignificantToken}
 use Rattle.wast_grammar.proofs.Looks.{some_one}
 use Rattle.wast_parser.specs.Problem.{Problem}
 use Rattle.wast_parser.specs.Spelling.{◌>>=◌}
 use Rattle.wast_parser.specs.Look.{Test, ask}
 use Rattle.wast_parser.specs.Grammar.{Reader, map_reads, seq_reads, maybe_reads, either_reads}
-use Rattle.wast_parser.specs.State.{State, Keeps}
+use Rattle.wast_parser.specs.State.{State}
 use Rattle.wast_parser.specs.Reading.{Gives}
 use Rattle.wast_parser.specs.Significant.{TextToken}
-
-pub keeps_self : (a : State) → Keeps a a
-keeps_self a = record { source = refl; names = refl; depth = refl; onward = omega arith }
-
-pub keeps_on : (a b c : State) → Keeps a b → Keeps b c → Keeps a c
-keeps_on a b c p q = record { source = q.source ∙ p.source; names = q.names ∙ p.names; depth = q.depth ∙ p.depth; onward = omega (arith, p.onward, q.onward) }
 
 none_some : {X Y : Type 0} {x : X} → None ≡ Some x → Y
 none_some e = cc

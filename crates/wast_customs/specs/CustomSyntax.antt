@@ -114,7 +114,7 @@ module _ {N P : Type 0} where
   abbrev pub producers : Syntax N P (Producers P)
   producers = paren producers_body
 
-  -- (@dylink.0 group*), where neighbours of one kind are joined
+  -- (@dylink.0 group*), where neighbours that speak of exports, or of imports, are joined
   abbrev pub dylink_groups : Syntax N P (List Subsection)
   dylink_groups = seen joined (many group_starts dylink_group)
 

@@ -57,7 +57,7 @@ impl<'a> Peek for Dylink0<'a> {
     }
 }
 
-/// All groups that follow, neighbours of one kind joined.
+/// All groups that follow; neighbours that speak of exports, or of imports, are joined.
 fn parse_subsections<'a>(parser: &mut Parser<'a>) -> Result<Vec<Dylink0Subsection<'a>>, Error>
     ensures read { Gives (λ v. map subsection_tree v.items) result parser.new (dylink_groups.reads (ahead parser.old)) }
     ensures keeps { Keeps parser.old parser.new }
@@ -66,7 +66,7 @@ fn parse_subsections<'a>(parser: &mut Parser<'a>) -> Result<Vec<Dylink0Subsectio
     Ok(join(parser.alloc(), groups)?)
 }
 
-/// Joins neighbours of one kind.
+/// Joins neighbours that speak of exports, or of imports.
 fn join<'a>(
     alloc: Global,
     groups: Vec<Dylink0Subsection<'a>>,

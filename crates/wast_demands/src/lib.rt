@@ -4,8 +4,9 @@
 //!
 //! 1. imports stand before definitions of functions, tables, memories, globals and tags;
 //! 2. no item bears the name of an earlier one of its index space, segments aside, and no field that of an earlier one of its structure;
-//! 3. in the order of the text, each name that is mentioned means something, each signature beside the index of a type is that type's, no
-//!    two parameters or locals of a function bear one name, and each name that is repeated behind a block is that block's.
+//! 3. in the order of the text, each name that is mentioned means something, each signature beside the index of a type is that type's,
+//!    and each name that is repeated behind a block is that block's; that no two parameters or locals of a function bear one name is asked
+//!    behind the types of its locals.
 //!
 //! ```text
 //! (func (call $f)) (import "m" "f" (func))

@@ -1,8 +1,8 @@
 //! How modules are encoded.
-ghost use Rattle.std.specs.Prelude.{◌≡◌, ◌+◌, ◌<◌, ◌≤◌, ◌^◌, [], None, Some, length, map, option_map, IfErr, IfOk, OnOk, MatchResult};
+ghost use Rattle.std.specs.Prelude.{◌≡◌, ◌+◌, ◌<◌, ◌≤◌, ◌^◌, [], None, Some, false, length, map, option_map, IfErr, IfOk, OnOk, MatchResult};
 ghost use Rattle.std.specs.List.{flat_map};
 ghost use Rattle.wast_grammar.specs.Spelling.{same_name};
-ghost use Rattle.wast_parser.specs.Problem.{Problem};
+ghost use Rattle.wast_parser.specs.Problem.{Problem, is_memory};
 ghost use Rattle.wast_parser.specs.Identifiers.{identifier_tree};
 ghost use Rattle.wast_core_types.specs.TypeViews.{name_tree};
 ghost use Rattle.wast_core.specs.ModuleViews.{field_tree, module_tree};
@@ -67,6 +67,8 @@ impl EncodeOptions {
         ensures called { IsCalledAlike (module_tree «module».old) (module_tree «module».new) }
         ensures counted { OnOk result (gensym.new ≡ counter_after gensym.old (content_fields (module_tree «module».old).content)) }
         ensures reached { IfErr result (CountsFor gensym.old (module_tree «module».old) gensym.new) }
+        ensures taken { (module_tree «module».old).refusal ≡ None → (module_tree «module».new).refusal ≡ None → gensym.new ≡ counter_after gensym.old (content_fields (module_tree «module».old).content) }
+        ensures counted_unmet { (module_tree «module».old).refusal ≡ None → (why : Problem) → (module_tree «module».new).refusal ≡ Some why → is_memory why.cause ≡ false → gensym.new ≡ counter_after gensym.old (content_fields (module_tree «module».old).content) }
         ensures rises { gensym.old ≤ gensym.new }
         ensures bounded { gensym.new ≤ counter_after gensym.old (content_fields (module_tree «module».old).content) }
         ensures uncounted { (why : Problem) → (module_tree «module».old).refusal ≡ Some why → gensym.new ≡ gensym.old }
@@ -97,6 +99,8 @@ fn resolve_names(
     ensures called { IsCalledAlike (module_tree «module».old) (module_tree «module».new) }
     ensures counted { OnOk result (gensym.new ≡ counter_after gensym.old (content_fields (module_tree «module».old).content)) }
     ensures reached { IfErr result (CountsFor gensym.old (module_tree «module».old) gensym.new) }
+    ensures taken { (module_tree «module».old).refusal ≡ None → (module_tree «module».new).refusal ≡ None → gensym.new ≡ counter_after gensym.old (content_fields (module_tree «module».old).content) }
+    ensures counted_unmet { (module_tree «module».old).refusal ≡ None → (why : Problem) → (module_tree «module».new).refusal ≡ Some why → is_memory why.cause ≡ false → gensym.new ≡ counter_after gensym.old (content_fields (module_tree «module».old).content) }
     ensures rises { gensym.old ≤ gensym.new }
     ensures bounded { gensym.new ≤ counter_after gensym.old (content_fields (module_tree «module».old).content) }
     ensures uncounted { (why : Problem) → (module_tree «module».old).refusal ≡ Some why → gensym.new ≡ gensym.old }

@@ -8,12 +8,14 @@ pub fn ready_when_resolved()
     ensures { ReadyWhenResolved }
 {}
 
-/// What isn't covered by a binary is told of resolved fields as of the fields: the first form, with its place.
+/// What isn't covered by a binary is told of resolved fields as of the fields: the first form, with its place. Behind an ordering of theirs
+/// indices alone stand, as in the code's trees ([`trees_ordered`]).
 pub fn uncovered_again()
     ensures { UncoveredAgain }
 {}
 
-/// Where fields are covered, each resolved field is: numbers and types change no forms, and implied types are of signatures that are written.
+/// Where such fields are covered, each resolved field is: numbers and types change no forms, and implied types are of signatures that are
+/// written.
 pub fn covered_when_resolved()
     ensures { CoveredWhenResolved }
 {}

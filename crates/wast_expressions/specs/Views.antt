@@ -1,8 +1,8 @@
 -- What the grammar sees of the types of the code.
-use Rattle.std.specs.Prelude.{◌≡◌, ◌+◌, ℕ, true, false, if◌then◌else◌, List, [], ◌∷◌, map, Option, Some, None, Result, Ok, Err}
+use Rattle.std.specs.Prelude.{◌≡◌, ◌≤◌, ◌+◌, ℕ, true, false, if◌then◌else◌, List, [], ◌∷◌, map, Option, Some, None, Result, Ok, Err}
 use Rattle.wast_grammar.specs.Tokens.{Name}
 use Rattle.wast_parser.specs.Reading.{Refuses}
-use Rattle.wast_parser.specs.State.{ahead}
+use Rattle.wast_parser.specs.State.{ahead, slack}
 use Rattle.wast_parser.specs.Cursors.{stands, Follows}
 use Rattle.wast_parser.specs.Grammar.{Syntax, words, one_of}
 use Rattle.wast_parser.specs.Look.{OneOf, holds}
@@ -78,7 +78,7 @@ Turns (Err p) gives new = Refuses p gives
 
 -- a cursor's call takes a token that says something, or refuses where there is none
 abbrev pub Passes : {Y U : Type 0} → (TextToken → Option Y) → Cursor → Result (U × Cursor) Problem → Type 0
-Passes {Y} f c (Ok (u, d)) = (y : Y) × (one_of f (ahead (stands c)) ≡ Some (y, ahead (stands d))) × Follows c d
+Passes {Y} f c (Ok (u, d)) = (y : Y) × (one_of f (ahead (stands c)) ≡ Some (y, ahead (stands d))) × Follows c d × (slack (stands d) ≤ slack (stands c))
 Passes f c (Err p) = Refuses p (one_of f (ahead (stands c)))
 
 -- what is read behind a parenthesis that opens: a word

@@ -17,7 +17,7 @@ use wast_parser::{Error, Keyword, Meaning, Parse, Parser};
 
 /// Reads the offset of data: `(offset item*)`, or `(instruction item*)`, which is what the items unfold to and then the
 /// instruction. Refused where the grammar reads none, and for want of memory. Depth and registered names are as they were on both
-/// outcomes, and the parser stands where it did or behind.
+/// outcomes, and the parser stands where it did or behind what it read.
 pub fn parse_offset<'a, I: ParseOperation<'a>>(
     parser: &mut Parser<'a>,
 ) -> Result<Instructions<I>, Error>

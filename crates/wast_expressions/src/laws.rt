@@ -1,4 +1,7 @@
 //! The laws of expressions: functions whose contracts are the laws. They do nothing.
+ghost use Rattle.wast_parser.specs.Grammar.{seen};
+ghost use Rattle.wast_parser.specs.Lawful.{Lawful};
+ghost use Rattle.wast_expressions.specs.Expressions.{data_offset, expression, folded_instruction, plain, without_hints};
 ghost use Rattle.wast_expressions.specs.Laws.{Folding, HintsRise, OneReading};
 
 use crate::operation::Operation;
@@ -24,4 +27,16 @@ pub fn folding<I: Operation>()
     I::lawful();
     I::heeds();
     I::spelled();
+}
+
+/// What the calls of this crate read is spelled, and what is spelled is read: items, an instruction in parentheses, folded or
+/// plain, and the offset of data.
+pub fn read_as_spelled<I: Operation>()
+    ensures items { Lawful (expression I.syntax I.heads I.made) }
+    ensures folded { Lawful (folded_instruction I.syntax I.heads I.made) }
+    ensures plain { Lawful (seen (without_hints I.syntax I.heads) (plain I.syntax I.heads)) }
+    ensures offset { Lawful (data_offset I.syntax I.heads I.made) }
+{
+    I::lawful();
+    I::heeds();
 }

@@ -16,7 +16,7 @@ use wast_parser::{Error, Parser};
 
 /// Reads `(instruction item*)`: the instructions to which the items unfold, and then the one that heads the group, whatever
 /// its kind. Refused where the grammar reads none, and for want of memory. Depth and registered names are as they were on both
-/// outcomes, and the parser stands where it did or behind.
+/// outcomes, and the parser stands where it did or behind what it read.
 pub fn parse_folded_instruction<'a, I: ParseOperation<'a>>(
     parser: &mut Parser<'a>,
 ) -> Result<Instructions<I>, Error>
@@ -58,7 +58,7 @@ fn head<'a, I: ParseOperation<'a>>(
 
 /// Reads `(instruction plain*)`: the operands' instructions in order, and then the one that heads the group, with no block among
 /// them and no hint. Refused where the grammar reads none, and for want of memory. Depth and registered names are as they were on
-/// both outcomes, and the parser stands where it did or behind.
+/// both outcomes, and the parser stands where it did or behind what it read.
 pub fn parse_plain<'a, I: ParseOperation<'a>>(
     parser: &mut Parser<'a>,
 ) -> Result<Instructions<I>, Error>

@@ -82,7 +82,7 @@ pub enum Origin {
 pub trait ParseOperation<'a>: Operation {
     /// An instruction, and which group it heads. One that is written is read exactly where the grammar reads it, with the tokens
     /// that it takes, and is refused elsewhere, or for want of memory; what a group makes wants no memory, and takes nothing. Depth
-    /// and registered names are as they were on both outcomes, and the parser stands where it did or behind.
+    /// and registered names are as they were on both outcomes, and the parser stands where it did or behind what it read.
     fn obtain(parser: &mut Parser<'a>, origin: Origin) -> Result<(Self, GroupKind), Error>
         ensures read { Gives (λ x. Self.tree x.0) result parser.new (obtained Self.syntax Self.made origin (ahead parser.old)) }
         ensures kind { IfOk result (λ x. kind_of x.1 ≡ Self.heads.kind (Self.tree x.0)) }

@@ -9,7 +9,7 @@ use std::alloc::Global;
 use std::marker::Model;
 use wast_parser::Error;
 
-/// Instructions in a row, and the hints among them, whose indices rise.
+/// Instructions in a row, and the hints among them, whose indices rise where they are read.
 #[derive(Drop)]
 pub struct Instructions<I> {
     pub instrs: Vec<I>,

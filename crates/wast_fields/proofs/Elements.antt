@@ -1,14 +1,11 @@
 -- Elements in a row.
-use Rattle.std.proofs.Common.{◌≡◌, List, [], ◌∷◌, length, Option, Some, None, true, refl, ap, sym, ◌∙◌, arith, inl, inr}
+use Rattle.std.proofs.Common.{◌≡◌, List, [], ◌∷◌, length, Option, Some, None, true, refl, ap, sym, ◌∙◌}
 use Rattle.wast_parser.specs.Tokens.{SignificantToken}
 use Rattle.wast_parser.specs.Look.{Test, ask}
 use Rattle.wast_parser.specs.Spelling.{◌>>=◌}
 use Rattle.wast_parser.specs.Lawful.{Shrinks}
 use Rattle.wast_parser.specs.Grammar.{Reader, either_reads, many_reads, map_reads, seq_reads}
 use Rattle.wast_parser.proofs.GrammarLaws.{shrinks}
-use Rattle.wast_parser.specs.Problem.{Problem}
-use Rattle.wast_parser.specs.State.{State, Keeps}
-use Rattle.wast_parser.specs.Reading.{Refuses}
 use Rattle.wast_grammar.proofs.Repeats.{with_front, many_next, many_refused}
 use Rattle.wast_fields.specs.DefinitionSyntax.{element}
 use Rattle.wast_fields.proofs.ExpressionLaws.{element_laws}
@@ -16,13 +13,6 @@ use Rattle.wast_fields.proofs.ExpressionLaws.{element_laws}
 module _ {N P : Type 0} where
   pub element_shrinks : Shrinks (element {N = N} {P = P}).reads
   element_shrinks = shrinks element element_laws refl refl
-
--- WHAT LOOPS KEEP
-pub keeps_trans : (a b c : State) → Keeps a b → Keeps b c → Keeps a c
-keeps_trans a b c p q = record { source = q.source ∙ p.source; names = q.names ∙ p.names; depth = q.depth ∙ p.depth; onward = omega (arith, p.onward, q.onward) }
-
-pub refuses_all : {X Y : Type 0} (p : Problem) (o : Option X) (q : Option Y) → (o ≡ None → q ≡ None) → Refuses p o → Refuses p q
-refuses_all p o q f r = elim r [ inl m ↦ inl m | inr n ↦ inr (f n) ]
 
 -- A list that begins, as its first item and the others.
 module _ {N P A B : Type 0} (starts : List Test) (r : Reader N P A) (less : Shrinks r) (f : List A → B) (ts : List (SignificantToken N P)) (begins : ask starts ts ≡ Some true) where

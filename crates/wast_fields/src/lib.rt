@@ -21,6 +21,7 @@ mod element;
 mod func;
 mod global;
 pub mod keyword;
+pub mod laws;
 mod local;
 mod look;
 mod memory;

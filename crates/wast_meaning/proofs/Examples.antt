@@ -14,7 +14,7 @@ use Rattle.wast_fields.specs.InstructionTree.{One, Two, Ordered, Resume}
 use Rattle.wast_exports.specs.Exports as exports
 use Rattle.wast_imports.specs.ImportTree.{OfFunc, OfTag, Single, Group1, Group2}
 use Rattle.wast_fields.specs.DataTree.{Text}
-use Rattle.wast_fields.specs.FieldTree.{Global, Field, Indices, Expressions, Imported, Func, Table, TableOf, Memory, MemoryOf, Tag, TypeField, ImportField, Content, Fields, Pieces, Module}
+use Rattle.wast_fields.specs.FieldTree.{Global, Field, Indices, Expressions, Imported, Func, Table, TableOf, Memory, MemoryOf, Tag, TypeField, ImportField, Content, Fields, Module}
 use Rattle.wast_meaning.specs.Written.{pages, exactly, zero_offset, written_out, by_counter}
 use Rattle.wast_meaning.specs.Spaces.{space_word, fields_at, denotes, listed}
 use Rattle.wast_meaning.specs.Scope.{label_space}
@@ -22,8 +22,7 @@ use Rattle.wast_meaning.specs.Demands.{definition_word}
 use Rattle.wast_meaning.specs.WellFormed.{first_breach}
 use Rattle.wast_meaning.specs.Numbered.{numbered, resolved}
 use Rattle.wast_meaning.specs.Fresh.{is_fresh}
-use Rattle.wast_meaning.specs.Room.{has_room, have_room}
-use Rattle.wast_meaning.specs.Modules.{module_breaches, module_refusal}
+use Rattle.wast_meaning.specs.Modules.{module_breaches}
 use Rattle.wast_grammar.specs.Spelling.{same_name}
 use Rattle.wast_meaning.proofs.Words.{W, param, sub, group, imports, a_func, data_of, elem_of, is_made, made, name, id, says, num, i32, i64, ref, funcref, local, sig, no_use, written, typed, item, shared_type, type, func_type, struct_field, table_1, memory_1, global_1, nop, drop, const, call, br, local_get, elem_drop, data_drop, struct_get, call_indirect, block_of, block, try, delegate, try_table, else_of, end_of, end, load, unlisted, expr, hinted, at, define, function, func, body, of_type, import_func, export, start, segment, elems, data_at, elem_at, IsUnmet, IsMet, BothUnmet, SameNumbers, Breaks, Implies}
 
@@ -629,33 +628,9 @@ resolved_segments : numbered same_name (segment_fields (says 0 "t") (says 0 "f")
 unfolding segment_fields
 resolved_segments = refl
 
--- ROOM
-room_counts : map has_room (0 ∷ 4294967294 ∷ 4294967295 ∷ []) ≡ true ∷ true ∷ false ∷ []
-room_counts = refl
-
--- (type $t (struct (field $a i32))) (func (param $x i32) (local i32) block end) (data "") (global i32)
-small : have_room same_name (
-    type (id 0 "t") (StructType (struct_field 0 "a" ∷ []))
-    ∷ function (param 0 "x") (local None i32 ∷ []) (block None ∷ end ∷ [])
-    ∷ data_at 0 (expr (const (pos 0) ∷ []))
-    ∷ define None global_1
-    ∷ []) ≡ true
-small = refl
-
 -- WHOLE MODULES
 abbrev module_of : Content W ℕ → Option Problem → Module W ℕ
 module_of content refusal = record { place = 1; id = None; given = None; content = content; refusal = refusal }
-
--- (module (start $x)), a module that is refused already, a binary
-module_unmet : module_refusal made (module_of (Fields (start 9 (says 15 "x") ∷ [])) None)
-    ≡ Some (told (record { place = 15; complaint = Unknown (codes "func") (name "x"); holds = false }))
-module_unmet = refl
-
-module_refused : (p : Problem) → module_refusal made (module_of (Fields (start 9 (says 15 "x") ∷ [])) (Some p)) ≡ Some p
-module_refused p = refl
-
-module_binary : module_refusal made (module_of (Pieces (codes "asm" ∷ [])) None) ≡ None
-module_binary = refl
 
 -- (module (start 0) (start 0)): the second
 module_breach : module_breaches same_name is_made (module_of (Fields (start 9 (num 0) ∷ start 19 (num 0) ∷ [])) None) ≡ 19 ∷ []

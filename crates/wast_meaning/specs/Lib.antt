@@ -6,7 +6,6 @@ pub mod Made
 pub mod Mentions
 pub mod Modules
 pub mod Numbered
-pub mod Room
 pub mod Scope
 pub mod Settled
 pub mod Spaces

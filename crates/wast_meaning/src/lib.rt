@@ -24,8 +24,7 @@
 //! | `Settled` | fields that resolving leaves as they are, where nothing stands inline |
 //! | `Made` | the names that are made up |
 //! | `Fresh` | when names that are made up are fresh |
-//! | `Modules` | demands and breaches of whole modules, and what one is refused with |
-//! | `Room` | when index spaces have room for one more item |
+//! | `Modules` | the fields of whole modules, and their breaches |
 //! | `Views` | which index space a [`Space`] is |
 //!
 //! `proofs/Examples` has worked examples, a few for each rule, and `proofs/Operands` one for each row of operands. The other files of

@@ -1,5 +1,5 @@
 //! The name section of a module.
-ghost use Rattle.std.specs.Prelude.{◌≡◌, ◌++◌, true, map, OnOk, IfOk, IsErrOf, option_map};
+ghost use Rattle.std.specs.Prelude.{◌≡◌, ◌<◌, ◌≤◌, ◌^◌, ◌++◌, true, false, length, map, OnOk, IfOk, IsErrOf, option_map};
 ghost use Rattle.std.specs.List.{flat_map};
 ghost use Rattle.wasm_encoder_custom.specs.Names.{name_subsection_bytes};
 ghost use Rattle.wasm_layout.specs.IsModule.{IsMap, AreInner, AreNames};
@@ -28,9 +28,9 @@ use wast_parser::{Id, NameAnnotation};
 /// The custom section `name` of a module of these fields, which has this identifier and this `@name` (appendix, Name Section); none where
 /// nothing in it has a name. Each use in the fields has its type, and each index is a number.
 ///
-/// A name that is made up is none, and `@name` counts before an identifier. Answers [`EncodeError::TooLarge`] only where an index that has
-/// a name, the length of a name or the size of all maps is past 4294967295, and [`EncodeError::Memory`] where a growth found no memory, or a
-/// list would have 2^64 items, which none holds.
+/// A name that is made up is none, and `@name` counts before an identifier. Answers [`EncodeError::TooLarge`] exactly where, memory found, an
+/// index that has a name or the size of all maps is past 4294967295, and with that the length of each name; [`EncodeError::Memory`] where a
+/// growth found no memory, or a list would have 2^64 items, which none holds.
 pub fn name_section<'n, 'a>(
     alloc: Global,
     id: &'n Option<Id<'a>>,
@@ -40,11 +40,23 @@ pub fn name_section<'n, 'a>(
     requires { are_settled (map field_tree fields.now) ≡ true }
     ensures named { IfOk result (λ s. s ≡ section_data (maps_in (option_map name_tree name.now) (option_map identifier_tree id.now) (map field_tree fields.now))) }
     ensures in_range { OnOk result (AreNames (maps_in (option_map name_tree name.now) (option_map identifier_tree id.now) (map field_tree fields.now))) }
+    ensures fits { OnOk result (length (name_bytes (maps_in (option_map name_tree name.now) (option_map identifier_tree id.now) (map field_tree fields.now))) < 2 ^ 32) }
     ensures too_large { IsErrOf result EncodeError.TooLarge → ¬ NamesFit (maps_in (option_map name_tree name.now) (option_map identifier_tree id.now) (map field_tree fields.now)) }
 {
     let mut section = NameSection::new(alloc);
     add_maps(alloc, id, name, fields, &mut section)?;
+    if is_too_large(&section) {
+        return Err(EncodeError::TooLarge);
+    }
     Ok(if_any(section))
+}
+
+/// Whether the size of all maps is past 4294967295.
+fn is_too_large(section: &NameSection) -> bool
+    ensures large { result ≡ true → 2 ^ 32 ≤ length section.now }
+    ensures small { result ≡ false → length section.now < 2 ^ 32 }
+{
+    4_294_967_295 < section.as_custom().bytes.len()
 }
 
 /// Appends all maps that have names, in the order of their numbers.

@@ -1,5 +1,5 @@
 -- Whole lists of fields and modules, resolved, where a counter makes the names of what has none.
-use Rattle.std.specs.Prelude.{◌≡◌, ◌⊎◌, ℕ, ◌+◌, List, None, Some, count_by}
+use Rattle.std.specs.Prelude.{◌≡◌, ◌⊎◌, ℕ, ◌+◌, Bool, true, false, List, None, Some, count_by}
 use Rattle.wasm_encoder_base.specs.Table.{Space}
 use Rattle.wast_grammar.specs.Tokens.{Name}
 use Rattle.wast_grammar.specs.Spelling.{same_name}
@@ -45,6 +45,10 @@ AreResolved counter old after new n =
 abbrev pub content_by : ℕ → Content Name ℕ → Content Name ℕ
 content_by counter (Fields fs) = Fields (resolved_by counter fs)
 content_by counter (Pieces pieces) = Pieces pieces
+
+abbrev pub is_pieces : Content Name ℕ → Bool
+is_pieces (Fields fs) = false
+is_pieces (Pieces pieces) = true
 
 abbrev pub module_by : ℕ → Module Name ℕ → Module Name ℕ
 module_by counter m = record { place = m.place; id = m.id; given = m.given; content = content_by counter m.content; refusal = m.refusal }

@@ -1,5 +1,5 @@
 //! Modules, resolved.
-ghost use Rattle.std.specs.Prelude.{◌≡◌, ◌⊎◌, ℕ, ◌+◌, ◌^◌, ◌<◌, ◌≤◌, [], None, Some, false, length, slice_get, IfErr, IfOk, OnOk};
+ghost use Rattle.std.specs.Prelude.{◌≡◌, ◌⊎◌, ℕ, ◌+◌, ◌^◌, ◌<◌, ◌≤◌, [], None, Some, false, length, slice_get, IfErr, IfOk, IsOk, OnOk, true};
 ghost use Rattle.wast_grammar.specs.Tokens.{Name};
 ghost use Rattle.wast_grammar.specs.Spelling.{same_name};
 ghost use Rattle.wast_parser.specs.Problem.{Problem, is_memory};
@@ -10,7 +10,7 @@ ghost use Rattle.wast_names.specs.Demand.{Answers, Refuses};
 ghost use Rattle.wast_meaning.specs.Modules.{content_fields, module_breaches};
 ghost use Rattle.wast_meaning.specs.Made.{is_made};
 ghost use Rattle.wast_resolve.specs.Resolving.{Means};
-ghost use Rattle.wast_resolve.specs.Whole.{IsCalledAlike, IsRefused, content_by, counter_after, demands_by, module_by, module_demands_by, names_spaces, written_by};
+ghost use Rattle.wast_resolve.specs.Whole.{IsCalledAlike, IsRefused, content_by, is_pieces, counter_after, demands_by, module_by, module_demands_by, names_spaces, written_by};
 
 use crate::names::Resolver;
 use crate::whole::{Names, resolve_in_place};
@@ -26,8 +26,8 @@ pub trait ResolveModule<'a> {
     ghost tree: { Self → spec.Module Name ℕ };
 
     /// Writes the fields out, gives each use its type and makes each index the number that it means (6.1.3, 6.6.3), and answers what names
-    /// mean. Pieces of a binary stay as they are, and so do place and name of the module. A field that is referred to and has no name takes
-    /// the next one of `gensym`, and there is room for one a field.
+    /// mean. Pieces of a binary stay as they are, and want no memory; place and name of the module stay too. A field that is referred to and
+    /// has no name takes the next one of `gensym`, and there is room for one a field.
     ///
     /// Refuses a module of which a demand of names isn't met, by the first, with its place and message; else only where no memory is found,
     /// or there are more than 4294967295 items of a kind or blocks inside each other. The module then keeps why, and each later call is
@@ -45,6 +45,7 @@ pub trait ResolveModule<'a> {
         ensures refused { IfErr result (IsRefused (tree self.new)) }
         ensures cause { (tree self.old).refusal ≡ None → (why : Problem) → (tree self.new).refusal ≡ Some why → Refuses (module_demands_by gensym.old (tree self.old)) why }
         ensures called { IsCalledAlike (tree self.old) (tree self.new) }
+        ensures pieces { (tree self.old).refusal ≡ None → is_pieces (tree self.old).content ≡ true → IsOk result }
         ensures kept { (why : Problem) → (tree self.old).refusal ≡ Some why → tree self.new ≡ tree self.old }
         ensures uncounted { (why : Problem) → (tree self.old).refusal ≡ Some why → gensym.new ≡ gensym.old };
 
@@ -90,6 +91,7 @@ fn resolve_first<'a>(
     ensures refused { IfErr result (IsRefused (module_tree «module».new)) }
     ensures cause { (why : Problem) → (module_tree «module».new).refusal ≡ Some why → Refuses (module_demands_by gensym.old (module_tree «module».old)) why }
     ensures called { IsCalledAlike (module_tree «module».old) (module_tree «module».new) }
+    ensures pieces { is_pieces (content_tree «module».old.kind) ≡ true → IsOk result }
 {
     match resolve_content(alloc, &mut module.kind, gensym) {
         Ok(names) => Ok(names),
@@ -115,6 +117,7 @@ fn resolve_content<'a>(
     ensures rises { gensym.old ≤ gensym.new }
     ensures bounded { gensym.new ≤ counter_after gensym.old (content_fields (content_tree content.old)) }
     ensures counted_unmet { IfErr result (λ e. is_memory e.cause ≡ false → gensym.new ≡ counter_after gensym.old (content_fields (content_tree content.old))) }
+    ensures pieces { is_pieces (content_tree content.old) ≡ true → IsOk result }
 {
     match content {
         ModuleKind::Text(fields) => resolve_in_place(alloc, fields, gensym),

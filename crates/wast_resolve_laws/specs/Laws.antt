@@ -41,9 +41,10 @@ SignaturesKept = (fields : List (Field Name ℕ)) (number : ℕ) → sig_at same
 abbrev pub ScopeKept : Type 0
 ScopeKept = (fields : List (Field Name ℕ)) → scope_of same_name (expanded same_name fields) ≡ scope_of same_name fields
 
--- and no type is implied any more.
-abbrev pub NothingImplied : Type 0
-NothingImplied = (fields : List (Field Name ℕ)) → implied same_name (expanded same_name fields) ≡ []
+-- and no type is implied any more, since each use that needs a type has one.
+pub record NothingImplied : Type 0 where
+  pub nothing : (fields : List (Field Name ℕ)) → implied same_name (expanded same_name fields) ≡ []
+  pub typed : (fields : List (Field Name ℕ)) → are_typed (expanded same_name fields) ≡ true
 
 -- The type that a use takes is a function type, written as the use writes it.
 abbrev pub TypesTaken : Type 0

@@ -83,8 +83,8 @@ pub fn resolved_again()
     ensures { ResolvedAgain }
 {}
 
-/// Where fields keep to all demands on names, numbering leaves nothing but numbers for indices. A use without an index has none then either;
-/// where each use that needs a type has one, each has its number.
+/// Where fields keep to all demands on names, numbering leaves nothing but numbers for indices; where each use that needs a type has one,
+/// each has its number.
 pub fn numbered_settled()
     ensures { NumberedSettled }
 {}

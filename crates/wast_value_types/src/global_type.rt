@@ -21,7 +21,7 @@ pub struct GlobalType<'a> {
 }
 
 impl<'a> GlobalType<'a> {
-    /// The same global type at the same place. Fails only where a name owns memory and none is found for the copy.
+    /// The same global type at the same place. Fails only for want of memory.
     pub fn clone(&self, alloc: Global) -> Result<Self, AllocError>
         ensures { IfOk result (λ copy. copy ≡ self.now) }
     {

@@ -46,7 +46,7 @@ pub enum HeapType<'a> {
 }
 
 impl<'a> HeapType<'a> {
-    /// The same heap type at the same place. Fails only where a name owns memory and none is found for the copy.
+    /// The same heap type at the same place. Fails only for want of memory.
     pub fn clone(&self, alloc: Global) -> Result<Self, AllocError>
         ensures { IfOk result (λ copy. copy ≡ self.now) }
     {

@@ -3,7 +3,7 @@
 //!
 //! [`ValType`], [`RefType`], [`HeapType`] and [`AbstractHeapType`] are read and looked for, the others are read. Types of
 //! proposals, which are shared, exact or of continuations, are read into the tree too. Indices in types are not resolved.
-//! Two types are equal exactly where they are written alike, wherever their indices stand ([`laws::equal_types`]); equal ones
+//! Two heap, reference or value types are equal exactly where they are written alike, wherever their indices stand ([`laws::equal_types`]); equal ones
 //! hash alike.
 //!
 //! What it hands on of `wast_words` reads keywords and looks for them.

@@ -150,7 +150,7 @@ impl<'a> RefType<'a> {
         }
     }
 
-    /// The same reference type at the same place. Fails only where a name owns memory and none is found for the copy.
+    /// The same reference type at the same place. Fails only for want of memory.
     pub fn clone(&self, alloc: Global) -> Result<Self, AllocError>
         ensures { IfOk result (λ copy. copy ≡ self.now) }
     {

@@ -27,7 +27,7 @@ pub enum StorageType<'a> {
 }
 
 impl<'a> StorageType<'a> {
-    /// The same storage type at the same place. Fails only where a name owns memory and none is found for the copy.
+    /// The same storage type at the same place. Fails only for want of memory.
     pub fn clone(&self, alloc: Global) -> Result<Self, AllocError>
         ensures { IfOk result (λ copy. copy ≡ self.now) }
     {

@@ -24,7 +24,7 @@ pub struct TableType<'a> {
 }
 
 impl<'a> TableType<'a> {
-    /// The same table type at the same place. Fails only where a name owns memory and none is found for the copy.
+    /// The same table type at the same place. Fails only for want of memory.
     pub fn clone(&self, alloc: Global) -> Result<Self, AllocError>
         ensures { IfOk result (λ copy. copy ≡ self.now) }
     {

@@ -29,7 +29,7 @@ pub enum ValType<'a> {
 }
 
 impl<'a> ValType<'a> {
-    /// The same value type at the same place. Fails only where a name owns memory and none is found for the copy.
+    /// The same value type at the same place. Fails only for want of memory.
     pub fn clone(&self, alloc: Global) -> Result<Self, AllocError>
         ensures { IfOk result (λ copy. copy ≡ self.now) }
     {

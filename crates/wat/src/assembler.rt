@@ -2,7 +2,7 @@
 
 ghost use Rattle.std.specs.Prelude.{◌≡◌, ◌↔◌, ◌+◌, ◌<◌, ◌≤◌, ◌^◌, ℕ, IsTrue, false, length, None, Some, Err, MatchResult, IfErr, IfOk, OnOk};
 ghost use Rattle.std.specs.Str.{IsUtf8};
-ghost use Rattle.wast_parser.specs.Problem.{Problem};
+ghost use Rattle.wast_parser.specs.Problem.{Problem, is_memory};
 ghost use Rattle.wast_parser.specs.Table.{IsTable};
 ghost use Rattle.wast_meaning.specs.Modules.{content_fields};
 ghost use Rattle.wast_encode.specs.Encoded as encoded;
@@ -66,6 +66,8 @@ pub fn encode_wat(
     ensures called { IsCalledAlike (wat_tree wat.old) (wat_tree wat.new) }
     ensures counted { OnOk result (gensym.new ≡ counter_after gensym.old (content_fields (wat_tree wat.old).content)) }
     ensures reached { IfErr result (CountsFor gensym.old (wat_tree wat.old) gensym.new) }
+    ensures taken { (wat_tree wat.old).refusal ≡ None → (wat_tree wat.new).refusal ≡ None → gensym.new ≡ counter_after gensym.old (content_fields (wat_tree wat.old).content) }
+    ensures counted_unmet { (wat_tree wat.old).refusal ≡ None → (why : Problem) → (wat_tree wat.new).refusal ≡ Some why → is_memory why.cause ≡ false → gensym.new ≡ counter_after gensym.old (content_fields (wat_tree wat.old).content) }
     ensures rises { gensym.old ≤ gensym.new }
     ensures bounded { gensym.new ≤ counter_after gensym.old (content_fields (wat_tree wat.old).content) }
     ensures uncounted { (why : Problem) → (wat_tree wat.old).refusal ≡ Some why → gensym.new ≡ gensym.old }

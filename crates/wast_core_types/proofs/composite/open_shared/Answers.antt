@@ -2,7 +2,7 @@ use Rattle.std.proofs.Common.{◌≡◌, suc, arith, Some, inl, inr, ap, sym, �
 use Rattle.wast_parser.specs.State.{ahead}
 use Rattle.wast_core_types.specs.Depths.{within}
 use Rattle.wast_core_types.proofs.Depths.{opened_shorter, shared_opened, shared_unopened, within_none}
-use Rattle.wast_core_types.proofs.Readings.{keeps_on, keeps_self}
+use Rattle.wast_parser.proofs.States.{keeps_trans, keeps_self}
 use Rattle.wast_core_types.proofs.composite.open_shared.Goals as goal
 
 pub groups-init : goal.groups-init
@@ -16,7 +16,7 @@ groups-preserved c =
     let rest = ahead c.open_group.new.parser in
     let deeper : c.in-Some.deeper ≡ suc c.groups.depth = omega (arith, c.in-Some.ensures.1) in
     record {
-      keeps = keeps_on _ _ _ c.groups.invariant.keeps c.in-Ok.ensures.keeps;
+      keeps = keeps_trans _ _ _ c.groups.invariant.keeps c.in-Ok.ensures.keeps;
       same = ap (λ n. within n rest) deeper ∙ sym (shared_opened c.groups.depth (ahead c.groups.parser) _ (c.in-Ok-true.ensures ∙ ap (λ v. Some v) c.in-Ok-true.field-0-test) c.in-Ok.ensures.read) ∙ c.groups.invariant.same;
     }
 

@@ -6,7 +6,8 @@ use Rattle.wast_parser.specs.State.{ahead}
 use Rattle.wast_core_instr.specs.ExpressionViews.{expression_tree}
 use Rattle.wast_fields.specs.DefinitionSyntax.{element}
 use Rattle.wast_fields.specs.ElemSyntax.{element_starts}
-use Rattle.wast_fields.proofs.Elements.{element_shrinks, keeps_trans, refuses_all}
+use Rattle.wast_parser.proofs.States.{keeps_trans, refuses_all}
+use Rattle.wast_fields.proofs.Elements.{element_shrinks}
 use Rattle.wast_fields.proofs.element.parse_elements.Goals as goal
 
 pub elements-smaller : goal.elements-smaller
