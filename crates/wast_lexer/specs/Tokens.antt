@@ -6,6 +6,7 @@ use Rattle.wast_lexer.specs.declared.token.Token.{Token}
 use Rattle.wast_lexer.specs.declared.lexer.Tokens.{Tokens}
 use Rattle.wast_lexer.specs.Parse.{IsTokenAt, IsFaultAt}
 use Rattle.wast_lexer.specs.Source.{source, allows}
+use Rattle.wast_lexer.specs.TokenText.{IsOf}
 
 abbrev pub lexer_of : Tokens → Lexer
 lexer_of s = s.lexer
@@ -20,7 +21,8 @@ has_stopped s = s.stopped
 -- nothing, where it has stopped or is at the end; else the token at its place, or the fault there, and then it stops
 abbrev pub GivesAt : Tokens → Option (Result Token LexFault) → Tokens → Type 0
 GivesAt s None t = ((has_stopped s ≡ true) ⊎ (place_of s ≡ length (source (lexer_of s)))) × (has_stopped t ≡ true)
-GivesAt s (Some (Ok token)) t = (has_stopped s ≡ false) × IsTokenAt (allows (lexer_of s)) (source (lexer_of s)) (place_of s) (place_of t) token × (has_stopped t ≡ false)
+GivesAt s (Some (Ok token)) t =
+    (has_stopped s ≡ false) × IsTokenAt (allows (lexer_of s)) (source (lexer_of s)) (place_of s) (place_of t) token × IsOf (source (lexer_of s)) token × (has_stopped t ≡ false)
 GivesAt s (Some (Err e)) t = (has_stopped s ≡ false) × IsFaultAt (allows (lexer_of s)) (source (lexer_of s)) (place_of s) e × (has_stopped t ≡ true)
 
 -- the next of a text's tokens, which stays the same text

@@ -1,13 +1,12 @@
 //! An error of a text: its place and what is wrong.
 
-ghost use Rattle.std.specs.Prelude.{◌≡◌, IfOk, OnErr, OnOk, None, Some, string_bytes};
+ghost use Rattle.std.specs.Prelude.{◌≡◌, IfOk, OnErr, OnOk, None, Some, false, string_bytes};
 ghost use Rattle.wast_parser_base.specs.Problem.{Memory, Said, displayed, is_memory, lexical_of, lines_told, message_of, told_in};
 ghost use Rattle.wast_parser_base.specs.Reasons.{lines_of};
-ghost use Rattle.wast_parser_base.specs.Snippet.{place_lines};
 ghost use Rattle.wast_parser_base.specs.Faults.{problem_of};
 
 use crate::reason::{Reason, Shown, lexical_text};
-use crate::snippet::push_place;
+use crate::snippet::lines_at;
 use std::alloc::{AllocError, AllocFailed, Global};
 use std::fmt;
 use std::marker::Model;
@@ -116,11 +115,13 @@ impl Error {
     }
 
     /// Gives the text whose place it is: `Display` writes from now on, behind the message, the lines that show the place in
-    /// it, which are those of [`push_place`]; of an error that [is want of memory](Error::is_memory), none. The place and the
-    /// message stay. Refused only where no memory is found, and the error is then unchanged.
+    /// it, which are those of [`push_place`](crate::push_place); of an error that
+    /// [is want of memory](Error::is_memory), none, for which no memory is asked. The place and the message stay. Refused
+    /// only where no memory is found, and the error is then unchanged.
     pub fn set_text(&mut self, text: &str) -> Result<(), AllocError>
         ensures shown { OnOk result (self.new ≡ told_in text.now self.old) }
         ensures refused { OnErr result (self.new ≡ self.old) }
+        ensures memory { OnErr result (is_memory self.old.cause ≡ false) }
     {
         let shown = self.shown_in(text)?;
         self.shown = shown;
@@ -128,14 +129,16 @@ impl Error {
     }
 
     fn shown_in(&self, text: &str) -> Result<Shown, AllocError>
-        ensures { IfOk result (λ shown. lines_of shown ≡ Some (lines_told text.now self.now.place self.now.cause)) }
+        ensures told { IfOk result (λ shown. lines_of shown ≡ Some (lines_told text.now self.now.place self.now.cause)) }
+        ensures memory { OnErr result (is_memory self.now.cause ≡ false) }
     {
-        let offset = self.place.offset();
-        match &self.reason {
-            Reason::Said(message) => lines_at(*message.allocator(), text, offset),
-            Reason::Lexical(alloc, _) => lines_at(*alloc, text, offset),
-            Reason::Memory => Ok(Shown::Nothing),
-        }
+        let alloc = match &self.reason {
+            Reason::Said(message) => *message.allocator(),
+            Reason::Lexical(alloc, _) => *alloc,
+            Reason::Memory => return Ok(Shown::Nothing),
+        };
+        let lines = lines_at(alloc, text, self.place.offset())?;
+        Ok(Shown::Lines(lines))
     }
 
     /// The message.
@@ -148,14 +151,6 @@ impl Error {
             Reason::Memory => "out of memory",
         }
     }
-}
-
-fn lines_at(alloc: Global, text: &str, offset: usize) -> Result<Shown, AllocError>
-    ensures { IfOk result (λ shown. lines_of shown ≡ Some (place_lines text.now offset)) }
-{
-    let mut lines = String::new(alloc);
-    push_place(alloc, &mut lines, text, offset)?;
-    Ok(Shown::Lines(lines))
 }
 
 impl From<AllocError> for Error {

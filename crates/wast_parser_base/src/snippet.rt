@@ -27,8 +27,8 @@ pub fn push_place(
     text.push_str(lines.as_str())
 }
 
-/// The lines that show a place of a text, none where no place is.
-fn lines_at(alloc: Global, source: &str, offset: usize) -> Result<String, AllocError>
+/// The lines that show a place of a text, none where no place is. Fails only where no memory is found.
+pub(crate) fn lines_at(alloc: Global, source: &str, offset: usize) -> Result<String, AllocError>
     ensures { IfOk result (λ lines. string_bytes lines ≡ place_lines source.now offset) }
 {
     if source.is_char_boundary(offset) {

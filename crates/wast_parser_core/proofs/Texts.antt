@@ -1,5 +1,5 @@
 -- Identifiers, names of annotations, strings and integers in front.
-use Rattle.std.proofs.Common.{◌⊎◌, ◌≡◌, ℕ, Bool, true, false, cond, List, ◌∷◌, ◌++◌, Option, Some, None, refl, sym, ◌∙◌, ap, subst, inl, inr}
+use Rattle.std.proofs.Common.{◌≡◌, ℕ, Bool, true, false, cond, List, ◌∷◌, ◌++◌, Option, Some, None, refl, sym, ◌∙◌, ap, subst, inl, inr}
 use Rattle.std.specs.Prelude.{option_map}
 use Rattle.std.specs.Str.{IsUtf8, is_utf8}
 use Rattle.std.proofs.lemmas.Bool.{cases_Bool}
@@ -25,9 +25,7 @@ use Rattle.wast_grammar.proofs.TextLaws.{string_is, id_nameless}
 use Rattle.wast_parser_core.specs.Kinds.{is_identifier, is_string, is_integer}
 use Rattle.wast_parser_base.specs.Faults.{problem_of}
 use Rattle.wast_parser_core.specs.State.{State, ahead, IsNext}
-use Rattle.wast_parser_core.specs.Reading.{Refuses, out_of_memory}
-use Rattle.wast_parser_core.specs.Cursors.{IsNameless}
-use Rattle.wast_parser_base.specs.Problem.{Lexical}
+use Rattle.wast_parser_core.specs.Reading.{Refuses}
 
 -- IDENTIFIERS
 identifier_kind : (k : TokenKind) → is_identifier k ≡ true → k ≡ kinds.Id
@@ -164,8 +162,3 @@ read_integer s t i kind n h =
 -- where none is read, none of a range is
 pub only_none : {A : Type 0} (p : A → Bool) (r : Reader Name ℕ A) (ts : List TextToken) → r ts ≡ None → only_reads p r ts ≡ None
 only_none p r ts e = rw e refl
-
--- a fault that tells of an identifier is want of memory, or it has no name
-pub nameless : (text : List ℕ) (t : Token) (fault : LexFault) → IsOf text t → is_identifier t.kind ≡ true → IsIdFault (text_of text t) t.offset fault → (problem_of fault ≡ out_of_memory) ⊎ ((id_name (text_of text t) ≡ None) × IsNameless (problem_of fault))
-nameless text t (Lex span error) own h e = inr (unnamed (text_of text t) t.offset span error (is_id text t own h) e, elim e.1 [ inl empty ↦ inl (ap Lexical empty.0) | inr bad ↦ inr (ap Lexical bad.0) ])
-nameless text t faults.Memory own h e = inl refl

@@ -1,9 +1,11 @@
 -- Where a cursor stands.
-use Rattle.std.specs.Prelude.{◌≡◌, ◌⊎◌, ℕ, ◌≤◌, true, false, List, [], Option, Some, None, Result, Ok, Err}
+use Rattle.std.specs.Prelude.{◌≡◌, ◌⊎◌, ℕ, ◌≤◌, true, false, List, [], Option, Some, None, is_some, Result, Ok, Err}
 use Rattle.wast_lexer.specs.declared.token.Token.{Token}
 use Rattle.wast_parser_core.specs.declared.cursor.Cursor.{Cursor}
-use Rattle.wast_lexer.specs.LexError.TheVariants.{EmptyId, InvalidUtf8Id}
-use Rattle.wast_parser_base.specs.Problem.{Problem, Lexical}
+use Rattle.wast_lexer.specs.declared.fault.LexFault.{LexFault}
+use Rattle.wast_lexer.specs.TokenText.{text_of, is_plain, IsIdFault}
+use Rattle.wast_parser_base.specs.Faults.{problem_of}
+use Rattle.wast_parser_base.specs.Problem.{Problem}
 use Rattle.wast_parser_core.specs.State.{State, ahead, slack, IsNext}
 use Rattle.wast_lexer.specs.Float.{Float as FloatParts}
 use Rattle.wast_lexer.specs.Integer.{Integer as IntegerParts}
@@ -12,7 +14,7 @@ use Rattle.wast_grammar.specs.Tokens.{Name, SignificantToken, Id, Word, Mark, In
 use Rattle.wast_grammar.specs.Significant.{TextToken}
 use Rattle.wast_grammar.specs.Look.{Shape, same_shape}
 use Rattle.wast_grammar.specs.Grammar.{one_of}
-use Rattle.wast_parser_core.specs.Kinds.{shape_of, front_shape}
+use Rattle.wast_parser_core.specs.Kinds.{shape_of, front_shape, is_identifier}
 use Rattle.wast_parser_core.specs.Reading.{Stops, out_of_memory, is_stuck}
 
 -- what a parser has that stands there
@@ -87,21 +89,29 @@ TakesFloat c (Ok (Some (x, d))) = (w : List ℕ) × IsFloatOf w x × TakesOne sa
 TakesFloat c (Ok None) = TakesNone said_float c
 TakesFloat c (Err p) = Stops p (stands c)
 
+-- such a token is in front, in which something is escaped, and there was no memory for what it says
+abbrev pub FindsNoRoom : {Y : Type 0} → (TextToken → Option Y) → Cursor → Problem → Type 0
+FindsNoRoom f c p =
+    (t : Token) × (after : ℕ) × IsNext (stands c) t after × (is_some (one_of f (ahead (stands c))) ≡ true)
+    × (is_plain (text_of (stands c).source.text t) ≡ false) × (p ≡ out_of_memory)
+
 -- the same, where memory may be wanted
 abbrev pub Copies : {X Y : Type 0} → (X → Y) → (TextToken → Option Y) → Cursor → Result (Option (X × Cursor)) Problem → Type 0
 Copies view f c (Ok (Some (x, d))) = TakesOne f c (view x) d
 Copies view f c (Ok None) = TakesNone f c
-Copies view f c (Err p) = (p ≡ out_of_memory) ⊎ Stops p (stands c)
+Copies view f c (Err p) = FindsNoRoom f c p ⊎ Stops p (stands c)
 
--- why an identifier has no name
-abbrev pub IsNameless : Problem → Type 0
-IsNameless p = (p.cause ≡ Lexical EmptyId) ⊎ (p.cause ≡ Lexical InvalidUtf8Id)
+-- an identifier is in front, and this is why it isn't read: it has no name, or there was no memory for what is escaped in it
+abbrev pub RefusesId : Cursor → Problem → Type 0
+RefusesId c p =
+    (t : Token) × (after : ℕ) × (fault : LexFault) × IsNext (stands c) t after × (is_identifier t.kind ≡ true)
+    × IsIdFault (text_of (stands c).source.text t) t.offset fault × (p ≡ problem_of fault)
 
 -- the same of an identifier; one without a name is refused by a lexical error
 abbrev pub TakesId : {X : Type 0} → (X → Name) → Cursor → Result (Option (X × Cursor)) Problem → Type 0
 TakesId view c (Ok (Some (x, d))) = TakesOne said_id c (Some (view x)) d
 TakesId view c (Ok None) = TakesNone said_id c
-TakesId view c (Err p) = (p ≡ out_of_memory) ⊎ (Stops p (stands c) ⊎ ((rest : List TextToken) × (one_of said_id (ahead (stands c)) ≡ Some (None, rest)) × IsNameless p))
+TakesId view c (Err p) = RefusesId c p ⊎ Stops p (stands c)
 
 -- the same, where the cursor behind it alone is answered
 abbrev pub Passes : {Y : Type 0} → (TextToken → Option Y) → Cursor → Result (Option Cursor) Problem → Type 0

@@ -40,10 +40,10 @@ abbrev pub Asks : Result Bool Problem → Source → Option Bool → Type 0
 Asks (Ok b) source asked = asked ≡ Some b
 Asks (Err p) source asked = (asked ≡ None) × IsStop p source
 
--- The same, where a name is kept, for which memory may be wanted.
+-- The same, where the name of what isn't there is kept, for which memory may be wanted.
 abbrev pub LooksFor : Result Bool Problem → Source → Option Bool → Type 0
 LooksFor (Ok b) source asked = asked ≡ Some b
-LooksFor (Err p) source asked = (p ≡ out_of_memory) ⊎ ((asked ≡ None) × IsStop p source)
+LooksFor (Err p) source asked = ((asked ≡ Some false) × (p ≡ out_of_memory)) ⊎ ((asked ≡ None) × IsStop p source)
 
 -- the problem has this message and place, or there was no memory for it
 abbrev pub SaysAt : List ℕ → ℕ → Problem → Type 0
@@ -72,7 +72,7 @@ Leaves after new = (place : ℕ) × (ahead after ≡ Close place ∷ ahead new)
 
 -- what was read within parentheses was refused, or they aren't closed behind it
 abbrev pub IsRefusedWithin : {T : Type 0} → Problem → Result T Problem → State → Type 0
-IsRefusedWithin p (Ok value) after = Refuses p (one_of that_close (ahead after))
+IsRefusedWithin p (Ok value) after = one_of that_close (ahead after) ≡ None
 IsRefusedWithin p (Err q) after = p ≡ q
 
 -- no token can be read here

@@ -1,5 +1,5 @@
 //! Words by how they begin, and numbers as they are written.
-ghost use Rattle.std.specs.Prelude.{◌≡◌, Some, [], ◌∷◌, false, option_map};
+ghost use Rattle.std.specs.Prelude.{◌≡◌, None, OnErr, Some, [], ◌∷◌, false, option_map};
 ghost use Rattle.wast_grammar.specs.Spelling.{after};
 ghost use Rattle.wast_grammar.specs.Look.{ask, On, AWord, Begun};
 ghost use Rattle.wast_grammar.specs.Grammar.{begun, float};
@@ -28,6 +28,7 @@ impl<'a> Parser<'a> {
     pub fn begun(&mut self, prefix: &str) -> Result<(&'a [u8], Span), Error>
         ensures read { Gives (λ x. (x.0.now, x.1)) result self.new ((begun prefix.now (λ w. Some w)).reads (ahead self.old)) }
         ensures keeps { Keeps self.old self.new }
+        ensures exact { OnErr result ((begun prefix.now (λ w. Some w)).reads (ahead self.old) ≡ None) }
     {
         if let Some((token, after)) = self.next()?
             && is_keyword(token.kind)
@@ -43,6 +44,7 @@ impl<'a> Parser<'a> {
     pub fn float(&mut self) -> Result<(&'a str, Span), Error>
         ensures read { Gives (λ x. (x.0.now, x.1)) result self.new (float.reads (ahead self.old)) }
         ensures keeps { Keeps self.old self.new }
+        ensures exact { OnErr result (float.reads (ahead self.old) ≡ None) }
     {
         match self.next()? {
             Some((token, after)) if is_number(token.kind) => {

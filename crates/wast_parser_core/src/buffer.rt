@@ -60,7 +60,7 @@ impl<'a> ParseBuffer<'a> {
         })
     }
 
-    /// Whether the places of instructions are kept; they are not at first.
+    /// Whether the places of instructions are asked for; they are not at first. No call keeps them.
     pub fn track_instr_spans(&mut self, track: bool)
         ensures { self.new ≡ record self.old { track = track } }
     {

@@ -1,11 +1,11 @@
 //! Parentheses.
-ghost use Rattle.std.specs.Prelude.{◌≡◌, ◌+◌, ◌≤◌, ◌⊎◌, [], Ok, IfOk, IfErr, OnErr, OnOk, Result};
+ghost use Rattle.std.specs.Prelude.{◌≡◌, ◌+◌, ◌≤◌, ◌⊎◌, [], Ok, IfOk, IfErr, None, OnErr, OnOk, Result};
 ghost use Rattle.std.specs.Fn.{FnOnceReturnsAtMut};
 ghost use Rattle.wast_grammar.specs.Spelling.{that_open, that_close};
 ghost use Rattle.wast_grammar.specs.Grammar.{one_of, paren, paren_reads};
 ghost use Rattle.wast_parser_base.specs.Problem.{Problem};
 ghost use Rattle.wast_parser_core.specs.State.{State, ahead, slack, Keeps};
-ghost use Rattle.wast_parser_core.specs.Reading.{Gives, Refuses, Enters, Leaves, IsRefusedWithin};
+ghost use Rattle.wast_parser_core.specs.Reading.{Gives, Enters, Leaves, IsRefusedWithin};
 
 use crate::kind::{is_lparen, is_rparen};
 use crate::meaning::Parse;
@@ -25,7 +25,7 @@ impl<'a> Parser<'a> {
         ensures keeps { Keeps self.old self.new }
         ensures ok { IfOk result (λ value. (within after : State) × Enters self.old within × FnOnceReturnsAtMut F.FnOnce f within (Ok value) after × Leaves after self.new) }
         ensures refused { OnErr result (self.new ≡ self.old) }
-        ensures why { IfErr result (λ e. Refuses e (one_of that_open (ahead self.old)) ⊎ ((within after : State) × (r : Result T Problem) × Enters self.old within × FnOnceReturnsAtMut F.FnOnce f within r after × IsRefusedWithin e r after)) }
+        ensures why { IfErr result (λ e. (one_of that_open (ahead self.old) ≡ None) ⊎ ((within after : State) × (r : Result T Problem) × Enters self.old within × FnOnceReturnsAtMut F.FnOnce f within r after × IsRefusedWithin e r after)) }
     {
         let at = self.at;
         let depth = self.depth;
@@ -45,7 +45,7 @@ impl<'a> Parser<'a> {
         requires keeps { (old new : State) (r : Result T Problem) → FnOnceReturnsAtMut F.FnOnce f old r new → Keeps old new }
         ensures keeps { Keeps (record self.old { depth = self.new.depth }) self.new }
         ensures ok { IfOk result (λ value. (within after : State) × Enters self.old within × FnOnceReturnsAtMut F.FnOnce f within (Ok value) after × Leaves after self.new) }
-        ensures why { IfErr result (λ e. Refuses e (one_of that_open (ahead self.old)) ⊎ ((within after : State) × (r : Result T Problem) × Enters self.old within × FnOnceReturnsAtMut F.FnOnce f within r after × IsRefusedWithin e r after)) }
+        ensures why { IfErr result (λ e. (one_of that_open (ahead self.old) ≡ None) ⊎ ((within after : State) × (r : Result T Problem) × Enters self.old within × FnOnceReturnsAtMut F.FnOnce f within r after × IsRefusedWithin e r after)) }
     {
         self.open()?;
         let value = match f(self) {
@@ -93,6 +93,7 @@ impl<'a> Parser<'a> {
         ensures onward { self.old.at ≤ self.new.at }
         ensures tight { slack self.new ≤ slack self.old }
         ensures refused { OnErr result (self.new ≡ self.old) }
+        ensures exact { OnErr result (one_of that_open (ahead self.old) ≡ None) }
     {
         match self.next()? {
             Some((token, after)) if is_lparen(token.kind) => {
@@ -108,6 +109,7 @@ impl<'a> Parser<'a> {
     pub(crate) fn close(&mut self) -> Result<Span, Error>
         ensures read { Gives (λ s. s) result self.new (one_of that_close (ahead self.old)) }
         ensures keeps { Keeps self.old self.new }
+        ensures exact { OnErr result (one_of that_close (ahead self.old) ≡ None) }
     {
         match self.next()? {
             Some((token, after)) if is_rparen(token.kind) => {

@@ -28,8 +28,8 @@
 //! | `Literals`, `Integers`, `Productions`, `Identifiers`, `Marks` | ranges of integers and the numbers that they say, names, identifiers, indices, the annotation that names |
 //! | `Laws` | the statements of the law functions |
 //!
-//! An error that tells of want of memory has no place. What others tell is told of the calls of a cursor; of a text that isn't
-//! read, which message and place they have is promised nowhere.
+//! What is spelled is refused only for want of memory, by an error without a place. What others tell is told of the calls of a
+//! cursor; of a text that isn't read, which message and place they have is promised nowhere.
 #![tactic(auto)]
 
 mod annotation;

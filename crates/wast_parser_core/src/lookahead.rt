@@ -1,8 +1,8 @@
 //! Looking for one of several.
-ghost use Rattle.std.specs.Prelude.{◌≡◌, ◌⊎◌};
+ghost use Rattle.std.specs.Prelude.{◌≡◌, ℕ, List};
 ghost use Rattle.wast_grammar.specs.Look.{ask};
 ghost use Rattle.wast_parser_core.specs.State.{ahead, place_ahead};
-ghost use Rattle.wast_parser_core.specs.Reading.{out_of_memory, LooksFor};
+ghost use Rattle.wast_parser_core.specs.Reading.{LooksFor, SaysAt};
 
 use crate::meaning::Peek;
 use crate::parser::Parser;
@@ -66,7 +66,7 @@ impl<'b, 'a> Lookahead1<'b, 'a> {
 
     /// An error where the next token stands, which names what was looked for, or want of memory for it.
     pub fn error(self) -> Error
-        ensures { (result ≡ out_of_memory) ⊎ (result.place ≡ place_ahead self.entry) }
+        ensures { (text : List ℕ) × SaysAt text (place_ahead self.entry) result }
     {
         match self.message() {
             Ok(text) => Error::new(self.parser.cur_span(), text),

@@ -1,7 +1,7 @@
 //! A parser: the tokens of a text, and how many of them are taken.
-ghost use Rattle.std.specs.Prelude.{◌≡◌, ◌≢◌, ◌≤◌, ◌+◌, ◌⊎◌, ℕ, [], ◌∷◌, Some, None, Ok, IfOk, IfErr, IfSome, OnErr, OnOk, length, option_map, slice_get, true, Err};
+ghost use Rattle.std.specs.Prelude.{◌≡◌, ◌≢◌, ◌≤◌, ◌+◌, ◌⊎◌, ℕ, [], ◌∷◌, Some, None, Ok, IfOk, IfErr, IfSome, OnErr, OnOk, length, option_map, slice_get, Err};
 ghost use Rattle.wast_lexer.specs.TokenText.{IsOf};
-ghost use Rattle.wast_parser_base.specs.Problem.{is_memory, Said};
+ghost use Rattle.wast_parser_base.specs.Problem.{Said};
 ghost use Rattle.wast_parser_core.specs.State.{State, start, ahead, knowing, past, Moves, KeepsWith, place_ahead, place_behind, stop};
 ghost use Rattle.wast_parser_core.specs.declared.cursor.Cursor.{Cursor};
 ghost use Rattle.wast_parser_core.specs.Reading.{out_of_memory, ReadsAll, ReadsNotAll, Gives, Asks, ShowsNext, IsStop, SaysAt, ends_here};
@@ -196,7 +196,7 @@ impl<'a> Parser<'a> {
     /// Whether the text ends here: refused where a significant token is left, or where none can be read.
     pub fn end(&self) -> Result<(), Error>
         ensures ends { OnOk result (ahead self.now ≡ []) }
-        ensures left { IfErr result (λ e. (is_memory e.cause ≡ true) ⊎ (ahead self.now ≢ [])) }
+        ensures left { OnErr result (ahead self.now ≢ []) }
     {
         match self.next()? {
             None => Ok(()),

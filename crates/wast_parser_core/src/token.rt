@@ -1,5 +1,5 @@
 //! Single tokens.
-ghost use Rattle.std.specs.Prelude.{◌≡◌, ◌++◌, [], Some, MatchResult, true, codes};
+ghost use Rattle.std.specs.Prelude.{◌≡◌, ◌++◌, [], None, OnErr, Some, MatchResult, true, codes};
 ghost use Rattle.std.specs.Cow.{cow_str_bytes};
 ghost use Rattle.wast_lexer.specs.declared.token.TokenKind.TheVariants as kinds;
 ghost use Rattle.wast_lexer.specs.NumberParts.{IsIntegerOf};
@@ -26,6 +26,7 @@ impl<'a> Parser<'a> {
     pub fn word(&mut self, text: &str) -> Result<Span, Error>
         ensures read { Gives (λ s. s) result self.new ((word text.now).reads (ahead self.old)) }
         ensures keeps { Keeps self.old self.new }
+        ensures exact { OnErr result ((word text.now).reads (ahead self.old) ≡ None) }
     {
         match self.next()? {
             Some((token, after)) if is_keyword(token.kind) && text == token.src(self.text()) => {
@@ -67,6 +68,7 @@ impl<'a> Parser<'a> {
     pub fn mark(&mut self, text: &str) -> Result<Span, Error>
         ensures read { Gives (λ s. s) result self.new ((mark text.now).reads (ahead self.old)) }
         ensures keeps { Keeps self.old self.new }
+        ensures exact { OnErr result ((mark text.now).reads (ahead self.old) ≡ None) }
     {
         match self.next()? {
             Some((token, after)) if is_annotation(token.kind) => {
@@ -85,6 +87,7 @@ impl<'a> Parser<'a> {
     pub fn literal(&mut self, most: u64, least: Option<u64>) -> Result<((bool, u64), Span), Error>
         ensures read { Gives (λ x. (literal_from x.0, x.1)) result self.new ((ranged most least).reads (ahead self.old)) }
         ensures keeps { Keeps self.old self.new }
+        ensures exact { OnErr result ((ranged most least).reads (ahead self.old) ≡ None) }
     {
         match self.next()? {
             Some((token, after)) => {

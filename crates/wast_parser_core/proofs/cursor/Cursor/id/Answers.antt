@@ -1,4 +1,4 @@
-use Rattle.std.proofs.Common.{◌≤◌, ◌≢◌, [], subst, sym, ◌∙◌, ap, Ok, Some, inl, inr, arith}
+use Rattle.std.proofs.Common.{◌≤◌, ◌≢◌, [], subst, sym, ◌∙◌, ap, Ok, Some, inl, arith}
 use Rattle.std.specs.Prelude.{option_map}
 use Rattle.std.specs.Str.{IsUtf8}
 use Rattle.std.specs.Cow.{cow_str_bytes}
@@ -6,10 +6,10 @@ use Rattle.wast_lexer.specs.Kinds.{IsIdOf}
 use Rattle.wast_lexer.specs.TokenText.{text_of, IsIdFault}
 use Rattle.wast_grammar.specs.Tokens.{as_read, id_name}
 use Rattle.wast_grammar.proofs.TextLaws.{id_named}
-use Rattle.wast_parser_core.proofs.Texts.{is_id, nameless}
+use Rattle.wast_parser_core.proofs.Texts.{is_id}
 use Rattle.wast_parser_core.specs.Kinds.{wanted}
 use Rattle.wast_parser_core.specs.State.{State, ahead, slack}
-use Rattle.wast_parser_core.specs.Cursors.{stands, FindsKind, IsNameless}
+use Rattle.wast_parser_core.specs.Cursors.{stands, FindsKind}
 use Rattle.wast_parser_core.specs.declared.kind.Wanted.TheVariants.{Id}
 use Rattle.wast_parser_core.proofs.Wants.{next_id, no_id, identifier}
 use Rattle.wast_parser_core.proofs.cursor.Cursor.id.Goals as goal
@@ -32,15 +32,11 @@ returns-in-Ok c =
 
 pub returns-in-Err : goal.returns-in-Err
 returns-in-Err c =
-    let s = stands c.args.self in
     let t = c.in-Some.token in
     let d = c.in-Some.rest in
     let next = subst (λ o. FindsKind (wanted Id) c.args.self (Ok o)) c.in-Some.is c.in_ok-token.ensures in
-    let fault = subst (λ x. IsIdFault (text_of x t) t.offset c.in-Err.fault) c.text.ensures c.in-Err.ensures.err in
-    elim (nameless s.source.text t c.in-Err.fault next.0.own (identifier t.kind next.2) fault) [
-      | inl m ↦ inl (c.from_fault.ensures ∙ m)
-      | inr n ↦ inr (inr (_, next_id s t d.at next.0 next.2 ∙ ap (λ w. Some (option_map as_read w, ahead (record s { at = d.at }))) n.0, subst IsNameless (sym c.from_fault.ensures) n.1))
-    ]
+    let why = subst (λ x. IsIdFault (text_of x t) t.offset c.in-Err.fault) c.text.ensures c.in-Err.ensures.err in
+    inl (t, d.at, c.in-Err.fault, next.0, identifier t.kind next.2, why, c.from_fault.ensures)
 
 pub returns-in-None : goal.returns-in-None
 returns-in-None c =

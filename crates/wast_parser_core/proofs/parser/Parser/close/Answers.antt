@@ -6,12 +6,15 @@ use Rattle.wast_parser_core.proofs.Fronts.{not_close}
 use Rattle.wast_parser_core.proofs.parser.Parser.close.Goals.{in_default-via-in-Some+else-is_rparen, in_default-via-in_default}
 use Rattle.wast_parser_core.proofs.parser.Parser.close.Goals as goal
 
-pub returns-in_default-clause-read : goal.returns-in_default-clause-read
-returns-in_default-clause-read c =
+pub returns-in_default-clause-exact : goal.returns-in_default-clause-exact
+returns-in_default-clause-exact c =
     let s = c.args.self.now in
-    inr (elim c.in_default.branch [
+    elim c.in_default.branch [
       | in_default-via-in-Some+else-is_rparen w ↦
           let next = subst (λ o. ShowsNext (Ok o) s) w.in-Some.is c.in_ok-token.ensures in
           not_close s w.in-Some.token w.in-Some.after next (sym w.is_rparen.ensures ∙ w.if-is_rparen.false)
       | in_default-via-in_default w ↦ (let none = subst (λ o. ShowsNext (Ok o) s) w.in_default.is c.in_ok-token.ensures in ap (one_of that_close) none)
-    ])
+    ]
+
+pub returns-in_default-clause-read : goal.returns-in_default-clause-read
+returns-in_default-clause-read c = inr (returns-in_default-clause-exact c)

@@ -23,7 +23,7 @@ returns-in-Err-close-clause-keeps g c =
 pub returns-in-Err-close-clause-why : goal.returns-in-Err-close-clause-why
 returns-in-Err-close-clause-why g c =
     let enters : Enters c.args.self.now c.open.new.self = record { place = c.in_ok-open.field-0; opens = opened _ _ _ c.in_ok-open.ensures.read; deeper = c.in_ok-open.ensures.ok; tight = c.open.ensures.tight } in
-    inr (c.open.new.self, c.f.new.arg2, Ok c.in-Ok.value, enters, search rules, c.in-Err-close.ensures.read)
+    inr (c.open.new.self, c.f.new.arg2, Ok c.in-Ok.value, enters, search rules, c.in-Err-close.ensures.exact)
 
 pub returns-in-Ok-close-clause-keeps : goal.returns-in-Ok-close-clause-keeps
 returns-in-Ok-close-clause-keeps g c =

@@ -7,10 +7,10 @@ use Rattle.wast_parser_core.proofs.Words.{not_word, other_word}
 use Rattle.wast_parser_core.proofs.parser.Parser.word.Goals.{in_default-via-in-Some+then-is_keyword+else-eq, in_default-via-in-Some+else-is_keyword, in_default-via-in_default}
 use Rattle.wast_parser_core.proofs.parser.Parser.word.Goals as goal
 
-pub returns-in_default-clause-read : goal.returns-in_default-clause-read
-returns-in_default-clause-read c =
+pub returns-in_default-clause-exact : goal.returns-in_default-clause-exact
+returns-in_default-clause-exact c =
     let s = c.args.self.now in
-    inr (elim c.in_default.branch [
+    elim c.in_default.branch [
       | in_default-via-in-Some+then-is_keyword+else-eq w ↦
           let next = subst (λ o. ShowsNext (Ok o) s) w.in-Some.is c.in_ok-after.ensures in
           let t = w.in-Some.token in
@@ -20,4 +20,7 @@ returns-in_default-clause-read c =
           let next = subst (λ o. ShowsNext (Ok o) s) w.in-Some.is c.in_ok-after.ensures in
           not_word c.args.text.now s w.in-Some.token w.in-Some.after next (sym w.is_keyword.ensures ∙ w.if-is_keyword.false)
       | in_default-via-in_default w ↦ (let none = subst (λ o. ShowsNext (Ok o) s) w.in_default.is c.in_ok-after.ensures in ap (one_of (that_one c.args.text.now)) none)
-    ])
+    ]
+
+pub returns-in_default-clause-read : goal.returns-in_default-clause-read
+returns-in_default-clause-read c = inr (returns-in_default-clause-exact c)
