@@ -1,5 +1,5 @@
 //! The encoder of WebAssembly modules (WebAssembly Core Specification 3.0, chapter 5): a [`Module`], its sections, and what
-//! they hold. It hands on the crates that it stands on.
+//! they hold. It hands on what its users need of the crates that it stands on.
 //!
 //! A section is a list of items, built by calls that append one. Each answers `Added`, which holds the section for a
 //! further call; those of `CoreTypeEncoder` answer nothing. A call refuses with `EncodeError::TooLarge` exactly where,
@@ -32,7 +32,9 @@
 //! ```
 //!
 //! The order of sections, that each stands once, the ranges of indices and the validity of a module are left to the
-//! caller. That the items of a section are told apart by their bytes is proved in [`laws`].
+//! caller. That what a section of a kind holds (of a custom section, its name and its data) is told apart by its bytes,
+//! where no item is given as bytes and each expression in the items closes the blocks that it opens and no other, is
+//! proved in [`laws`].
 #![tactic(auto)]
 
 pub mod laws;

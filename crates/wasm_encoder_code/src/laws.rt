@@ -3,6 +3,8 @@
 
 ghost use Rattle.wasm_encoder_code.specs.Laws.{OneBody, OneExpression, LocalsJoined, PairsAreBody, RunsJoined, PlaceBegins};
 
+pub use wasm_encoder_instr::laws::listed;
+
 /// A body has one byte string, and one byte string is that of at most one body.
 pub fn one_body()
     ensures { OneBody }

@@ -17,7 +17,8 @@
 //!
 //! The laws: [`laws::one_body`] and [`laws::one_expression`], bodies and expressions are told apart by their bytes;
 //! [`laws::runs`], joined locals are the runs of these locals; [`laws::bodies`], what [`Function::new`] makes of runs
-//! begins a body; [`laws::places`], where an instruction of a body begins.
+//! begins a body; [`laws::places`], where an instruction of a body begins; [`laws::listed`], each instruction is that of
+//! an entry of the table of instructions.
 #![tactic(auto)]
 
 mod const_expr;

@@ -15,7 +15,8 @@
 //! ```
 //!
 //! The order of sections and subsections, rising indices, distinct names and the flags of symbols are left to the caller.
-//! That what is added is told apart by its bytes, save in a linking section, is proved in [`laws`].
+//! That what is added is told apart by its bytes, save in a linking section and by [`NameSection::raw`], and that the
+//! constants of [`SymbolTable`] are the flags of the tool conventions, is proved in [`laws`].
 #![tactic(auto)]
 
 mod branch_hints;

@@ -1,4 +1,5 @@
--- Each instruction's opcode is that of an entry of the table with its mnemonic, with operands of its kind.
+-- Each instruction's opcode is that of an entry of the table with its mnemonic, with operands of its kind; tests and casts have
+-- the entries of their nullability.
 use Rattle.std.proofs.Common.{refl}
 use Rattle.wasm_encoder_base.specs.Leb.{uleb, leb, digits}
 use Rattle.wasm_encoder_base.specs.Table.{table, entry_at}
@@ -11,6 +12,7 @@ use Rattle.wasm_encoder_instr.specs.declared.gc.GcOp.TheVariants as gc_ops
 use Rattle.wasm_encoder_instr.specs.VectorArg.{vector_arg_mnemonic, vector_arg_view}
 use Rattle.wasm_encoder_instr.specs.declared.vector_arg.VectorArgOp.TheVariants as vector_arg_ops
 use Rattle.wasm_encoder_instr.specs.Instruction.{instr_mnemonic, instr_view}
+use Rattle.wasm_encoder_instr.specs.Laws.{NullabilityListed}
 use Rattle.wasm_encoder_instr.specs.declared.instruction.Instruction.TheVariants as variants
 
 bulk_listed : AreListed bulk_mnemonic (λ op. (bulk_view op).opcode) (λ op. kind_of (bulk_view op).operands)
@@ -44,3 +46,7 @@ all_listed (variants.Bulk op) = bulk_listed op
 all_listed (variants.Gc op) = gc_listed op
 all_listed (variants.VectorArg op) = vector_arg_listed op
 all_listed _ = record { named = refl; operands = refl }
+
+pub nullability_listed : NullabilityListed
+unfolding entry_at table uleb leb digits
+nullability_listed = record { test_non_null = λ h. refl; test_nullable = λ h. refl; cast_non_null = λ h. refl; cast_nullable = λ h. refl }

@@ -14,7 +14,7 @@
 //! leaves the byte `9F` in `sink`.
 //!
 //! The law: [`laws::listed`], the table's entry of each instruction's opcode has the instruction's mnemonic, and operands
-//! of its kind.
+//! of its kind; of the entries of `ref.test` and `ref.cast`, those with null are the nullable ones'.
 #![tactic(auto)]
 
 mod block;

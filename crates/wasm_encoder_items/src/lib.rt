@@ -1,7 +1,7 @@
 //! What the sections of a module hold: the types of tables, memories, globals and tags, imports, exports and segments
 //! (WebAssembly Core Specification 3.0, 5.3 and 5.5).
 //!
-//! It is the lower part of `wasm_encoder`, which hands on all that is here.
+//! It is the lower part of `wasm_encoder`, which hands on what its users need.
 #![tactic(auto)]
 
 mod copies;

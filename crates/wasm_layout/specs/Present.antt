@@ -11,7 +11,7 @@ abbrev pub has_any : {A : Type 0} → List A → Bool
 has_any [] = false
 has_any (x ∷ xs) = true
 
--- memory.init, data.drop, array.new_data and array.init_data need the count of data segments (5.5.16)
+-- memory.init, data.drop, array.new_data and array.init_data need the count of data segments (5.5.15)
 abbrev pub data_opcodes : List (List ℕ)
 data_opcodes = (0xFC ∷ 8 ∷ []) ∷ (0xFC ∷ 9 ∷ []) ∷ (0xFB ∷ 9 ∷ []) ∷ (0xFB ∷ 18 ∷ []) ∷ []
 
