@@ -22,6 +22,7 @@ pub fn join<N: Drop, T: Drop>(
     for group in groups {
         append(&mut all, group.value.items)?;
     }
+    all.shrink_to_fit();
     Ok(all)
 }
 

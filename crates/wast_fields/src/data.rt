@@ -11,6 +11,7 @@ ghost use Rattle.wast_fields.specs.DataSyntax.{active_starts, active, segment, d
 ghost use Rattle.wast_fields.specs.FieldViews.{mode_tree, data_tree};
 
 use crate::keyword::Offset;
+use crate::list::full_list;
 use crate::look::{InstructionGroup, or_begins};
 use crate::segment::{UseOf, parse_use};
 use wast_core_instr::Expression;
@@ -18,9 +19,7 @@ use wast_data::DataVal;
 use wast_exports::keyword;
 use wast_imports::Head;
 use wast_lexer::Span;
-use wast_parser::{
-    Error, Id, Index, LParen, Meaning, NameAnnotation, Parse, Parser, RParen, list_of,
-};
+use wast_parser::{Error, Id, Index, LParen, Meaning, NameAnnotation, Parse, Parser, RParen};
 use wast_value_types::Group;
 
 /// A data segment (6.6.12): `(data (i32.const 8) "bytes")`.
@@ -84,7 +83,7 @@ fn parse_segment<'a>(parser: &mut Parser<'a>) -> Result<(DataKind<'a>, Vec<DataV
     if peek_active(parser)? {
         parse_active(parser)
     } else {
-        let data = list_of(parser)?;
+        let data = full_list(parser)?;
         Ok((DataKind::Passive, data))
     }
 }
@@ -105,6 +104,6 @@ fn parse_active<'a>(parser: &mut Parser<'a>) -> Result<(DataKind<'a>, Vec<DataVa
 {
     let memory = parse_use::<keyword::Memory>(parser)?;
     let offset = Expression::parse_offset(parser)?;
-    let data = list_of(parser)?;
+    let data = full_list(parser)?;
     Ok((DataKind::Active { memory, offset }, data))
 }

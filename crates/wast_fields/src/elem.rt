@@ -12,6 +12,7 @@ ghost use Rattle.wast_fields.specs.ElemViews.{elements_tree, mode_tree, elem_tre
 
 use crate::element::{parse_elements, parse_led_or_plain};
 use crate::keyword::{Declare, Offset};
+use crate::list::full_list;
 use crate::look::or_begins;
 use crate::segment::parse_use;
 use wast_core_instr::Expression;
@@ -20,7 +21,7 @@ use wast_exports::keyword::{Func, Table};
 use wast_imports::Head;
 use wast_lexer::Span;
 use wast_parser::{
-    Error, Id, Index, Keyword, LParen, Meaning, NameAnnotation, Parse, Parser, RParen, list_of,
+    Error, Id, Index, Keyword, LParen, Meaning, NameAnnotation, Parse, Parser, RParen,
 };
 
 /// An element segment (6.6.11).
@@ -126,7 +127,7 @@ fn parse_copied<'a>(parser: &mut Parser<'a>) -> Result<ElemPayload<'a>, Error>
     if peek_list(parser)? {
         parse_list(parser)
     } else {
-        let indices = list_of(parser)?;
+        let indices = full_list(parser)?;
         Ok(ElemPayload::Indices(indices))
     }
 }
@@ -145,7 +146,7 @@ fn parse_list<'a>(parser: &mut Parser<'a>) -> Result<ElemPayload<'a>, Error>
 {
     if parser.peek::<Keyword<Func>>()? {
         parser.word("func")?;
-        let indices = list_of(parser)?;
+        let indices = full_list(parser)?;
         Ok(ElemPayload::Indices(indices))
     } else {
         let ty = RefType::parse(parser)?;

@@ -22,6 +22,7 @@ mod func;
 mod global;
 pub mod keyword;
 pub mod laws;
+mod list;
 mod local;
 mod look;
 mod memory;

@@ -77,7 +77,7 @@ fn in_groups<'a>(parser: &mut Parser<'a>) -> Result<Vec<Param<'a>>, Error>
 fn locals_of<'a>(alloc: Global, params: Vec<Param<'a>>) -> Result<Vec<Local<'a>>, AllocError>
     ensures { IfOk result (λ locals. map local_tree locals.items ≡ map param_tree params.entry.items) }
 {
-    let mut locals = Vec::new(alloc);
+    let mut locals = Vec::with_capacity(alloc, params.len())?;
     for (id, name, ty) in params {
         locals.push(Local { id, name, ty })?;
     }

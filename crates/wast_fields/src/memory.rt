@@ -14,13 +14,14 @@ ghost use Rattle.wast_fields.specs.DataSyntax.{values};
 ghost use Rattle.wast_fields.specs.TableSyntax.{sizes, as_sized_memory, memory_with, memory_defined, memory};
 ghost use Rattle.wast_fields.specs.FieldViews.{defined_memory, memory_definition};
 
+use crate::list::full_list;
 use crate::sizes::parse_sizes;
 use wast_core_types::{Limits, MemoryType, page_size};
 use wast_data::DataVal;
 use wast_exports::{InlineExport, InlineImport};
 use wast_imports::Head;
 use wast_lexer::Span;
-use wast_parser::{Error, Id, LParen, Meaning, NameAnnotation, Parse, Parser, RParen, list_of};
+use wast_parser::{Error, Id, LParen, Meaning, NameAnnotation, Parse, Parser, RParen};
 use wast_value_types::keyword::Shared;
 use wast_value_types::{address_type, optional};
 
@@ -146,7 +147,7 @@ fn parse_data<'a>(parser: &mut Parser<'a>) -> Result<Vec<DataVal<'a>>, Error>
 {
     LParen::parse(parser)?;
     parser.word("data")?;
-    let data = list_of(parser)?;
+    let data = full_list(parser)?;
     RParen::parse(parser)?;
     Ok(data)
 }

@@ -14,15 +14,14 @@ ghost use Rattle.wast_fields.specs.ElemViews.{elements_tree, defined_table, tabl
 
 use crate::elem::ElemPayload;
 use crate::element::{parse_elements, peek_element};
+use crate::list::full_list;
 use crate::sizes::parse_sizes;
 use wast_core_instr::Expression;
 use wast_core_types::{Limits, RefType, TableType};
 use wast_exports::{InlineExport, InlineImport};
 use wast_imports::Head;
 use wast_lexer::Span;
-use wast_parser::{
-    Error, Id, Keyword, LParen, Meaning, NameAnnotation, Parse, Parser, RParen, list_of,
-};
+use wast_parser::{Error, Id, Keyword, LParen, Meaning, NameAnnotation, Parse, Parser, RParen};
 use wast_value_types::address_type;
 use wast_value_types::keyword::Shared;
 
@@ -205,7 +204,7 @@ fn parse_payload<'a>(parser: &mut Parser<'a>, ty: RefType<'a>) -> Result<ElemPay
         let exprs = parse_elements(parser)?;
         Ok(ElemPayload::Exprs { ty, exprs })
     } else {
-        let indices = list_of(parser)?;
+        let indices = full_list(parser)?;
         Ok(ElemPayload::Indices(indices))
     }
 }
