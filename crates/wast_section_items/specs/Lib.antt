@@ -1,5 +1,6 @@
 pub mod Appends
 pub mod Fits
+pub mod One
 pub mod Parts
 pub mod Ready
 pub mod Sound

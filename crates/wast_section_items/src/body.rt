@@ -25,6 +25,7 @@ ghost use Rattle.wast_meant.specs.Covered.{expr_forms};
 ghost use Rattle.wast_meant.specs.FieldsMeant.{expr_meant, functions_of};
 ghost use Rattle.wast_section_items.specs.Appends.{Appends};
 ghost use Rattle.wast_section_items.specs.Fits.{BodyFits};
+ghost use Rattle.wast_section_items.specs.One.{one_func};
 ghost use Rattle.wast_section_items.specs.Ready.{ExprReady, FieldReady};
 ghost use Rattle.wast_section_items.specs.Sound.{BodySound};
 
@@ -60,6 +61,8 @@ impl SectionItem for FuncBody<'_, '_> {
     ghost items = { λ f. functions_of (func_definition f.0.now).defined };
 
     ghost Ready = { λ f. FieldReady (Define (func_definition f.0.now)) };
+
+    ghost one = { λ f. one_func f.0.now };
 
     ghost listed = { λ section. section };
 

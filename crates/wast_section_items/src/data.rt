@@ -1,5 +1,5 @@
 //! Data segments.
-ghost use Rattle.std.specs.Prelude.{◌≡◌, [], ◌∷◌, List, IfOk, map, option_map};
+ghost use Rattle.std.specs.Prelude.{◌≡◌, [], ◌∷◌, List, IfOk, map, option_map, refl};
 ghost use Rattle.std.specs.List.{flat_map};
 ghost use Rattle.wasm_encoder_base.specs.Instr.{Instr, expr_bytes};
 ghost use Rattle.wasm_encoder_items.specs.Segments as segments;
@@ -48,6 +48,8 @@ impl SectionItem for Data<'_> {
     ghost items = { λ d. datas_of (DataField (data_tree d)) };
 
     ghost Ready = { λ d. FieldReady (DataField (data_tree d)) };
+
+    ghost one = { λ x ready. (_, refl) };
 
     ghost listed = { λ section. section };
 

@@ -1,5 +1,5 @@
 //! Element segments.
-ghost use Rattle.std.specs.Prelude.{◌≡◌, [], ◌∷◌, All, List, map, IfOk, OnOk, IsErrOf};
+ghost use Rattle.std.specs.Prelude.{◌≡◌, [], ◌∷◌, All, List, map, IfOk, OnOk, IsErrOf, refl};
 ghost use Rattle.std.specs.List.{flat_map, AllByRecursion};
 ghost use Rattle.wasm_encoder_base.specs.Instr.{Instr, instr_bytes, expr_bytes};
 ghost use Rattle.wasm_encoder_code.specs.Laws.{IsExpression};
@@ -55,6 +55,8 @@ impl SectionItem for Elem<'_> {
     ghost items = { λ e. elements_of (ElemField (elem_tree e)) };
 
     ghost Ready = { λ e. FieldReady (ElemField (elem_tree e)) };
+
+    ghost one = { λ x ready. (_, refl) };
 
     ghost listed = { λ section. section };
 

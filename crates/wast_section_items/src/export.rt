@@ -1,4 +1,5 @@
 //! Exports.
+ghost use Rattle.std.specs.Prelude.{refl};
 ghost use Rattle.wasm_encoder_items.specs.Imports as binary;
 ghost use Rattle.wasm_encoder_items.specs.Imports.{export_bytes};
 ghost use Rattle.wasm_layout.specs.IsModule.{IsExport};
@@ -34,6 +35,8 @@ impl SectionItem for Export<'_> {
     ghost items = { λ e. exports_of (ExportField (export_tree e)) };
 
     ghost Ready = { λ e. FieldReady (ExportField (export_tree e)) };
+
+    ghost one = { λ x ready. (_, refl) };
 
     ghost listed = { λ section. section };
 

@@ -5,6 +5,7 @@ ghost use Rattle.wast_fields.specs.FieldTree.{Define};
 ghost use Rattle.wast_fields.specs.FieldViews.{func_definition};
 ghost use Rattle.wast_meant.specs.FieldsMeant.{functions_of};
 ghost use Rattle.wast_section_items.specs.Fits.{NoCounts};
+ghost use Rattle.wast_section_items.specs.One.{one_func};
 ghost use Rattle.wast_section_items.specs.Ready.{FieldReady};
 ghost use Rattle.wast_section_items.specs.Sound.{TypeSound};
 ghost use Rattle.wasm_layout.specs.AbstractModule as abstract;
@@ -35,6 +36,8 @@ impl SectionItem for Func<'_> {
     ghost items = { λ f. functions_of (func_definition f).defined };
 
     ghost Ready = { λ f. FieldReady (Define (func_definition f)) };
+
+    ghost one = { one_func };
 
     ghost listed = { λ section. section };
 

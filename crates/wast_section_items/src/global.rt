@@ -15,6 +15,7 @@ ghost use Rattle.wast_meant.specs.Covered.{expr_forms};
 ghost use Rattle.wast_meant.specs.FieldsMeant.{expr_meant, globals_of};
 ghost use Rattle.wast_section_items.specs.Appends.{Appends};
 ghost use Rattle.wast_section_items.specs.Fits.{GlobalFits};
+ghost use Rattle.wast_section_items.specs.One.{one_global};
 ghost use Rattle.wast_section_items.specs.Ready.{ConstantReady, FieldReady};
 
 use crate::adding::add_global;
@@ -46,6 +47,8 @@ impl SectionItem for GlobalField<'_> {
     ghost items = { λ g. globals_of (global_definition g).defined };
 
     ghost Ready = { λ g. FieldReady (Define (global_definition g)) };
+
+    ghost one = { one_global };
 
     ghost listed = { λ section. section };
 

@@ -1,5 +1,5 @@
 //! Imports, one by one and in groups.
-ghost use Rattle.std.specs.Prelude.{◌≡◌, [], All, IfOk, OnOk, map};
+ghost use Rattle.std.specs.Prelude.{◌≡◌, [], All, IfOk, OnOk, map, refl};
 ghost use Rattle.std.specs.List.{flat_map, AllByRecursion};
 ghost use Rattle.wasm_encoder_items.specs.Imports as binary;
 ghost use Rattle.wasm_encoder_items.specs.Imports.{imports_bytes};
@@ -42,6 +42,8 @@ impl SectionItem for Imports<'_> {
     ghost items = { λ i. imports_of (ImportField (imports_tree i)) };
 
     ghost Ready = { λ i. FieldReady (ImportField (imports_tree i)) };
+
+    ghost one = { λ x ready. (_, refl) };
 
     ghost listed = { λ section. section };
 

@@ -2,12 +2,13 @@
 ghost use Rattle.std.specs.Prelude.{List, ℕ};
 ghost use Rattle.wasm_encoder_base.specs.Lists.{Listed};
 ghost use Rattle.wast_section_items.specs.Appends.{Appends};
+ghost use Rattle.wast_section_items.specs.One.{IsOne};
 
 use std::alloc::Global;
 use wasm_encoder_base::EncodeError;
 use wast_customs::CustomPlaceAnchor;
 
-/// What stands in a section.
+/// What stands in a section: an item of it.
 pub trait SectionItem {
     /// The section of the encoder.
     type Section;
@@ -24,10 +25,12 @@ pub trait SectionItem {
 
     ghost Sound: { Item → Type 0 };
 
-    /// The items that this one stands for.
+    /// What it stands for: one item, where it can be encoded.
     ghost items: { Self → List Item };
 
     ghost Ready: { Self → Type 0 };
+
+    ghost one: { (x : Self) → Ready x → IsOne (items x) };
 
     ghost listed: { Self.Section → Listed };
 

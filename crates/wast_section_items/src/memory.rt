@@ -5,6 +5,7 @@ ghost use Rattle.wast_fields.specs.FieldTree.{Define};
 ghost use Rattle.wast_fields.specs.FieldViews.{memory_definition};
 ghost use Rattle.wast_meant.specs.FieldsMeant.{memories_of};
 ghost use Rattle.wast_section_items.specs.Fits.{NoCounts};
+ghost use Rattle.wast_section_items.specs.One.{one_memory};
 ghost use Rattle.wast_section_items.specs.Ready.{FieldReady};
 
 use crate::adding::add_memory;
@@ -33,6 +34,8 @@ impl SectionItem for Memory<'_> {
     ghost items = { λ m. memories_of (memory_definition m).defined };
 
     ghost Ready = { λ m. FieldReady (Define (memory_definition m)) };
+
+    ghost one = { one_memory };
 
     ghost listed = { λ section. section };
 

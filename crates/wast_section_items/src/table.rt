@@ -16,6 +16,7 @@ ghost use Rattle.wast_meant.specs.Covered.{expr_forms};
 ghost use Rattle.wast_meant.specs.FieldsMeant.{expr_meant, table_of, tables_of};
 ghost use Rattle.wast_section_items.specs.Appends.{Appends};
 ghost use Rattle.wast_section_items.specs.Fits.{TableFits};
+ghost use Rattle.wast_section_items.specs.One.{one_table};
 ghost use Rattle.wast_section_items.specs.Ready.{ConstantReady, FieldReady};
 
 use crate::adding::{add_table, add_table_with_init};
@@ -47,6 +48,8 @@ impl SectionItem for Table<'_> {
     ghost items = { λ t. tables_of (table_definition t).defined };
 
     ghost Ready = { λ t. FieldReady (Define (table_definition t)) };
+
+    ghost one = { one_table };
 
     ghost listed = { λ section. section };
 

@@ -9,6 +9,7 @@ ghost use Rattle.wast_conversions.specs.Types.{use_meant};
 ghost use Rattle.wast_conversions.specs.Resolved.{UseResolved};
 ghost use Rattle.wast_meant.specs.FieldsMeant.{tags_of};
 ghost use Rattle.wast_section_items.specs.Fits.{NoCounts};
+ghost use Rattle.wast_section_items.specs.One.{one_tag};
 ghost use Rattle.wast_section_items.specs.Ready.{FieldReady};
 
 use crate::adding::add_tag;
@@ -39,6 +40,8 @@ impl SectionItem for Tag<'_> {
     ghost items = { λ t. tags_of (tag_definition t).defined };
 
     ghost Ready = { λ t. FieldReady (Define (tag_definition t)) };
+
+    ghost one = { one_tag };
 
     ghost listed = { λ section. section };
 

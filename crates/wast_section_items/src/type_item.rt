@@ -1,5 +1,5 @@
 //! Types and groups of types.
-ghost use Rattle.std.specs.Prelude.{◌≡◌, [], All, IfOk, OnOk, map};
+ghost use Rattle.std.specs.Prelude.{◌≡◌, [], All, IfOk, OnOk, map, refl};
 ghost use Rattle.std.specs.List.{flat_map, AllByRecursion};
 ghost use Rattle.wasm_encoder_base.specs.Types.{IsSubType};
 ghost use Rattle.wasm_encoder_base.specs.Views.{sub_view};
@@ -41,6 +41,8 @@ impl SectionItem for TypeItem<'_> {
 
     ghost Ready = { λ t. FieldReady (TypeField (item_tree t)) };
 
+    ghost one = { λ x ready. (_, refl) };
+
     ghost listed = { λ section. section };
 
     fn encode(&self, alloc: Global, section: &mut TypeSection) -> Result<(), EncodeError> {
@@ -68,6 +70,8 @@ impl SectionItem for Rec<'_> {
     ghost items = { λ r. types_of (RecField (rec_tree r)) };
 
     ghost Ready = { λ r. FieldReady (RecField (rec_tree r)) };
+
+    ghost one = { λ x ready. (_, refl) };
 
     ghost listed = { λ section. section };
 
