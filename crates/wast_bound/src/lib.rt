@@ -10,12 +10,8 @@
 //!
 //! # What has to be believed
 //!
-//! | File of `specs/` | Says |
-//! |---|---|
-//! | `Bound` | which names are made up |
-//!
-//! What a field keeps to is the definitions' own, those of `wast_meaning`'s file `WellFormed`. The rest of `Bound`, and `Places`, serve
-//! private contracts.
+//! Which names are made up is said by `wast_meaning`'s file `Made`, what a field keeps to by its file `WellFormed`, and what a module keeps
+//! to by its file `Modules`. The files of this crate, `Bound` and `Places`, serve private contracts.
 #![tactic(auto)]
 
 mod body;

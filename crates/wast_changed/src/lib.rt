@@ -2,8 +2,7 @@
 //!
 //! [`Changing`] says what becomes of an index, and each `change_` function answers a tree with that in its indices' place:
 //! types, type uses, operands, instructions ([`change_instruction`]), imports ([`change_imports`]). What stands in lists is
-//! [`Changed`], and [`change_list`] rewrites a list. Lists and boxes are made anew, so want of memory is the only refusal; what
-//! has neither is answered as it is.
+//! [`Changed`], and [`change_list`] rewrites a list. Lists and boxes are made anew, so want of memory is the only refusal.
 //!
 //! # What has to be believed
 //!

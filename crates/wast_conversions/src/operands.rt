@@ -150,7 +150,7 @@ fn mem_arg_target(target: &Option<MemArgTarget<'_>>) -> wasm_encoder_instr::MemA
     }
 }
 
-/// The type of a block (6.5.2): the number of one, where it is written or several values stand in it, else no result or one.
+/// The type of a block (6.5.2): the number of one, where it is written, or parameters or several results are; else no result or one.
 pub fn block_type(ty: &BlockType<'_>) -> wasm_encoder_instr::BlockType
     requires resolved { BlockResolved (block_tree ty.now).type_use }
     requires covered { use_forms (block_tree ty.now).type_use ≡ [] }

@@ -5,9 +5,9 @@
 //! [`Module`] is `(module ..)`, or the pieces of a binary, and a [`TextModule`] what a whole text is: that, or fields alone. Names
 //! aren't resolved.
 //!
-//! The parts, whose types this crate hands on: `wast_fields`, `wast_imports`, `wast_exports`, `wast_customs`, `wast_data`. Types of
-//! the text and instructions have crates of their own, `wast_core_types` and `wast_core_instr`; those that fields hold are handed
-//! on too.
+//! The parts, of which this crate hands on the types of trees: `wast_fields`, `wast_imports`, `wast_exports`, `wast_customs`,
+//! `wast_data`. Types of the text and instructions have crates of their own, `wast_core_types` and `wast_core_instr`; it hands on
+//! the types of these that stand in public fields of its own types and of its parts', and [`TypeDef`] and [`Instruction`].
 //!
 //! # What has to be believed
 //!
@@ -31,18 +31,20 @@ pub use start::Start;
 pub use text::TextModule;
 pub use wast_core_instr::{Expression, Instruction};
 pub use wast_core_types::{
-    FunctionType, GlobalType, MemoryType, Rec, TableType, TypeItem, TypeUse,
+    FunctionType, GlobalType, MemoryType, Rec, RefType, TableType, TypeDef, TypeItem, TypeUse,
+    ValType,
 };
 pub use wast_customs::{
-    Custom, CustomPlace, CustomPlaceAnchor, Dylink0, Dylink0Subsection, Producers, RawCustomSection,
+    Custom, CustomPlace, CustomPlaceAnchor, Dylink0, Dylink0Subsection, Producer, ProducerKind,
+    Producers, RawCustomSection,
 };
 pub use wast_data::DataVal;
-pub use wast_exports::{Export, ExportKind, InlineExport, InlineImport};
+pub use wast_exports::{Export, ExportKind, ExportName, InlineExport, InlineImport};
 pub use wast_fields::{
     Data, DataKind, Elem, ElemKind, ElemPayload, Func, FuncKind, Global, GlobalKind, Local,
     LocalParser, Memory, MemoryKind, Table, TableKind, Tag, TagKind,
 };
 pub use wast_imports::{
-    ExportType, ImportGroup1Item, ImportGroup2Item, ImportItems, Imports, ItemKind, ItemSig,
+    ExportType, Head, ImportGroup1Item, ImportGroup2Item, ImportItems, Imports, ItemKind, ItemSig,
     TagType,
 };

@@ -4,7 +4,9 @@
 //! encoder, whose operations without operands they are. It is read by its word, which says what operands stand behind it. An
 //! [`Expression`] is what folded and flat items unfold to: `(i32.add (i32.const 1) (i32.const 2))` and
 //! `i32.const 1 i32.const 2 i32.add` are one. The types of operands stand in the parts `wast_operands` and
-//! `wast_typed_operands`, how expressions are read in `wast_expressions`, and words in `wast_mnemonics`; this crate hands them on.
+//! `wast_typed_operands`, how expressions are read in `wast_expressions`, and words in `wast_mnemonics`. This crate hands on the
+//! operands of the first two, the encoder's operations that stand in an [`Instruction`], and [`BranchHint`] and [`Steps`]; not the
+//! types of the text.
 //!
 //! # What has to be believed
 //!
@@ -33,6 +35,10 @@ pub use gc::GcOp;
 pub use instruction::Instruction;
 pub use proposal::ProposalOp;
 pub use vector_arg::VectorArgOp;
+pub use wasm_encoder_opcodes::{
+    AccessOp, AtomicOp, AtomicRmwOp, CompareOp, ConvertOp, NumericOp, VectorFloatOp,
+    VectorNarrowOp, VectorOp, VectorWideOp,
+};
 pub use wast_expressions::{BranchHint, Steps};
 pub use wast_operands::{
     ArrayCopy, ArrayFill, ArrayInit, ArrayNewData, ArrayNewElem, ArrayNewFixed, BrTableIndices,

@@ -2,7 +2,8 @@
 
 ghost use Rattle.wast_customs.specs.Laws.{JoiningKeeps};
 
-/// Where neighbouring groups are joined every entry is kept, in its place: what is written is had back from what is read.
+/// Where neighbouring subsections are joined every entry is kept, in its place: the entries of the joined ones, one after the
+/// other, are those of the ones that are joined.
 pub fn joining_keeps()
     ensures { JoiningKeeps }
 {}

@@ -1,4 +1,4 @@
--- What private contracts say of instructions that need the count of data segments (WebAssembly 3.0, 5.5.16).
+-- What private contracts say of instructions that need the count of data segments (WebAssembly 3.0, 5.5.15).
 use Rattle.std.specs.Prelude.{Bool, true, false}
 use Rattle.std.specs.List.{flat_map, list_any}
 use Rattle.wast_core_instr.specs.declared.bulk.BulkOp.{BulkOp}

@@ -1,4 +1,4 @@
-//! Whether the count of data segments has a section (5.5.16), and which it is.
+//! Whether the count of data segments has a section (5.5.15), and which it is.
 ghost use Rattle.std.specs.Prelude.{◌≡◌, ◌≤◌, length, map};
 ghost use Rattle.std.specs.List.{flat_map, list_any};
 ghost use Rattle.wasm_encoder_base.specs.Encodes.{Encodes};

@@ -40,6 +40,9 @@ impl EncodeOptions {
     /// The binary of a module (6.6.14 and 5.5.17), which is well formed; the pieces of a binary are joined. A field that is referred to and has no
     /// name takes the next one of `gensym`, and there is room for one a field. Of a module that was refused before nothing is asked.
     ///
+    /// A name that is taken is fresh where each name of the module that was made is one that `gensym` made since its last reset, as after
+    /// a call with the same `gensym`; else it may be that of another item, which is refused as a duplicate.
+    ///
     /// A module is refused by its first demand of names that isn't met, with its place and message; else by its first form that has no binary
     /// here, with the place of its field; else as too large exactly where, memory found, a count or a length of its binary is past 4294967295.
     /// One with more than 2147483647 items, parameters, locals, fields of structures and instructions in all, where a table or a memory counts

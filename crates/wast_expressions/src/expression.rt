@@ -34,8 +34,9 @@ pub fn parse_items<'a, I: ParseOperation<'a>>(
     Ok(work.finish())
 }
 
-/// The same, and counts the turns of the loop, that which is refused too. On both outcomes these are at most one more than the
-/// tokens that it took or passed, and than the significant tokens that stood before it.
+/// The same, and counts the turns of the loop, that which is refused too; for want of memory the count is at least one, and no
+/// more than it would be else. On both outcomes it is at most one more than the tokens that it took or passed, and than the
+/// significant tokens that stood before it.
 pub fn parse_counted<'a, I: ParseOperation<'a>, L: Ledger>(
     parser: &mut Parser<'a>,
     steps: &mut Steps<L>,

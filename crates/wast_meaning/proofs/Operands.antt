@@ -1,4 +1,4 @@
--- Worked examples of operands, computed: each row of the table with names for its indices.
+-- Worked examples of operands, computed: for each kind of row of the table in which indices stand, one with names for them.
 use Rattle.std.specs.Prelude.{ℕ, ◌≡◌, false, List, [], ◌∷◌, ◌++◌, map, Option, Some, None, option_map}
 use Rattle.std.proofs.Common.{refl}
 use Rattle.wasm_encoder_base.specs.Table as table

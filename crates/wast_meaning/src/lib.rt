@@ -27,8 +27,8 @@
 //! | `Modules` | the fields of whole modules, and their breaches |
 //! | `Views` | which index space a [`Space`] is |
 //!
-//! `proofs/Examples` has worked examples, a few for each rule, and `proofs/Operands` one for each row of operands. The other files of
-//! `proofs/` have lemmas for the code that meets these definitions:
+//! `proofs/Examples` has worked examples, a few for each rule, and `proofs/Operands` one for each kind of row of operands with indices.
+//! The other files of `proofs/` have lemmas for the code that meets these definitions:
 //!
 //! | File of `proofs/` | Says |
 //! |---|---|

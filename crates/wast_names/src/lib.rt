@@ -30,9 +30,11 @@
 //! | `Demand` | demands of names, what is said where one isn't met, and which error tells that |
 //! | `Space` | index spaces in the making, and what calls ask of names |
 //! | `Views` | which space a [`Namespace`] is |
+//! | `Laws` | the statements of the law functions |
 //!
 //! The laws: the numbers of names are their positions ([`laws::numbers`]); all items are accepted exactly where no two bear one
-//! name, and else the first that bears an earlier one's is refused ([`laws::distinct`]).
+//! name, and else the first that bears an earlier one's is refused ([`laws::distinct`]); where no two do, the first that bears a name is
+//! the last ([`laws::one_place`]).
 #![tactic(auto)]
 
 pub mod laws;

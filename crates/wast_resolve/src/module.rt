@@ -27,7 +27,8 @@ pub trait ResolveModule<'a> {
 
     /// Writes the fields out, gives each use its type and makes each index the number that it means (6.1.3, 6.6.3), and answers what names
     /// mean. Pieces of a binary stay as they are, and want no memory; place and name of the module stay too. A field that is referred to and
-    /// has no name takes the next one of `gensym`, and there is room for one a field.
+    /// has no name takes the next one of `gensym`, and there is room for one a field. A name that is taken is fresh where each name of the
+    /// module that was made is one that `gensym` made since its last reset; else it may be that of another item.
     ///
     /// Refuses a module of which a demand of names isn't met, by the first, with its place and message; else only where no memory is found,
     /// or there are more than 4294967295 items of a kind or blocks inside each other. The module then keeps why, and each later call is

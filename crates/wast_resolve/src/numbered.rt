@@ -24,7 +24,7 @@ use wast_meaning::Space;
 use wast_spaces::Spaces;
 
 /// Makes the indices of fields numbers, where these spaces tell their items. Fails only for want of memory, or where there are more than
-/// 4294967295 types, a function has more than 4294967294 parameters and locals, or so many blocks are open at a place, which is told as
+/// 4294967295 types, a function has more than 4294967295 parameters and locals, or so many blocks are open at a place, which is told as
 /// that; the fields are gone then.
 pub(crate) fn number_fields<'a>(
     alloc: Global,

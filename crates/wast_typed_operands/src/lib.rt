@@ -1,7 +1,8 @@
 //! Operands of instructions in which types stand (WebAssembly Core Specification 3.0, 6.5).
 //!
 //! Each type is read by its production. A block type has a label and a type use without identifiers and names; an indirect call
-//! a table before or behind such a use: `1 (type 0)` and `(type 0) 1` are one value, and so is `1` alone, which is the table.
+//! a table before or behind such a use: `1 (type 0)` and `(type 0) 1` are one value, places aside; `1` alone is a table, with a
+//! use of no tokens.
 //!
 //! # What has to be believed
 //!

@@ -1,4 +1,4 @@
--- Types are equal where they are written alike, places aside.
+-- Types are equal exactly where their trees are, places aside.
 use Rattle.std.proofs.Common.{◌≡◌, ℕ, Bool, true, false, List, refl, sym, ◌∙◌, ap, ◌&&◌, rules}
 use Rattle.std.proofs.lemmas.Bool.{eqb-true, eq-eqb}
 use Rattle.std.specs.Cmp.Lexicographic.{bytes_decides}

@@ -9,7 +9,7 @@ use Rattle.wast_value_types.specs.contracts.val_type.ValTypePartialEq.TheImpl as
 use Rattle.wast_value_types.specs.ValueViews.{heap_tree, ref_tree, val_tree}
 use Rattle.wast_value_types.specs.Unplaced.{unplaced_heap, unplaced_ref, unplaced_val}
 
--- What `==` answers of two types: whether they are written alike, wherever their indices stand.
+-- What `==` answers of two types: whether their trees are equal, wherever their indices stand.
 pub record EqualTypes : Type 0 where
   pub heap_types : (a b : HeapType) → (heap_eq.ghosts.eq a b ≡ true) ↔ (unplaced_heap (heap_tree a) ≡ unplaced_heap (heap_tree b))
   pub ref_types : (a b : RefType) → (ref_eq.ghosts.eq a b ≡ true) ↔ (unplaced_ref (ref_tree a) ≡ unplaced_ref (ref_tree b))

@@ -3,8 +3,8 @@
 //!
 //! [`ValType`], [`RefType`], [`HeapType`] and [`AbstractHeapType`] are read and looked for, the others are read. Types of
 //! proposals, which are shared, exact or of continuations, are read into the tree too. Indices in types are not resolved.
-//! Two heap, reference or value types are equal exactly where they are written alike, wherever their indices stand ([`laws::equal_types`]); equal ones
-//! hash alike.
+//! Two heap, reference or value types are equal exactly where their trees are, wherever their indices stand, so `funcref` is
+//! `(ref null func)` ([`laws::equal_types`]); equal ones hash alike.
 //!
 //! What it hands on of `wast_words` reads keywords and looks for them.
 //!

@@ -36,7 +36,7 @@ pub enum Fault {
     /// A growth found no memory.
     #[error("out of memory")]
     Memory,
-    /// A write failed, or took nothing; `written` bytes of the binary went out before.
+    /// A write or the flush failed, or a write took nothing; `written` bytes of the binary went out before.
     #[error("cannot write the output after {written} bytes")]
     Write { written: u64 },
 }

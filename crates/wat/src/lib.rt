@@ -11,8 +11,8 @@
 //! ```
 //!
 //! Its laws are the functions of [`laws`]: each input has one verdict, a text one meaning, a module one binary and a binary
-//! one reading, and two plain texts have equal binaries exactly where they mean the same module; renaming, folding and writing out leave
-//! what a text means, and branch hints stand at their instructions.
+//! one reading, and two plain texts have equal binaries exactly where they mean the same module; folding leaves what a text means, renaming
+//! and writing out leave all of it but names, and branch hints stand at their instructions.
 #![tactic(auto)]
 
 mod assembler;

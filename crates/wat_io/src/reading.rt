@@ -20,7 +20,7 @@ pub enum ReadFault {
     Memory,
 }
 
-/// Reads until 0 bytes come or there are `bound`. What is read stands in `input` then, which is empty at first.
+/// Reads until 0 bytes come or there are `bound`. Where that goes well, what is read stands in `input`, which is empty at first.
 pub fn read_within<R: Read>(
     alloc: Global,
     input: &mut Vec<u8>,
