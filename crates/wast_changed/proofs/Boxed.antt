@@ -10,21 +10,30 @@ use Rattle.wast_changed.specs.Boxed.{is_boxed, is_boxed_proposal}
 abbrev pub IsNot : {A B : Type 0} → (A → B) → B → Type 0
 IsNot {A} variant y = (x : A) → y ≡ variant x → ⊥
 
+abbrev pub IsNotTwo : {A B C : Type 0} → (A → B → C) → C → Type 0
+IsNotTwo {A} {B} variant z = (x : A) (y : B) → z ≡ variant x y → ⊥
+
 pub unboxed : (i : Instruction) → IsNot instructions.Block i → IsNot instructions.Loop i → IsNot instructions.If i → IsNot instructions.Try i → IsNot instructions.TryTable i
-    → IsNot instructions.BrTable i → IsNot instructions.CallIndirect i → IsNot instructions.ReturnCallIndirect i → IsNot instructions.Select i
-    → IsNot instructions.Gc i → IsNot instructions.Proposal i → is_boxed i ≡ false
-unboxed (instructions.Block x) a b c d e f g h j k l = absurd (a x refl)
-unboxed (instructions.Loop x) a b c d e f g h j k l = absurd (b x refl)
-unboxed (instructions.If x) a b c d e f g h j k l = absurd (c x refl)
-unboxed (instructions.Try x) a b c d e f g h j k l = absurd (d x refl)
-unboxed (instructions.TryTable x) a b c d e f g h j k l = absurd (e x refl)
-unboxed (instructions.BrTable x) a b c d e f g h j k l = absurd (f x refl)
-unboxed (instructions.CallIndirect x) a b c d e f g h j k l = absurd (g x refl)
-unboxed (instructions.ReturnCallIndirect x) a b c d e f g h j k l = absurd (h x refl)
-unboxed (instructions.Select x) a b c d e f g h j k l = absurd (j x refl)
-unboxed (instructions.Gc x) a b c d e f g h j k l = absurd (k x refl)
-unboxed (instructions.Proposal x) a b c d e f g h j k l = absurd (l x refl)
-unboxed i a b c d e f g h j k l = refl
+    → IsNot instructions.BrTable i → IsNot instructions.CallIndirect i → IsNot instructions.ReturnCallIndirect i → IsNot instructions.Select i → IsNotTwo instructions.Access i
+    → IsNotTwo instructions.Atomic i → IsNotTwo instructions.AtomicRmw i → IsNot instructions.Bulk i → IsNot instructions.Gc i → IsNot instructions.VectorArg i
+    → IsNot instructions.Proposal i → is_boxed i ≡ false
+unboxed (instructions.Block x) a b c d e f g h j k l m n p q r = absurd (a x refl)
+unboxed (instructions.Loop x) a b c d e f g h j k l m n p q r = absurd (b x refl)
+unboxed (instructions.If x) a b c d e f g h j k l m n p q r = absurd (c x refl)
+unboxed (instructions.Try x) a b c d e f g h j k l m n p q r = absurd (d x refl)
+unboxed (instructions.TryTable x) a b c d e f g h j k l m n p q r = absurd (e x refl)
+unboxed (instructions.BrTable x) a b c d e f g h j k l m n p q r = absurd (f x refl)
+unboxed (instructions.CallIndirect x) a b c d e f g h j k l m n p q r = absurd (g x refl)
+unboxed (instructions.ReturnCallIndirect x) a b c d e f g h j k l m n p q r = absurd (h x refl)
+unboxed (instructions.Select x) a b c d e f g h j k l m n p q r = absurd (j x refl)
+unboxed (instructions.Access x y) a b c d e f g h j k l m n p q r = absurd (k x y refl)
+unboxed (instructions.Atomic x y) a b c d e f g h j k l m n p q r = absurd (l x y refl)
+unboxed (instructions.AtomicRmw x y) a b c d e f g h j k l m n p q r = absurd (m x y refl)
+unboxed (instructions.Bulk x) a b c d e f g h j k l m n p q r = absurd (n x refl)
+unboxed (instructions.Gc x) a b c d e f g h j k l m n p q r = absurd (p x refl)
+unboxed (instructions.VectorArg x) a b c d e f g h j k l m n p q r = absurd (q x refl)
+unboxed (instructions.Proposal x) a b c d e f g h j k l m n p q r = absurd (r x refl)
+unboxed i a b c d e f g h j k l m n p q r = refl
 
 pub unboxed_proposal : (op : ProposalOp) → IsNot proposals.BrOnCastDescEq op → IsNot proposals.BrOnCastDescEqFail op → IsNot proposals.Resume op
     → IsNot proposals.ResumeThrowRef op → IsNot proposals.ResumeThrow op → is_boxed_proposal op ≡ false

@@ -1,4 +1,4 @@
--- Which instructions have lists or boxes behind them, and so take memory to be made anew.
+-- Which instructions may have lists or boxes behind them, and so take memory to be made anew.
 use Rattle.std.specs.Prelude.{Bool, true, false}
 use Rattle.wast_core_instr.specs.declared.instruction.Instruction.{Instruction}
 use Rattle.wast_core_instr.specs.declared.instruction.Instruction.TheVariants as instructions
@@ -16,7 +16,12 @@ is_boxed (instructions.BrTable labels) = true
 is_boxed (instructions.CallIndirect call) = true
 is_boxed (instructions.ReturnCallIndirect call) = true
 is_boxed (instructions.Select types) = true
+is_boxed (instructions.Access op memarg) = true
+is_boxed (instructions.Atomic op memarg) = true
+is_boxed (instructions.AtomicRmw op memarg) = true
+is_boxed (instructions.Bulk op) = true
 is_boxed (instructions.Gc op) = true
+is_boxed (instructions.VectorArg op) = true
 is_boxed (instructions.Proposal op) = true
 is_boxed _ = false
 

@@ -14,7 +14,9 @@ use crate::value_types::{change_heap_type, change_ref_type};
 use std::alloc::{AllocError, Global};
 use wast_core_instr::GcOp;
 use wast_meaning::Space;
-use wast_operands::{ArrayCopy, ArrayFill, ArrayInit, ArrayNewData, ArrayNewElem, ArrayNewFixed};
+use wast_operands::{
+    ArrayCopy, ArrayFill, ArrayInit, ArrayNewData, ArrayNewElem, ArrayNewFixed, StructAccess,
+};
 use wast_typed_operands::{BrOnCast, BrOnCastFail, RefCast, RefTest};
 
 /// An instruction on references, structures or arrays (6.5.3, 6.5.7). Fails only for want of memory.
@@ -57,43 +59,70 @@ pub(crate) fn change_gc<'a, C: Changing<'a>>(
         GcOp::ArrayFill(fill) => Ok(GcOp::ArrayFill(ArrayFill {
             array: change.index(Space::Types, fill.array),
         })),
-        GcOp::StructGet(access) => Ok(GcOp::StructGet(change_struct_access(change, access))),
-        GcOp::StructGetS(access) => Ok(GcOp::StructGetS(change_struct_access(change, access))),
-        GcOp::StructGetU(access) => Ok(GcOp::StructGetU(change_struct_access(change, access))),
-        GcOp::StructSet(access) => Ok(GcOp::StructSet(change_struct_access(change, access))),
-        GcOp::ArrayNewData(new) => Ok(GcOp::ArrayNewData(ArrayNewData {
-            array: change.index(Space::Types, new.array),
-            data_idx: change.index(Space::Datas, new.data_idx),
-        })),
-        GcOp::ArrayNewElem(new) => Ok(GcOp::ArrayNewElem(ArrayNewElem {
-            array: change.index(Space::Types, new.array),
-            elem_idx: change.index(Space::Elems, new.elem_idx),
-        })),
-        GcOp::ArrayCopy(copy) => Ok(GcOp::ArrayCopy(ArrayCopy {
-            dest_array: change.index(Space::Types, copy.dest_array),
-            src_array: change.index(Space::Types, copy.src_array),
-        })),
+        GcOp::StructGet(access) => Ok(GcOp::StructGet(change_boxed_access(alloc, change, access)?)),
+        GcOp::StructGetS(access) => Ok(GcOp::StructGetS(change_boxed_access(
+            alloc, change, access,
+        )?)),
+        GcOp::StructGetU(access) => Ok(GcOp::StructGetU(change_boxed_access(
+            alloc, change, access,
+        )?)),
+        GcOp::StructSet(access) => Ok(GcOp::StructSet(change_boxed_access(alloc, change, access)?)),
+        GcOp::ArrayNewData(new) => {
+            let ArrayNewData { array, data_idx } = Box::into_inner(new);
+            let array = change.index(Space::Types, array);
+            let data_idx = change.index(Space::Datas, data_idx);
+            Ok(GcOp::ArrayNewData(Box::new(alloc, ArrayNewData { array, data_idx })?))
+        }
+        GcOp::ArrayNewElem(new) => {
+            let ArrayNewElem { array, elem_idx } = Box::into_inner(new);
+            let array = change.index(Space::Types, array);
+            let elem_idx = change.index(Space::Elems, elem_idx);
+            Ok(GcOp::ArrayNewElem(Box::new(alloc, ArrayNewElem { array, elem_idx })?))
+        }
+        GcOp::ArrayCopy(copy) => {
+            let ArrayCopy {
+                dest_array,
+                src_array,
+            } = Box::into_inner(copy);
+            let dest_array = change.index(Space::Types, dest_array);
+            let src_array = change.index(Space::Types, src_array);
+            Ok(GcOp::ArrayCopy(Box::new(
+                alloc,
+                ArrayCopy {
+                    dest_array,
+                    src_array,
+                },
+            )?))
+        }
         GcOp::ArrayInitData(init) => Ok(GcOp::ArrayInitData(change_array_init(
+            alloc,
             change,
             Space::Datas,
             init,
-        ))),
+        )?)),
         GcOp::ArrayInitElem(init) => Ok(GcOp::ArrayInitElem(change_array_init(
+            alloc,
             change,
             Space::Elems,
             init,
-        ))),
-        GcOp::ArrayNewFixed(new) => Ok(GcOp::ArrayNewFixed(ArrayNewFixed {
-            array: change.index(Space::Types, new.array),
-            length: new.length,
-        })),
-        GcOp::RefNull(ty) => Ok(GcOp::RefNull(change_heap_type(change, ty))),
-        GcOp::RefTest(test) => Ok(GcOp::RefTest(RefTest {
-            ty: change_ref_type(change, test.ty),
-        })),
-        GcOp::RefCast(cast) => Ok(GcOp::RefCast(RefCast {
-            ty: change_ref_type(change, cast.ty),
-        })),
+        )?)),
+        GcOp::ArrayNewFixed(new) => {
+            let ArrayNewFixed { array, length } = Box::into_inner(new);
+            let array = change.index(Space::Types, array);
+            Ok(GcOp::ArrayNewFixed(Box::new(alloc, ArrayNewFixed { array, length })?))
+        }
+        GcOp::RefNull(ty) => {
+            let ty = change_heap_type(change, Box::into_inner(ty));
+            Ok(GcOp::RefNull(Box::new(alloc, ty)?))
+        }
+        GcOp::RefTest(test) => {
+            let ty = change_ref_type(change, Box::into_inner(test).ty);
+            Ok(GcOp::RefTest(Box::new(alloc, RefTest { ty })?))
+        }
+        GcOp::RefCast(cast) => {
+            let ty = change_ref_type(change, Box::into_inner(cast).ty);
+            Ok(GcOp::RefCast(Box::new(alloc, RefCast { ty })?))
+        }
         GcOp::BrOnCast(cast) => {
             let cast = Box::into_inner(cast);
             let cast = Box::new(
@@ -121,17 +150,31 @@ pub(crate) fn change_gc<'a, C: Changing<'a>>(
     }
 }
 
-/// An array type and a segment (6.5.7).
+/// A structure type and one of its fields (6.5.7). Fails only for want of memory.
+fn change_boxed_access<'a, C: Changing<'a>>(
+    alloc: Global,
+    change: &C,
+    access: Box<StructAccess<'a>>,
+) -> Result<Box<StructAccess<'a>>, AllocError>
+    ensures owner { IfOk result (λ new. index_tree new.value.struct_type ≡ (C.change change.now).index Types (index_tree access.entry.value.struct_type)) }
+    ensures field { IfOk result (λ new. index_tree new.value.field ≡ (C.change change.now).member (index_tree access.entry.value.struct_type) (index_tree access.entry.value.field)) }
+{
+    let access = change_struct_access(change, Box::into_inner(access));
+    Ok(Box::new(alloc, access)?)
+}
+
+/// An array type and a segment (6.5.7). Fails only for want of memory.
 fn change_array_init<'a, C: Changing<'a>>(
+    alloc: Global,
     change: &C,
     segments: Space,
-    init: ArrayInit<'a>,
-) -> ArrayInit<'a>
-    ensures array { index_tree result.array ≡ (C.change change.now).index Types (index_tree init.entry.array) }
-    ensures segment { index_tree result.segment ≡ (C.change change.now).index (space_view segments) (index_tree init.entry.segment) }
+    init: Box<ArrayInit<'a>>,
+) -> Result<Box<ArrayInit<'a>>, AllocError>
+    ensures array { IfOk result (λ new. index_tree new.value.array ≡ (C.change change.now).index Types (index_tree init.entry.value.array)) }
+    ensures segment { IfOk result (λ new. index_tree new.value.segment ≡ (C.change change.now).index (space_view segments) (index_tree init.entry.value.segment)) }
 {
-    ArrayInit {
-        array: change.index(Space::Types, init.array),
-        segment: change.index(segments, init.segment),
-    }
+    let ArrayInit { array, segment } = Box::into_inner(init);
+    let array = change.index(Space::Types, array);
+    let segment = change.index(segments, segment);
+    Ok(Box::new(alloc, ArrayInit { array, segment })?)
 }

@@ -10,7 +10,7 @@ use crate::bulk::change_bulk;
 use crate::changing::Changing;
 use crate::gc::change_gc;
 use crate::operands::{change_label_table, change_mem_arg, change_memory_arg, change_table_arg};
-use crate::proposal::change_proposal;
+use crate::proposal::change_boxed_proposal;
 use crate::typed_operands::{
     change_block_type, change_call_indirect, change_select_types, change_try_table,
 };
@@ -62,13 +62,32 @@ fn change_operands<'a, C: Changing<'a>>(
         Instruction::Select(types) => Ok(Instruction::Select(change_select_types(
             alloc, change, types,
         )?)),
+        Instruction::Access(op, memarg) => Ok(Instruction::Access(
+            op,
+            change_mem_arg(alloc, change, memarg)?,
+        )),
+        Instruction::Atomic(op, memarg) => Ok(Instruction::Atomic(
+            op,
+            change_mem_arg(alloc, change, memarg)?,
+        )),
+        Instruction::AtomicRmw(op, memarg) => Ok(Instruction::AtomicRmw(
+            op,
+            change_mem_arg(alloc, change, memarg)?,
+        )),
+        Instruction::Bulk(op) => Ok(Instruction::Bulk(change_bulk(alloc, change, op)?)),
         Instruction::Gc(op) => Ok(Instruction::Gc(change_gc(alloc, change, op)?)),
-        Instruction::Proposal(op) => Ok(Instruction::Proposal(change_proposal(alloc, change, op)?)),
+        Instruction::VectorArg(op) => Ok(Instruction::VectorArg(change_vector_arg(
+            alloc, change, op,
+        )?)),
+        Instruction::Proposal(op) => Ok(Instruction::Proposal(change_boxed_proposal(
+            alloc, change, op,
+        )?)),
         other => Ok(change_unboxed(change, other)),
     }
 }
 
-/// The same where no memory is needed. An instruction with lists or boxes, or of a family that has such, is answered as it is.
+/// The same where no memory is needed. An instruction that may hold a list or a box, or is of a family in
+/// which some do, is answered as it is.
 #[tactic(auto, using(crate::proofs::Rows::index_row, crate::proofs::Rows::optional_row))]
 fn change_unboxed<'a, C: Changing<'a>>(change: &C, instruction: Instruction<'a>) -> Instruction<'a>
     ensures word { instruction_word result ≡ instruction_word instruction.entry }
@@ -129,15 +148,12 @@ fn change_unboxed<'a, C: Changing<'a>>(change: &C, instruction: Instruction<'a>)
         Instruction::VectorNarrow(op) => Instruction::VectorNarrow(op),
         Instruction::VectorWide(op) => Instruction::VectorWide(op),
         Instruction::VectorFloat(op) => Instruction::VectorFloat(op),
-        Instruction::Access(op, memarg) => Instruction::Access(op, change_mem_arg(change, memarg)),
-        Instruction::Atomic(op, memarg) => Instruction::Atomic(op, change_mem_arg(change, memarg)),
-        Instruction::AtomicRmw(op, memarg) => Instruction::AtomicRmw(
-            op,
-            change_mem_arg(change, memarg),
-        ),
         Instruction::AtomicFence(ordering) => Instruction::AtomicFence(ordering),
-        Instruction::Bulk(op) => Instruction::Bulk(change_bulk(change, op)),
-        Instruction::VectorArg(op) => Instruction::VectorArg(change_vector_arg(change, op)),
+        Instruction::Access(op, memarg) => Instruction::Access(op, memarg),
+        Instruction::Atomic(op, memarg) => Instruction::Atomic(op, memarg),
+        Instruction::AtomicRmw(op, memarg) => Instruction::AtomicRmw(op, memarg),
+        Instruction::Bulk(op) => Instruction::Bulk(op),
+        Instruction::VectorArg(op) => Instruction::VectorArg(op),
         Instruction::Block(block) => Instruction::Block(block),
         Instruction::Loop(block) => Instruction::Loop(block),
         Instruction::If(block) => Instruction::If(block),

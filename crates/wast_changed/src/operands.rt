@@ -37,15 +37,15 @@ pub fn change_memory_arg<'a, C: Changing<'a>>(change: &C, arg: MemoryArg<'a>) ->
 pub fn change_label_table<'a, C: Changing<'a>>(
     alloc: Global,
     change: &C,
-    table: BrTableIndices<'a>,
-) -> Result<BrTableIndices<'a>, AllocError>
-    ensures labels { IfOk result (λ new. map index_tree new.labels.items ≡ map ((C.change change.now).index Labels) (map index_tree table.entry.labels.items)) }
-    ensures default { IfOk result (λ new. index_tree new.default ≡ (C.change change.now).index Labels (index_tree table.entry.default)) }
+    table: Box<BrTableIndices<'a>>,
+) -> Result<Box<BrTableIndices<'a>>, AllocError>
+    ensures labels { IfOk result (λ new. map index_tree new.value.labels.items ≡ map ((C.change change.now).index Labels) (map index_tree table.entry.value.labels.items)) }
+    ensures default { IfOk result (λ new. index_tree new.value.default ≡ (C.change change.now).index Labels (index_tree table.entry.value.default)) }
 {
-    Ok(BrTableIndices {
-        labels: change_indices(alloc, change, Space::Labels, table.labels)?,
-        default: change.index(Space::Labels, table.default),
-    })
+    let BrTableIndices { labels, default } = Box::into_inner(table);
+    let labels = change_indices(alloc, change, Space::Labels, labels)?;
+    let default = change.index(Space::Labels, default);
+    Ok(Box::new(alloc, BrTableIndices { labels, default })?)
 }
 
 /// A structure type and one of its fields (6.5.7).
@@ -72,27 +72,36 @@ pub fn change_target<'a, C: Changing<'a>>(change: &C, target: MemArgTarget<'a>) 
     }
 }
 
-/// A memory argument (6.5.6).
-pub fn change_mem_arg<'a, C: Changing<'a>>(change: &C, memarg: MemArg<'a>) -> MemArg<'a>
-    ensures { mem_arg_tree result ≡ mem_arg_changed (C.change change.now) (mem_arg_tree memarg.entry) }
+/// A memory argument (6.5.6). Fails only for want of memory, which it asks for where there is a target.
+pub fn change_mem_arg<'a, C: Changing<'a>>(
+    alloc: Global,
+    change: &C,
+    memarg: MemArg<'a>,
+) -> Result<MemArg<'a>, AllocError>
+    ensures { IfOk result (λ new. mem_arg_tree new ≡ mem_arg_changed (C.change change.now) (mem_arg_tree memarg.entry)) }
 {
-    MemArg {
+    let target = change_optional_target(alloc, change, memarg.target)?;
+    Ok(MemArg {
         align: memarg.align,
         offset: memarg.offset,
-        target: change_optional_target(change, memarg.target),
+        target,
         ordering: memarg.ordering,
-    }
+    })
 }
 
 fn change_optional_target<'a, C: Changing<'a>>(
+    alloc: Global,
     change: &C,
-    target: Option<MemArgTarget<'a>>,
-) -> Option<MemArgTarget<'a>>
-    ensures { option_map target_tree result ≡ option_map (target_changed (C.change change.now)) (option_map target_tree target.entry) }
+    target: Option<Box<MemArgTarget<'a>>>,
+) -> Result<Option<Box<MemArgTarget<'a>>>, AllocError>
+    ensures { IfOk result (λ new. option_map (λ t. target_tree t.value) new ≡ option_map (target_changed (C.change change.now)) (option_map (λ t. target_tree t.value) target.entry)) }
 {
     match target {
-        Some(target) => Some(change_target(change, target)),
-        None => None,
+        Some(target) => {
+            let target = change_target(change, Box::into_inner(target));
+            Ok(Some(Box::new(alloc, target)?))
+        }
+        None => Ok(None),
     }
 }
 

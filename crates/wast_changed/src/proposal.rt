@@ -23,7 +23,20 @@ use wast_parser::Index;
 use wast_typed_operands::{BrOnCastDescEq, BrOnCastDescEqFail, RefCastDescEq};
 
 /// An instruction of a proposal. Fails only for want of memory.
-pub(crate) fn change_proposal<'a, C: Changing<'a>>(
+pub(crate) fn change_boxed_proposal<'a, C: Changing<'a>>(
+    alloc: Global,
+    change: &C,
+    op: Box<ProposalOp<'a>>,
+) -> Result<Box<ProposalOp<'a>>, AllocError>
+    ensures word { IfOk result (λ new. proposal_word new.value ≡ proposal_word op.entry.value) }
+    ensures operands { IfOk result (λ new. proposal_operands new.value ≡ operands_changed (C.change change.now) (row_of (proposal_word op.entry.value)) (proposal_operands op.entry.value)) }
+{
+    let op = change_proposal(alloc, change, Box::into_inner(op))?;
+    Ok(Box::new(alloc, op)?)
+}
+
+/// The same without its box.
+fn change_proposal<'a, C: Changing<'a>>(
     alloc: Global,
     change: &C,
     op: ProposalOp<'a>,

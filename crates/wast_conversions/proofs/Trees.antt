@@ -78,9 +78,9 @@ covered_operands (Unlisted mnemonic) fs p = cc
 pub covered_listed : (i : tree.Instruction) → instr_forms (instruction_tree i) ≡ [] → IsListed i
 covered_listed (instructions.Proposal op) p =
     let os = instruction_operands (instructions.Proposal op) in
-    let m = word_mnemonic (proposal_word op) in
+    let m = word_mnemonic (proposal_word op.value) in
     let q : forms_with (chosen m (entries_of m table) (choose_second os)) (operand_forms os) ≡ m ∷ [] =
-    ap (λ es. forms_with (chosen m es (choose_second os)) (operand_forms os)) (none_found op) in
+    ap (λ es. forms_with (chosen m es (choose_second os)) (operand_forms os)) (none_found op.value) in
     let r : m ∷ [] ≡ [] = sym q ∙ p in
     cc
 covered_listed _ p = tt

@@ -50,9 +50,9 @@ fn memory_copy(copy: &MemoryCopy<'_>) -> wasm_encoder_instr::BulkOp
     ensures sound { in_range (both_meant (memory_copy_tree copy.now)) }
 {
     match &copy.memories {
-        Some((to, from)) => wasm_encoder_instr::BulkOp::MemoryCopy {
-            src_mem: index(from),
-            dst_mem: index(to),
+        Some(memories) => wasm_encoder_instr::BulkOp::MemoryCopy {
+            src_mem: index(&memories.1),
+            dst_mem: index(&memories.0),
         },
         None => wasm_encoder_instr::BulkOp::MemoryCopy {
             src_mem: 0,
@@ -69,9 +69,9 @@ fn table_copy(copy: &TableCopy<'_>) -> wasm_encoder_instr::BulkOp
     ensures sound { in_range (both_meant (table_copy_tree copy.now)) }
 {
     match &copy.tables {
-        Some((to, from)) => wasm_encoder_instr::BulkOp::TableCopy {
-            src_table: index(from),
-            dst_table: index(to),
+        Some(tables) => wasm_encoder_instr::BulkOp::TableCopy {
+            src_table: index(&tables.1),
+            dst_table: index(&tables.0),
         },
         None => wasm_encoder_instr::BulkOp::TableCopy {
             src_table: 0,

@@ -135,18 +135,18 @@ fn offset(arg: &MemArg<'_>) -> u64
 }
 
 /// The memory that a memory argument is of, 0 where none is written.
-fn mem_arg_target(target: &Option<MemArgTarget<'_>>) -> wasm_encoder_instr::MemArgTarget
-    requires resolved { IfThere TargetResolved (option_map target_tree target.now) }
-    requires covered { target_forms (option_map target_tree target.now) ≡ [] }
-    ensures same { memory_view result ≡ unwrap_or (option_map target_meant (option_map target_tree target.now)) 0 }
-    ensures sound { IsU32 (unwrap_or (option_map target_meant (option_map target_tree target.now)) 0) }
+fn mem_arg_target(target: &Option<Box<MemArgTarget<'_>>>) -> wasm_encoder_instr::MemArgTarget
+    requires resolved { IfThere TargetResolved (option_map (λ t. target_tree t.value) target.now) }
+    requires covered { target_forms (option_map (λ t. target_tree t.value) target.now) ≡ [] }
+    ensures same { memory_view result ≡ unwrap_or (option_map target_meant (option_map (λ t. target_tree t.value) target.now)) 0 }
+    ensures sound { IsU32 (unwrap_or (option_map target_meant (option_map (λ t. target_tree t.value) target.now)) 0) }
 {
     match target {
         None => wasm_encoder_instr::MemArgTarget::Memory(0),
-        Some(MemArgTarget::Memory(memory)) => wasm_encoder_instr::MemArgTarget::Memory(index(
-            memory,
-        )),
-        Some(MemArgTarget::Array(_)) => unreachable!(),
+        Some(target) => match &**target {
+            MemArgTarget::Memory(memory) => wasm_encoder_instr::MemArgTarget::Memory(index(memory)),
+            MemArgTarget::Array(_) => unreachable!(),
+        },
     }
 }
 

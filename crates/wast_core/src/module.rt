@@ -35,13 +35,20 @@ impl Drop for Module<'_> {
     fn drop(self) {
         let Module {
             span: _,
-            id: _,
-            name: _,
-            kind: _,
-            refusal: _,
+            id,
+            name,
+            kind,
+            refusal,
         } = self;
+        let_go(id);
+        let_go(name);
+        let_go(kind);
+        let_go(refusal);
     }
 }
+
+/// Lets a value go.
+fn let_go<T: Drop>(_value: T) {}
 
 /// What a module holds.
 #[derive(Drop)]

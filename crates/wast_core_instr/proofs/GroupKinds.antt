@@ -42,5 +42,5 @@ other_group (instructions.Try x) b l c t = sym try_is
 other_group (instructions.Bulk op) b l c t = sym (bulk_none op _)
 other_group (instructions.Gc op) b l c t = sym (gc_none op _)
 other_group (instructions.VectorArg op) b l c t = sym (vector_arg_none op _)
-other_group (instructions.Proposal op) b l c t = sym (proposal_none op _)
+other_group (instructions.Proposal op) b l c t = sym (proposal_none op.value _)
 other_group i b l c t = refl

@@ -31,5 +31,5 @@ other_memarg (instructions.AtomicRmw x y) a b c d = absurd (c x y refl)
 other_memarg (instructions.VectorArg x) a b c d = absurd (d x refl)
 other_memarg (instructions.Bulk op) a b c d = bulk_none op
 other_memarg (instructions.Gc op) a b c d = gc_none op
-other_memarg (instructions.Proposal op) a b c d = proposal_none op
+other_memarg (instructions.Proposal op) a b c d = proposal_none op.value
 other_memarg i a b c d = refl

@@ -10,7 +10,7 @@ use Rattle.wast_mnemonics.specs.Heads.{head}
 use Rattle.wast_mnemonics.specs.Words.{entry_of}
 use Rattle.wast_core_instr.specs.InstructionTree.{Operands, NoOperands, Label, Block, TryTable, One, Two, Counted, LabelTable, Indirect, Optional, OptionalTwo, OptionalThen, Heap, Ref, Cast, Integer, Float, Lanes, Types, Lane, Shuffle, Memory, MemoryLane, Fence, Ordered, Resume, ResumeThrow, choose_second}
 use Rattle.wast_core_instr.specs.InstructionTree as spec
-use Rattle.wast_core_instr.specs.WordViews.{instruction_word}
+use Rattle.wast_core_instr.specs.WordViews.{instruction_word, proposal_word}
 use Rattle.wast_core_instr.specs.declared.instruction.Instruction.{Instruction}
 use Rattle.wast_core_instr.specs.declared.instruction.Instruction.TheVariants as instructions
 use Rattle.wast_core_instr.specs.declared.bulk.BulkOp.{BulkOp}
@@ -31,8 +31,8 @@ bulk_operands (bulks.TableSize table) = Optional (table_arg_tree table)
 bulk_operands (bulks.TableFill table) = Optional (table_arg_tree table)
 bulk_operands (bulks.MemoryCopy memories) = OptionalTwo (memory_copy_tree memories)
 bulk_operands (bulks.TableCopy tables) = OptionalTwo (table_copy_tree tables)
-bulk_operands (bulks.MemoryInit operands) = OptionalThen (option_map index_tree operands.mem) (index_tree operands.«data»)
-bulk_operands (bulks.TableInit operands) = OptionalThen (option_map index_tree operands.table) (index_tree operands.elem)
+bulk_operands (bulks.MemoryInit operands) = OptionalThen (option_map index_tree operands.value.mem) (index_tree operands.value.«data»)
+bulk_operands (bulks.TableInit operands) = OptionalThen (option_map index_tree operands.value.table) (index_tree operands.value.elem)
 
 abbrev pub gc_operands : GcOp → Operands Name ℕ
 gc_operands gcs.RefIsNull = NoOperands
@@ -56,24 +56,24 @@ gc_operands (gcs.ArrayGetS index) = One (index_tree index)
 gc_operands (gcs.ArrayGetU index) = One (index_tree index)
 gc_operands (gcs.ArraySet index) = One (index_tree index)
 gc_operands (gcs.ArrayFill array) = One (index_tree array.array)
-gc_operands (gcs.StructGet access) = Two (index_tree access.struct_type) (index_tree access.field)
-gc_operands (gcs.StructGetS access) = Two (index_tree access.struct_type) (index_tree access.field)
-gc_operands (gcs.StructGetU access) = Two (index_tree access.struct_type) (index_tree access.field)
-gc_operands (gcs.StructSet access) = Two (index_tree access.struct_type) (index_tree access.field)
-gc_operands (gcs.ArrayNewData operands) = Two (index_tree operands.array) (index_tree operands.data_idx)
-gc_operands (gcs.ArrayNewElem operands) = Two (index_tree operands.array) (index_tree operands.elem_idx)
-gc_operands (gcs.ArrayCopy arrays) = Two (index_tree arrays.dest_array) (index_tree arrays.src_array)
-gc_operands (gcs.ArrayInitData operands) = Two (index_tree operands.array) (index_tree operands.segment)
-gc_operands (gcs.ArrayInitElem operands) = Two (index_tree operands.array) (index_tree operands.segment)
-gc_operands (gcs.ArrayNewFixed operands) = Counted (index_tree operands.array) operands.length
-gc_operands (gcs.RefNull heap_type) = Heap (heap_tree heap_type)
-gc_operands (gcs.RefTest ref_type) = Ref (ref_tree ref_type.ty)
-gc_operands (gcs.RefCast ref_type) = Ref (ref_tree ref_type.ty)
+gc_operands (gcs.StructGet access) = Two (index_tree access.value.struct_type) (index_tree access.value.field)
+gc_operands (gcs.StructGetS access) = Two (index_tree access.value.struct_type) (index_tree access.value.field)
+gc_operands (gcs.StructGetU access) = Two (index_tree access.value.struct_type) (index_tree access.value.field)
+gc_operands (gcs.StructSet access) = Two (index_tree access.value.struct_type) (index_tree access.value.field)
+gc_operands (gcs.ArrayNewData operands) = Two (index_tree operands.value.array) (index_tree operands.value.data_idx)
+gc_operands (gcs.ArrayNewElem operands) = Two (index_tree operands.value.array) (index_tree operands.value.elem_idx)
+gc_operands (gcs.ArrayCopy arrays) = Two (index_tree arrays.value.dest_array) (index_tree arrays.value.src_array)
+gc_operands (gcs.ArrayInitData operands) = Two (index_tree operands.value.array) (index_tree operands.value.segment)
+gc_operands (gcs.ArrayInitElem operands) = Two (index_tree operands.value.array) (index_tree operands.value.segment)
+gc_operands (gcs.ArrayNewFixed operands) = Counted (index_tree operands.value.array) operands.value.length
+gc_operands (gcs.RefNull heap_type) = Heap (heap_tree heap_type.value)
+gc_operands (gcs.RefTest ref_type) = Ref (ref_tree ref_type.value.ty)
+gc_operands (gcs.RefCast ref_type) = Ref (ref_tree ref_type.value.ty)
 gc_operands (gcs.BrOnCast cast) = Cast (cast_tree cast.value.label cast.value.from_type cast.value.to_type)
 gc_operands (gcs.BrOnCastFail cast) = Cast (cast_tree cast.value.label cast.value.from_type cast.value.to_type)
 
 abbrev pub vector_arg_operands : VectorArgOp → Operands Name ℕ
-vector_arg_operands (vector_args.V128Const value) = Lanes (vector_tree value)
+vector_arg_operands (vector_args.V128Const value) = Lanes (vector_tree value.value)
 vector_arg_operands (vector_args.I8x16ExtractLaneS lane) = Lane lane.lane
 vector_arg_operands (vector_args.I8x16ExtractLaneU lane) = Lane lane.lane
 vector_arg_operands (vector_args.I8x16ReplaceLane lane) = Lane lane.lane
@@ -180,7 +180,7 @@ instruction_operands instructions.ThrowRef = NoOperands
 instruction_operands (instructions.End label) = Label (option_map identifier_tree label)
 instruction_operands (instructions.Br index) = One (index_tree index)
 instruction_operands (instructions.BrIf index) = One (index_tree index)
-instruction_operands (instructions.BrTable labels) = LabelTable (map index_tree labels.labels.items) (index_tree labels.default)
+instruction_operands (instructions.BrTable labels) = LabelTable (map index_tree labels.value.labels.items) (index_tree labels.value.default)
 instruction_operands instructions.Return = NoOperands
 instruction_operands (instructions.Call index) = One (index_tree index)
 instruction_operands (instructions.CallIndirect call) = Indirect (indirect_tree call.value)
@@ -220,7 +220,11 @@ instruction_operands (instructions.AtomicRmw op memarg) = Memory (mem_arg_tree m
 instruction_operands (instructions.Bulk op) = bulk_operands op
 instruction_operands (instructions.Gc op) = gc_operands op
 instruction_operands (instructions.VectorArg op) = vector_arg_operands op
-instruction_operands (instructions.Proposal op) = proposal_operands op
+instruction_operands (instructions.Proposal op) = proposal_operands op.value
+
+-- which one of a proposal is, and its operands
+abbrev pub proposal_tree : ProposalOp → spec.Instruction Name ℕ
+proposal_tree op = record { head = head (entry_of (proposal_word op)) (choose_second (proposal_operands op)); operands = proposal_operands op }
 
 -- which it is, and its operands
 abbrev pub instruction_tree : Instruction → spec.Instruction Name ℕ

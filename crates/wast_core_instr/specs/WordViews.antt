@@ -234,4 +234,4 @@ instruction_word (instructions.AtomicRmw op memarg) = words.Memory (memory_words
 instruction_word (instructions.Bulk op) = bulk_word op
 instruction_word (instructions.Gc op) = gc_word op
 instruction_word (instructions.VectorArg op) = vector_arg_word op
-instruction_word (instructions.Proposal op) = proposal_word op
+instruction_word (instructions.Proposal op) = proposal_word op.value

@@ -13,6 +13,6 @@ pub enum BulkOp<'a> {
     TableFill(TableArg<'a>),
     MemoryCopy(MemoryCopy<'a>),
     TableCopy(TableCopy<'a>),
-    MemoryInit(MemoryInit<'a>),
-    TableInit(TableInit<'a>),
+    MemoryInit(Box<MemoryInit<'a>>),
+    TableInit(Box<TableInit<'a>>),
 }

@@ -1,5 +1,5 @@
 //! Instructions by their words.
-ghost use Rattle.std.specs.Prelude.{◌≡◌, option_map};
+ghost use Rattle.std.specs.Prelude.{◌≡◌, option_map, IfOk};
 ghost use Rattle.wast_parser.specs.Identifiers.{identifier_tree, index_tree};
 ghost use Rattle.wast_operands.specs.OperandViews.{mem_arg_tree, ordering_tree, table_arg_tree};
 ghost use Rattle.wast_typed_operands.specs.TypedViews.{block_tree, indirect_tree};
@@ -15,6 +15,7 @@ use crate::gc::GcOp;
 use crate::instruction::Instruction;
 use crate::proposal::ProposalOp;
 use crate::vector_arg::VectorArgOp;
+use std::alloc::{AllocError, Global};
 use wast_mnemonics::{
     BlockWord, IndexProposal, IndexWord, IndicesProposal, IndicesWord, IndirectWord, LaneWord,
     MemoryLaneWord, MemoryWord, NameWord, OptionalIndexWord, OrderedIndexProposal,
@@ -121,60 +122,93 @@ pub(crate) fn with_index<'a>(word: IndexWord, index: Index<'a>) -> Instruction<'
     }
 }
 
-/// The instruction of a word and two indices.
+/// The instruction of a word and two indices. Fails only for want of memory.
 pub(crate) fn with_indices<'a>(
+    alloc: Global,
     word: IndicesWord,
     first: Index<'a>,
     second: Index<'a>,
-) -> Instruction<'a>
-    ensures word { instruction_word result ≡ words.Indices word }
-    ensures operands { instruction_operands result ≡ spec.Two (index_tree first.entry) (index_tree second.entry) }
+) -> Result<Instruction<'a>, AllocError>
+    ensures word { IfOk result (λ i. instruction_word i ≡ words.Indices word) }
+    ensures operands { IfOk result (λ i. instruction_operands i ≡ spec.Two (index_tree first.entry) (index_tree second.entry)) }
 {
-    Instruction::Gc(gc_indices(word, first, second))
+    Ok(Instruction::Gc(gc_indices(alloc, word, first, second)?))
 }
 
 /// Its operation alone.
-fn gc_indices<'a>(word: IndicesWord, first: Index<'a>, second: Index<'a>) -> GcOp<'a>
-    ensures word { gc_word result ≡ words.Indices word }
-    ensures operands { gc_operands result ≡ spec.Two (index_tree first.entry) (index_tree second.entry) }
+fn gc_indices<'a>(
+    alloc: Global,
+    word: IndicesWord,
+    first: Index<'a>,
+    second: Index<'a>,
+) -> Result<GcOp<'a>, AllocError>
+    ensures word { IfOk result (λ op. gc_word op ≡ words.Indices word) }
+    ensures operands { IfOk result (λ op. gc_operands op ≡ spec.Two (index_tree first.entry) (index_tree second.entry)) }
 {
     match word {
-        IndicesWord::StructGet => GcOp::StructGet(StructAccess {
-            struct_type: first,
-            field: second,
-        }),
-        IndicesWord::StructGetS => GcOp::StructGetS(StructAccess {
-            struct_type: first,
-            field: second,
-        }),
-        IndicesWord::StructGetU => GcOp::StructGetU(StructAccess {
-            struct_type: first,
-            field: second,
-        }),
-        IndicesWord::StructSet => GcOp::StructSet(StructAccess {
-            struct_type: first,
-            field: second,
-        }),
-        IndicesWord::ArrayNewData => GcOp::ArrayNewData(ArrayNewData {
-            array: first,
-            data_idx: second,
-        }),
-        IndicesWord::ArrayNewElem => GcOp::ArrayNewElem(ArrayNewElem {
-            array: first,
-            elem_idx: second,
-        }),
-        IndicesWord::ArrayCopy => GcOp::ArrayCopy(ArrayCopy {
-            dest_array: first,
-            src_array: second,
-        }),
-        IndicesWord::ArrayInitData => GcOp::ArrayInitData(ArrayInit {
-            array: first,
-            segment: second,
-        }),
-        IndicesWord::ArrayInitElem => GcOp::ArrayInitElem(ArrayInit {
-            array: first,
-            segment: second,
-        }),
+        IndicesWord::StructGet => Ok(GcOp::StructGet(Box::new(
+            alloc,
+            StructAccess {
+                struct_type: first,
+                field: second,
+            },
+        )?)),
+        IndicesWord::StructGetS => Ok(GcOp::StructGetS(Box::new(
+            alloc,
+            StructAccess {
+                struct_type: first,
+                field: second,
+            },
+        )?)),
+        IndicesWord::StructGetU => Ok(GcOp::StructGetU(Box::new(
+            alloc,
+            StructAccess {
+                struct_type: first,
+                field: second,
+            },
+        )?)),
+        IndicesWord::StructSet => Ok(GcOp::StructSet(Box::new(
+            alloc,
+            StructAccess {
+                struct_type: first,
+                field: second,
+            },
+        )?)),
+        IndicesWord::ArrayNewData => Ok(GcOp::ArrayNewData(Box::new(
+            alloc,
+            ArrayNewData {
+                array: first,
+                data_idx: second,
+            },
+        )?)),
+        IndicesWord::ArrayNewElem => Ok(GcOp::ArrayNewElem(Box::new(
+            alloc,
+            ArrayNewElem {
+                array: first,
+                elem_idx: second,
+            },
+        )?)),
+        IndicesWord::ArrayCopy => Ok(GcOp::ArrayCopy(Box::new(
+            alloc,
+            ArrayCopy {
+                dest_array: first,
+                src_array: second,
+            },
+        )?)),
+        IndicesWord::ArrayInitData => Ok(GcOp::ArrayInitData(Box::new(
+            alloc,
+            ArrayInit {
+                array: first,
+                segment: second,
+            },
+        )?)),
+        IndicesWord::ArrayInitElem => Ok(GcOp::ArrayInitElem(Box::new(
+            alloc,
+            ArrayInit {
+                array: first,
+                segment: second,
+            },
+        )?)),
     }
 }
 
@@ -289,16 +323,8 @@ fn vector_memory_lane<'a>(word: MemoryLaneWord, operands: LoadOrStoreLane<'a>) -
     }
 }
 
-/// The instruction of a word of a proposal with nothing after it.
-pub(crate) fn plain_proposal<'a>(word: PlainProposal) -> Instruction<'a>
-    ensures word { instruction_word result ≡ words.Proposal (proposal_words.Plain word) }
-    ensures operands { instruction_operands result ≡ spec.NoOperands }
-{
-    Instruction::Proposal(plain_op(word))
-}
-
-/// Its operation alone.
-fn plain_op<'a>(word: PlainProposal) -> ProposalOp<'a>
+/// The operation of a word of a proposal with nothing after it.
+pub(crate) fn plain_proposal<'a>(word: PlainProposal) -> ProposalOp<'a>
     ensures word { proposal_word result ≡ words.Proposal (proposal_words.Plain word) }
     ensures operands { proposal_operands result ≡ spec.NoOperands }
 {
@@ -309,15 +335,7 @@ fn plain_op<'a>(word: PlainProposal) -> ProposalOp<'a>
 }
 
 /// The same of a word and an index.
-pub(crate) fn index_proposal<'a>(word: IndexProposal, index: Index<'a>) -> Instruction<'a>
-    ensures word { instruction_word result ≡ words.Proposal (proposal_words.Index word) }
-    ensures operands { instruction_operands result ≡ spec.One (index_tree index.entry) }
-{
-    Instruction::Proposal(index_op(word, index))
-}
-
-/// Its operation alone.
-fn index_op<'a>(word: IndexProposal, index: Index<'a>) -> ProposalOp<'a>
+pub(crate) fn index_proposal<'a>(word: IndexProposal, index: Index<'a>) -> ProposalOp<'a>
     ensures word { proposal_word result ≡ words.Proposal (proposal_words.Index word) }
     ensures operands { proposal_operands result ≡ spec.One (index_tree index.entry) }
 {
@@ -335,15 +353,7 @@ pub(crate) fn indices_proposal<'a>(
     word: IndicesProposal,
     first: Index<'a>,
     second: Index<'a>,
-) -> Instruction<'a>
-    ensures word { instruction_word result ≡ words.Proposal (proposal_words.Indices word) }
-    ensures operands { instruction_operands result ≡ spec.Two (index_tree first.entry) (index_tree second.entry) }
-{
-    Instruction::Proposal(indices_op(word, first, second))
-}
-
-/// Its operation alone.
-fn indices_op<'a>(word: IndicesProposal, first: Index<'a>, second: Index<'a>) -> ProposalOp<'a>
+) -> ProposalOp<'a>
     ensures word { proposal_word result ≡ words.Proposal (proposal_words.Indices word) }
     ensures operands { proposal_operands result ≡ spec.Two (index_tree first.entry) (index_tree second.entry) }
 {
@@ -363,15 +373,7 @@ fn indices_op<'a>(word: IndicesProposal, first: Index<'a>, second: Index<'a>) ->
 pub(crate) fn ordered_index<'a>(
     word: OrderedIndexProposal,
     operand: Ordered<Index<'a>>,
-) -> Instruction<'a>
-    ensures word { instruction_word result ≡ words.Proposal (proposal_words.OrderedIndex word) }
-    ensures operands { instruction_operands result ≡ spec.Ordered (ordering_tree operand.entry.ordering) (spec.One (index_tree operand.entry.inner)) }
-{
-    Instruction::Proposal(ordered_index_op(word, operand))
-}
-
-/// Its operation alone.
-fn ordered_index_op<'a>(word: OrderedIndexProposal, operand: Ordered<Index<'a>>) -> ProposalOp<'a>
+) -> ProposalOp<'a>
     ensures word { proposal_word result ≡ words.Proposal (proposal_words.OrderedIndex word) }
     ensures operands { proposal_operands result ≡ spec.Ordered (ordering_tree operand.entry.ordering) (spec.One (index_tree operand.entry.inner)) }
 {
@@ -403,17 +405,6 @@ fn ordered_index_op<'a>(word: OrderedIndexProposal, operand: Ordered<Index<'a>>)
 pub(crate) fn ordered_optional_index<'a>(
     word: OrderedOptionalIndexProposal,
     operand: Ordered<TableArg<'a>>,
-) -> Instruction<'a>
-    ensures word { instruction_word result ≡ words.Proposal (proposal_words.OrderedOptionalIndex word) }
-    ensures operands { instruction_operands result ≡ spec.Ordered (ordering_tree operand.entry.ordering) (spec.Optional (table_arg_tree operand.entry.inner)) }
-{
-    Instruction::Proposal(ordered_optional_index_op(word, operand))
-}
-
-/// Its operation alone.
-fn ordered_optional_index_op<'a>(
-    word: OrderedOptionalIndexProposal,
-    operand: Ordered<TableArg<'a>>,
 ) -> ProposalOp<'a>
     ensures word { proposal_word result ≡ words.Proposal (proposal_words.OrderedOptionalIndex word) }
     ensures operands { proposal_operands result ≡ spec.Ordered (ordering_tree operand.entry.ordering) (spec.Optional (table_arg_tree operand.entry.inner)) }
@@ -430,17 +421,6 @@ fn ordered_optional_index_op<'a>(
 
 /// The same of a word, an ordering and two indices.
 pub(crate) fn ordered_indices<'a>(
-    word: OrderedIndicesProposal,
-    operand: Ordered<StructAccess<'a>>,
-) -> Instruction<'a>
-    ensures word { instruction_word result ≡ words.Proposal (proposal_words.OrderedIndices word) }
-    ensures operands { instruction_operands result ≡ spec.Ordered (ordering_tree operand.entry.ordering) (spec.Two (index_tree operand.entry.inner.struct_type) (index_tree operand.entry.inner.field)) }
-{
-    Instruction::Proposal(ordered_indices_op(word, operand))
-}
-
-/// Its operation alone.
-fn ordered_indices_op<'a>(
     word: OrderedIndicesProposal,
     operand: Ordered<StructAccess<'a>>,
 ) -> ProposalOp<'a>

@@ -12,7 +12,8 @@ use wast_parser::{Id, Index};
 use wast_typed_operands::{BlockType, CallIndirect, SelectTypes, TryTable};
 
 /// An instruction with its operands (6.5). Those of one family stand behind a variant of their own, as they do in the encoder:
-/// what they are called there and have no operands, they are.
+/// what they are called there and have no operands, they are. What is large and seldom stands in a box, so that all others take less
+/// room.
 #[derive(Drop)]
 pub enum Instruction<'a> {
     Unreachable,
@@ -29,7 +30,7 @@ pub enum Instruction<'a> {
     End(Option<Id<'a>>),
     Br(Index<'a>),
     BrIf(Index<'a>),
-    BrTable(BrTableIndices<'a>),
+    BrTable(Box<BrTableIndices<'a>>),
     Return,
     Call(Index<'a>),
     CallIndirect(Box<CallIndirect<'a>>),
@@ -69,5 +70,5 @@ pub enum Instruction<'a> {
     Bulk(BulkOp<'a>),
     Gc(GcOp<'a>),
     VectorArg(VectorArgOp<'a>),
-    Proposal(ProposalOp<'a>),
+    Proposal(Box<ProposalOp<'a>>),
 }

@@ -9,8 +9,9 @@ ghost use Rattle.wast_mnemonics.specs.declared.word.Word.TheVariants as words;
 ghost use Rattle.wast_mnemonics.specs.declared.proposal.ProposalWord.TheVariants as proposal_words;
 ghost use Rattle.wast_core_instr.specs.InstructionTree as spec;
 ghost use Rattle.wast_core_instr.specs.InstructionSyntax.{instruction, operands};
-ghost use Rattle.wast_core_instr.specs.WordViews.{instruction_word};
+ghost use Rattle.wast_core_instr.specs.WordViews.{instruction_word, proposal_word};
 ghost use Rattle.wast_core_instr.specs.InstructionViews.{instruction_operands, instruction_tree};
+ghost use Rattle.wast_core_instr.specs.InstructionViews as views;
 
 use crate::bulk::BulkOp;
 use crate::compose::{
@@ -62,22 +63,20 @@ fn parse_operands<'a>(parser: &mut Parser<'a>, word: Word) -> Result<Instruction
         Word::TryTable => Ok(Instruction::TryTable(Parse::parse(parser)?)),
         Word::Index(word) => Ok(with_index(word, Index::parse(parser)?)),
         Word::Indices(word) => parse_indices(parser, word),
-        Word::ArrayNewFixed => Ok(Instruction::Gc(GcOp::ArrayNewFixed(Parse::parse(parser)?))),
-        Word::BrTable => Ok(Instruction::BrTable(Parse::parse(parser)?)),
+        Word::ArrayNewFixed => Ok(Instruction::Gc(GcOp::ArrayNewFixed(Box::parse(parser)?))),
+        Word::BrTable => Ok(Instruction::BrTable(Box::parse(parser)?)),
         Word::Indirect(word) => Ok(with_call(word, Box::parse(parser)?)),
         Word::OptionalIndex(word) => Ok(with_optional_index(word, Option::parse(parser)?)),
         Word::Copy(word) => parse_copy(parser, word),
         Word::Init(word) => parse_init(parser, word),
-        Word::RefNull => Ok(Instruction::Gc(GcOp::RefNull(Parse::parse(parser)?))),
+        Word::RefNull => Ok(Instruction::Gc(GcOp::RefNull(Box::parse(parser)?))),
         Word::Ref(word) => parse_ref(parser, word),
         Word::Cast(word) => parse_cast(parser, word),
         Word::I32Const => Ok(Instruction::I32Const(i32::parse(parser)?)),
         Word::I64Const => Ok(Instruction::I64Const(i64::parse(parser)?)),
         Word::F32Const => Ok(Instruction::F32Const(Parse::parse(parser)?)),
         Word::F64Const => Ok(Instruction::F64Const(Parse::parse(parser)?)),
-        Word::V128Const => Ok(Instruction::VectorArg(VectorArgOp::V128Const(Parse::parse(
-            parser,
-        )?))),
+        Word::V128Const => Ok(Instruction::VectorArg(VectorArgOp::V128Const(Box::parse(parser)?))),
         Word::Select => Ok(Instruction::Select(Parse::parse(parser)?)),
         Word::Lane(word) => Ok(with_lane(word, Parse::parse(parser)?)),
         Word::I8x16Shuffle => Ok(Instruction::VectorArg(VectorArgOp::I8x16Shuffle(Parse::parse(
@@ -86,7 +85,10 @@ fn parse_operands<'a>(parser: &mut Parser<'a>, word: Word) -> Result<Instruction
         Word::Memory(word) => parse_memory(parser, word),
         Word::MemoryLane(word) => parse_memory_lane(parser, word),
         Word::AtomicFence => Ok(Instruction::AtomicFence(Option::parse(parser)?)),
-        Word::Proposal(word) => parse_proposal(parser, word),
+        Word::Proposal(word) => {
+            let op = parse_proposal(parser, word)?;
+            Ok(Instruction::Proposal(Box::new(parser.alloc(), op)?))
+        }
     }
 }
 
@@ -97,7 +99,7 @@ fn parse_indices<'a>(parser: &mut Parser<'a>, word: IndicesWord) -> Result<Instr
 {
     let first = Index::parse(parser)?;
     let second = Index::parse(parser)?;
-    Ok(with_indices(word, first, second))
+    Ok(with_indices(parser.alloc(), word, first, second)?)
 }
 
 fn parse_copy<'a>(parser: &mut Parser<'a>, word: CopyWord) -> Result<Instruction<'a>, Error>
@@ -117,8 +119,8 @@ fn parse_init<'a>(parser: &mut Parser<'a>, word: InitWord) -> Result<Instruction
     ensures keeps { Keeps parser.old parser.new }
 {
     match word {
-        InitWord::MemoryInit => Ok(Instruction::Bulk(BulkOp::MemoryInit(Parse::parse(parser)?))),
-        InitWord::TableInit => Ok(Instruction::Bulk(BulkOp::TableInit(Parse::parse(parser)?))),
+        InitWord::MemoryInit => Ok(Instruction::Bulk(BulkOp::MemoryInit(Box::parse(parser)?))),
+        InitWord::TableInit => Ok(Instruction::Bulk(BulkOp::TableInit(Box::parse(parser)?))),
     }
 }
 
@@ -128,8 +130,8 @@ fn parse_ref<'a>(parser: &mut Parser<'a>, word: RefWord) -> Result<Instruction<'
     ensures keeps { Keeps parser.old parser.new }
 {
     match word {
-        RefWord::RefTest => Ok(Instruction::Gc(GcOp::RefTest(Parse::parse(parser)?))),
-        RefWord::RefCast => Ok(Instruction::Gc(GcOp::RefCast(Parse::parse(parser)?))),
+        RefWord::RefTest => Ok(Instruction::Gc(GcOp::RefTest(Box::parse(parser)?))),
+        RefWord::RefCast => Ok(Instruction::Gc(GcOp::RefCast(Box::parse(parser)?))),
     }
 }
 
@@ -167,26 +169,20 @@ fn parse_memory_lane<'a>(
     }
 }
 
-fn parse_proposal<'a>(parser: &mut Parser<'a>, word: ProposalWord) -> Result<Instruction<'a>, Error>
-    ensures read { Gives instruction_operands result parser.new ((operands (word_operands (words.Proposal word))).reads (ahead parser.old)) }
-    ensures same { IfOk result (λ i. instruction_word i ≡ words.Proposal word) }
+fn parse_proposal<'a>(parser: &mut Parser<'a>, word: ProposalWord) -> Result<ProposalOp<'a>, Error>
+    ensures read { Gives views.proposal_operands result parser.new ((operands (word_operands (words.Proposal word))).reads (ahead parser.old)) }
+    ensures same { IfOk result (λ op. proposal_word op ≡ words.Proposal word) }
     ensures keeps { Keeps parser.old parser.new }
 {
     match word {
         ProposalWord::Plain(word) => Ok(plain_proposal(word)),
         ProposalWord::Index(word) => Ok(index_proposal(word, Index::parse(parser)?)),
         ProposalWord::Indices(word) => parse_proposal_indices(parser, word),
-        ProposalWord::MemoryDiscard => Ok(Instruction::Proposal(ProposalOp::MemoryDiscard(
-            Parse::parse(parser)?,
-        ))),
-        ProposalWord::RefCastDescEq => Ok(Instruction::Proposal(ProposalOp::RefCastDescEq(
-            Parse::parse(parser)?,
-        ))),
+        ProposalWord::MemoryDiscard => Ok(ProposalOp::MemoryDiscard(Parse::parse(parser)?)),
+        ProposalWord::RefCastDescEq => Ok(ProposalOp::RefCastDescEq(Parse::parse(parser)?)),
         ProposalWord::Cast(word) => parse_proposal_cast(parser, word),
         ProposalWord::Resume(word) => parse_resume(parser, word),
-        ProposalWord::ResumeThrow => Ok(Instruction::Proposal(ProposalOp::ResumeThrow(Parse::parse(
-            parser,
-        )?))),
+        ProposalWord::ResumeThrow => Ok(ProposalOp::ResumeThrow(Parse::parse(parser)?)),
         ProposalWord::OrderedIndex(word) => Ok(ordered_index(word, Parse::parse(parser)?)),
         ProposalWord::OrderedOptionalIndex(word) => Ok(ordered_optional_index(
             word,
@@ -199,9 +195,9 @@ fn parse_proposal<'a>(parser: &mut Parser<'a>, word: ProposalWord) -> Result<Ins
 fn parse_proposal_indices<'a>(
     parser: &mut Parser<'a>,
     word: IndicesProposal,
-) -> Result<Instruction<'a>, Error>
-    ensures read { Gives instruction_operands result parser.new ((operands (proposal_operands (proposal_words.Indices word))).reads (ahead parser.old)) }
-    ensures same { IfOk result (λ i. instruction_word i ≡ words.Proposal (proposal_words.Indices word)) }
+) -> Result<ProposalOp<'a>, Error>
+    ensures read { Gives views.proposal_operands result parser.new ((operands (proposal_operands (proposal_words.Indices word))).reads (ahead parser.old)) }
+    ensures same { IfOk result (λ op. proposal_word op ≡ words.Proposal (proposal_words.Indices word)) }
     ensures keeps { Keeps parser.old parser.new }
 {
     let first = Index::parse(parser)?;
@@ -212,32 +208,24 @@ fn parse_proposal_indices<'a>(
 fn parse_proposal_cast<'a>(
     parser: &mut Parser<'a>,
     word: CastProposal,
-) -> Result<Instruction<'a>, Error>
-    ensures read { Gives instruction_operands result parser.new ((operands (proposal_operands (proposal_words.Cast word))).reads (ahead parser.old)) }
-    ensures same { IfOk result (λ i. instruction_word i ≡ words.Proposal (proposal_words.Cast word)) }
+) -> Result<ProposalOp<'a>, Error>
+    ensures read { Gives views.proposal_operands result parser.new ((operands (proposal_operands (proposal_words.Cast word))).reads (ahead parser.old)) }
+    ensures same { IfOk result (λ op. proposal_word op ≡ words.Proposal (proposal_words.Cast word)) }
     ensures keeps { Keeps parser.old parser.new }
 {
     match word {
-        CastProposal::BrOnCastDescEq => Ok(Instruction::Proposal(ProposalOp::BrOnCastDescEq(
-            Box::parse(parser)?,
-        ))),
-        CastProposal::BrOnCastDescEqFail => Ok(Instruction::Proposal(ProposalOp::BrOnCastDescEqFail(
-            Box::parse(parser)?,
-        ))),
+        CastProposal::BrOnCastDescEq => Ok(ProposalOp::BrOnCastDescEq(Box::parse(parser)?)),
+        CastProposal::BrOnCastDescEqFail => Ok(ProposalOp::BrOnCastDescEqFail(Box::parse(parser)?)),
     }
 }
 
-fn parse_resume<'a>(parser: &mut Parser<'a>, word: ResumeProposal) -> Result<Instruction<'a>, Error>
-    ensures read { Gives instruction_operands result parser.new ((operands (proposal_operands (proposal_words.Resume word))).reads (ahead parser.old)) }
-    ensures same { IfOk result (λ i. instruction_word i ≡ words.Proposal (proposal_words.Resume word)) }
+fn parse_resume<'a>(parser: &mut Parser<'a>, word: ResumeProposal) -> Result<ProposalOp<'a>, Error>
+    ensures read { Gives views.proposal_operands result parser.new ((operands (proposal_operands (proposal_words.Resume word))).reads (ahead parser.old)) }
+    ensures same { IfOk result (λ op. proposal_word op ≡ words.Proposal (proposal_words.Resume word)) }
     ensures keeps { Keeps parser.old parser.new }
 {
     match word {
-        ResumeProposal::Resume => Ok(Instruction::Proposal(ProposalOp::Resume(Parse::parse(
-            parser,
-        )?))),
-        ResumeProposal::ResumeThrowRef => Ok(Instruction::Proposal(ProposalOp::ResumeThrowRef(
-            Parse::parse(parser)?,
-        ))),
+        ResumeProposal::Resume => Ok(ProposalOp::Resume(Parse::parse(parser)?)),
+        ResumeProposal::ResumeThrowRef => Ok(ProposalOp::ResumeThrowRef(Parse::parse(parser)?)),
     }
 }

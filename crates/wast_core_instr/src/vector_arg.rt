@@ -4,7 +4,7 @@ use wast_operands::{I8x16Shuffle, LaneArg, LoadOrStoreLane, MemArg, V128Const};
 /// Vector instructions with operands (6.5.6, 6.5.10).
 #[derive(Drop)]
 pub enum VectorArgOp<'a> {
-    V128Const(V128Const<'a>),
+    V128Const(Box<V128Const<'a>>),
     I8x16ExtractLaneS(LaneArg),
     I8x16ExtractLaneU(LaneArg),
     I8x16ReplaceLane(LaneArg),

@@ -68,7 +68,7 @@ instruction_ordered : (i : Instruction) → is_ordered (instruction_operands i) 
 instruction_ordered (instructions.Bulk op) = bulk_ordered op
 instruction_ordered (instructions.Gc op) = gc_ordered op
 instruction_ordered (instructions.VectorArg op) = vector_ordered op
-instruction_ordered (instructions.Proposal op) = proposal_ordered op
+instruction_ordered (instructions.Proposal op) = proposal_ordered op.value
 instruction_ordered _ = refl
 
 abbrev own : spec.Instruction Name ℕ → Bool

@@ -69,7 +69,7 @@ instruction_quiet (instructions.ReturnCallIndirect x) b l c t u e d = absurd (d 
 instruction_quiet (instructions.Bulk op) b l c t u e d = bulk_quiet op
 instruction_quiet (instructions.Gc op) b l c t u e d = gc_quiet op
 instruction_quiet (instructions.VectorArg op) b l c t u e d = vector_arg_quiet op
-instruction_quiet (instructions.Proposal op) b l c t u e d = proposal_quiet op
+instruction_quiet (instructions.Proposal op) b l c t u e d = proposal_quiet op.value
 instruction_quiet i b l c t u e d = refl
 
 pub other_instruction : (p : ℕ) (k : Known) (i : Instruction)

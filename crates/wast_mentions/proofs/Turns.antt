@@ -213,7 +213,7 @@ word_other (instructions.AtomicRmw op x) b l c t u e d = atomic_rmw_other op
 word_other (instructions.Bulk op) b l c t u e d = bulk_other op
 word_other (instructions.Gc op) b l c t u e d = gc_other op
 word_other (instructions.VectorArg op) b l c t u e d = vector_arg_other op
-word_other (instructions.Proposal op) b l c t u e d = proposal_other op
+word_other (instructions.Proposal op) b l c t u e d = proposal_other op.value
 word_other i b l c t u e d = refl
 
 pub other_turn : (i : Instruction)

@@ -1,5 +1,5 @@
 //! What instructions say of names (6.5): operands as written, but the table of an indirect call before its type use.
-ghost use Rattle.wast_core_instr.specs.InstructionViews.{instruction_tree};
+ghost use Rattle.wast_core_instr.specs.InstructionViews.{instruction_tree, proposal_tree};
 ghost use Rattle.wast_core_instr.specs.declared.instruction.Instruction.TheVariants as instructions;
 ghost use Rattle.wast_meaning.specs.Mentions as spec;
 
@@ -236,7 +236,7 @@ impl<'a, J: Judge<'a>> Tell<'a, J> for VectorArgOp<'a> {
 }
 
 impl Mentions for ProposalOp<'_> {
-    ghost mentions = { λ op. spec.instr_mentions (instruction_tree (instructions.Proposal op)) };
+    ghost mentions = { λ op. spec.instr_mentions (proposal_tree op) };
 }
 
 impl<'a, J: Judge<'a>> Tell<'a, J> for ProposalOp<'a> {

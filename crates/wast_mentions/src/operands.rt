@@ -2,7 +2,7 @@
 ghost use Rattle.std.specs.Prelude.{[], ◌∷◌, ◌++◌, option_map};
 ghost use Rattle.wasm_encoder_base.specs.OperandSyntax as syntax;
 ghost use Rattle.wast_parser.specs.Identifiers.{index_tree};
-ghost use Rattle.wast_operands.specs.OperandViews.{handle_tree, handlers_tree, label_table_tree, mem_arg_tree, pair_tree, struct_access_tree};
+ghost use Rattle.wast_operands.specs.OperandViews.{handle_tree, handlers_tree, label_table_tree, mem_arg_tree, pair_tree, struct_access_tree, target_tree};
 ghost use Rattle.wast_typed_operands.specs.TypedViews.{block_tree, cast_tree, catch_tree, indirect_tree, select_types_tree, try_table_tree};
 ghost use Rattle.wast_core_instr.specs.InstructionTree as operands;
 ghost use Rattle.wast_meaning.specs.Mentions as spec;
@@ -111,9 +111,21 @@ impl Mentions for MemArg<'_> {
 impl<'a, J: Judge<'a>> Tell<'a, J> for MemArg<'a> {
     fn tell(&self, judge: &J) -> Result<(), J::Fault> {
         match &self.target {
-            Some(MemArgTarget::Memory(memory)) => tell_index(Space::Memories, memory, judge),
-            Some(MemArgTarget::Array(ty)) => tell_index(Space::Types, ty, judge),
+            Some(target) => target.tell(judge),
             None => Ok(()),
+        }
+    }
+}
+
+impl Mentions for MemArgTarget<'_> {
+    ghost mentions = { λ t. spec.target_mention (target_tree t) ∷ [] };
+}
+
+impl<'a, J: Judge<'a>> Tell<'a, J> for MemArgTarget<'a> {
+    fn tell(&self, judge: &J) -> Result<(), J::Fault> {
+        match self {
+            MemArgTarget::Memory(memory) => tell_index(Space::Memories, memory, judge),
+            MemArgTarget::Array(ty) => tell_index(Space::Types, ty, judge),
         }
     }
 }
@@ -195,13 +207,13 @@ pub(crate) fn tell_member<'a, J: Judge<'a>>(
 /// Tells of two indices of one space, where they are written.
 pub(crate) fn tell_copy<'a, J: Judge<'a>>(
     space: Space,
-    indices: &Option<(Index<'a>, Index<'a>)>,
+    indices: &Option<Box<(Index<'a>, Index<'a>)>>,
     judge: &J,
 ) -> Result<(), J::Fault>
-    ensures { Judged (J.asks judge.now) J.holds J.tells result (spec.operand_mentions (syntax.Copy (space_view space)) (operands.OptionalTwo (option_map pair_tree indices.now))) }
+    ensures { Judged (J.asks judge.now) J.holds J.tells result (spec.operand_mentions (syntax.Copy (space_view space)) (operands.OptionalTwo (option_map (λ p. pair_tree p.value) indices.now))) }
 {
     match indices {
-        Some((to, from)) => tell_two(space, to, space, from, judge),
+        Some(indices) => tell_two(space, &indices.0, space, &indices.1, judge),
         None => Ok(()),
     }
 }

@@ -52,10 +52,10 @@ abbrev pub memory_arg_tree : MemoryArg → Option TextReference
 memory_arg_tree a = option_map index_tree a.mem
 
 abbrev pub table_copy_tree : TableCopy → Option (TextReference × TextReference)
-table_copy_tree c = option_map pair_tree c.tables
+table_copy_tree c = option_map (λ p. pair_tree p.value) c.tables
 
 abbrev pub memory_copy_tree : MemoryCopy → Option (TextReference × TextReference)
-memory_copy_tree c = option_map pair_tree c.memories
+memory_copy_tree c = option_map (λ p. pair_tree p.value) c.memories
 
 abbrev pub table_init_tree : TableInit → Option TextReference × TextReference
 table_init_tree i = (option_map index_tree i.table, index_tree i.elem)
@@ -99,7 +99,7 @@ abbrev pub modifiers_tree : Modifiers → spec.Modifiers
 modifiers_tree m = record { ordering = option_map mem_arg_ordering_tree m.ordering; offset = m.offset; align = m.align }
 
 abbrev pub mem_arg_tree : MemArg → spec.MemArg Name ℕ
-mem_arg_tree m = record { target = option_map target_tree m.target; ordering = option_map mem_arg_ordering_tree m.ordering; offset = m.offset; align = m.align }
+mem_arg_tree m = record { target = option_map (λ t. target_tree t.value) m.target; ordering = option_map mem_arg_ordering_tree m.ordering; offset = m.offset; align = m.align }
 
 abbrev pub lane_access_tree : LoadOrStoreLane → spec.MemArg Name ℕ × ℕ
 lane_access_tree l = (mem_arg_tree l.memarg, l.lane.lane)

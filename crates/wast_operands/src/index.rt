@@ -108,7 +108,7 @@ impl<'a> Parse<'a> for MemoryArg<'a> {
 /// The table that `table.copy` copies to, and the one that it copies from; absent both are table 0.
 #[derive(Debug, Drop)]
 pub struct TableCopy<'a> {
-    pub tables: Option<(Index<'a>, Index<'a>)>,
+    pub tables: Option<Box<(Index<'a>, Index<'a>)>>,
 }
 
 impl<'a> Meaning for TableCopy<'a> {
@@ -133,7 +133,7 @@ impl<'a> Parse<'a> for TableCopy<'a> {
 /// The memory that `memory.copy` copies to, and the one that it copies from; absent both are memory 0.
 #[derive(Debug, Drop)]
 pub struct MemoryCopy<'a> {
-    pub memories: Option<(Index<'a>, Index<'a>)>,
+    pub memories: Option<Box<(Index<'a>, Index<'a>)>>,
 }
 
 impl<'a> Meaning for MemoryCopy<'a> {
@@ -398,14 +398,14 @@ impl<'a> Parse<'a> for ArrayNewElem<'a> {
 }
 
 /// Two indices, or none.
-fn none_or_two<'a>(parser: &mut Parser<'a>) -> Result<Option<(Index<'a>, Index<'a>)>, Error>
-    ensures read { Gives (option_map pair_tree) result parser.new (optional_indices.reads (ahead parser.old)) }
+fn none_or_two<'a>(parser: &mut Parser<'a>) -> Result<Option<Box<(Index<'a>, Index<'a>)>>, Error>
+    ensures read { Gives (option_map (λ p. pair_tree p.value)) result parser.new (optional_indices.reads (ahead parser.old)) }
     ensures keeps { Keeps parser.old parser.new }
 {
     if parser.peek::<Index>()? {
         let first = Index::parse(parser)?;
         let second = Index::parse(parser)?;
-        Ok(Some((first, second)))
+        Ok(Some(Box::new(parser.alloc(), (first, second))?))
     } else {
         Ok(None)
     }

@@ -29,12 +29,13 @@ pub enum MemArgOrdering {
     Rmw(Ordering, Ordering),
 }
 
-/// A memory argument (6.5.6). The alignment is in bytes; an absent target is memory 0.
+/// A memory argument (6.5.6). The alignment is in bytes; an absent target is memory 0. Few have a target: it stands in a box, so
+/// that the others take no room for it.
 #[derive(Debug, Drop)]
 pub struct MemArg<'a> {
     pub align: u64,
     pub offset: u64,
-    pub target: Option<MemArgTarget<'a>>,
+    pub target: Option<Box<MemArgTarget<'a>>>,
     pub ordering: Option<MemArgOrdering>,
 }
 
@@ -66,7 +67,7 @@ impl<'a> LoadOrStoreLane<'a> {
     {
         if parser.peek::<Id>()? {
             let id = Id::parse(parser)?;
-            let target = Some(MemArgTarget::Memory(Index::Id(id)));
+            let target = Some(Box::new(parser.alloc(), MemArgTarget::Memory(Index::Id(id)))?);
             let modifiers = parse_modifiers(parser)?;
             let lane = LaneArg::parse(parser)?;
             Ok(LoadOrStoreLane {
@@ -75,7 +76,7 @@ impl<'a> LoadOrStoreLane<'a> {
             })
         } else if parser.peek::<TypeRef>()? {
             let array = TypeRef::parse(parser)?;
-            let target = Some(MemArgTarget::Array(array.idx));
+            let target = Some(Box::new(parser.alloc(), MemArgTarget::Array(array.idx))?);
             let modifiers = parse_modifiers(parser)?;
             let lane = LaneArg::parse(parser)?;
             Ok(LoadOrStoreLane {
@@ -98,8 +99,8 @@ struct Modifiers {
 
 impl Modifiers {
     /// The memory argument with this target.
-    fn of<'a>(self, target: Option<MemArgTarget<'a>>, default_align: u64) -> MemArg<'a>
-        ensures { mem_arg_tree result ≡ as_mem_arg default_align (option_map target_tree target.entry) (modifiers_tree self) }
+    fn of<'a>(self, target: Option<Box<MemArgTarget<'a>>>, default_align: u64) -> MemArg<'a>
+        ensures { mem_arg_tree result ≡ as_mem_arg default_align (option_map (λ t. target_tree t.value) target.entry) (modifiers_tree self) }
     {
         MemArg {
             align: self.align.unwrap_or(default_align),
@@ -133,15 +134,16 @@ impl KeywordName for TypeName {
 type TypeRef<'a> = ItemRef<'a, Keyword<TypeName>>;
 
 /// The target of a memory argument, where one is written.
-fn parse_target<'a>(parser: &mut Parser<'a>) -> Result<Option<MemArgTarget<'a>>, Error>
-    ensures read { Gives (option_map target_tree) result parser.new (target.reads (ahead parser.old)) }
+fn parse_target<'a>(parser: &mut Parser<'a>) -> Result<Option<Box<MemArgTarget<'a>>>, Error>
+    ensures read { Gives (option_map (λ t. target_tree t.value)) result parser.new (target.reads (ahead parser.old)) }
     ensures keeps { Keeps parser.old parser.new }
 {
     if parser.peek::<Index>()? {
-        Ok(Some(MemArgTarget::Memory(Index::parse(parser)?)))
+        let memory = Index::parse(parser)?;
+        Ok(Some(Box::new(parser.alloc(), MemArgTarget::Memory(memory))?))
     } else if parser.peek::<TypeRef>()? {
         let array = TypeRef::parse(parser)?;
-        Ok(Some(MemArgTarget::Array(array.idx)))
+        Ok(Some(Box::new(parser.alloc(), MemArgTarget::Array(array.idx))?))
     } else {
         Ok(None)
     }
@@ -276,7 +278,10 @@ fn parse_behind_integer<'a>(
     ensures keeps { Keeps parser.old parser.new }
 {
     if peek_lane(parser)? {
-        let target = Some(MemArgTarget::Memory(Index::Num(number, span)));
+        let target = Some(Box::new(
+            parser.alloc(),
+            MemArgTarget::Memory(Index::Num(number, span)),
+        )?);
         let modifiers = parse_modifiers(parser)?;
         let lane = LaneArg::parse(parser)?;
         Ok(LoadOrStoreLane {

@@ -59,7 +59,7 @@ unlabelled (instructions.TryTable x) b l c t u = absurd (u x refl)
 unlabelled (instructions.Bulk op) b l c t u = bulk_unlabelled op
 unlabelled (instructions.Gc op) b l c t u = gc_unlabelled op
 unlabelled (instructions.VectorArg op) b l c t u = vector_arg_unlabelled op
-unlabelled (instructions.Proposal op) b l c t u = proposal_unlabelled op
+unlabelled (instructions.Proposal op) b l c t u = proposal_unlabelled op.value
 unlabelled i b l c t u = refl
 
 -- WHAT IS SEEN AND LEFT

@@ -171,7 +171,7 @@ listed_first i p =
 pub told_first : (i : Instruction) → first (instr_forms (instruction_tree i)) ≡ told i
 told_first (instructions.Proposal op) =
     let os = instruction_operands (instructions.Proposal op) in
-    let m = word_mnemonic (proposal_word op) in
-    ap (λ es. first (forms_with (chosen m es (choose_second os)) (operand_forms os))) (none_found op)
+    let m = word_mnemonic (proposal_word op.value) in
+    ap (λ es. first (forms_with (chosen m es (choose_second os)) (operand_forms os))) (none_found op.value)
 told_first (instructions.Nop) = listed_first instructions.Nop tt
 told_first i = listed_first i tt

@@ -10,5 +10,5 @@ use Rattle.wast_uncovered.specs.First.{first}
 
 -- its mnemonic, where its operands have a form or it is an instruction of a proposal
 abbrev pub told : Instruction → Option Form
-told (instructions.Proposal op) = Some (word_mnemonic (proposal_word op))
+told (instructions.Proposal op) = Some (word_mnemonic (proposal_word op.value))
 told i = option_map (λ form. word_mnemonic (instruction_word i)) (first (operand_forms (instruction_operands i)))

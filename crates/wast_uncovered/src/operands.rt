@@ -102,8 +102,11 @@ impl HasForms for MemArg<'_> {
 
     fn first_form(&self) -> Option<&'static str> {
         match &self.target {
-            Some(MemArgTarget::Array(_)) => Some("array"),
-            Some(MemArgTarget::Memory(_)) | None => access_form(&self.ordering),
+            Some(target) => match &**target {
+                MemArgTarget::Array(_) => Some("array"),
+                MemArgTarget::Memory(_) => access_form(&self.ordering),
+            },
+            None => access_form(&self.ordering),
         }
     }
 }
