@@ -1,5 +1,5 @@
 -- Definitions as the code has them, whatever they define.
-use Rattle.std.specs.Prelude.{ℕ, Bool, true, false, List, ◌∷◌, ◌++◌, map, option_map}
+use Rattle.std.specs.Prelude.{ℕ, Bool, true, false, ◌&&◌, not, List, ◌∷◌, ◌++◌, map, option_map}
 use Rattle.wast_grammar.specs.Tokens.{Name}
 use Rattle.wast_parser.specs.Identifiers.{Named, identifier_tree}
 use Rattle.wast_core_types.specs.TypeViews.{name_tree}
@@ -8,7 +8,7 @@ use Rattle.wast_fields.specs.FieldTree as spec
 use Rattle.wast_fields.specs.FieldTree.{Field, Define, Imported}
 use Rattle.wast_fields.specs.FieldViews.{defined_func, defined_global, defined_memory, defined_tag}
 use Rattle.wast_fields.specs.ElemViews.{defined_table}
-use Rattle.wast_meaning.specs.Written.{field_of, export_of, segment_of, kind_of}
+use Rattle.wast_meaning.specs.Written.{field_of, export_of, segment_of, kind_of, is_said}
 use Rattle.wast_deinline.specs.declared.definition.Definition.{Definition}
 use Rattle.wast_deinline.specs.declared.definition.Defined.{Defined}
 use Rattle.wast_deinline.specs.declared.definition.Defined.TheVariants as kinds
@@ -31,6 +31,11 @@ module _ {N P : Type 0} where
   abbrev pub is_imported : spec.Defined N P → Bool
   is_imported (Imported from name t) = true
   is_imported d = false
+
+  -- whether nothing of a field stands inline, so that it is written out as itself
+  abbrev pub stands_alone : Field N P → Bool
+  stands_alone (Define d) = not (is_said d) && not (is_imported d.defined)
+  stands_alone f = true
 
   -- a definition, then its exports, then its segment, which refer to it by this name
   abbrev pub parts_out : Named N P → spec.Definition N P → List (Field N P)

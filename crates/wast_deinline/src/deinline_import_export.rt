@@ -1,5 +1,6 @@
 //! Inline imports, exports and segments as fields of their own.
-ghost use Rattle.std.specs.Prelude.{◌≡◌, ◌+◌, ◌-◌, ◌^◌, ◌<◌, ◌≤◌, ◌++◌, false, [], ◌∷◌, map, length, option_map, option_to_list, unwrap_or, is_some, if◌then◌else◌, IfOk, OnOk, count_by};
+ghost use Rattle.std.specs.Prelude.{◌≡◌, ◌+◌, ◌-◌, ◌^◌, ◌<◌, ◌≤◌, ◌++◌, false, [], ◌∷◌, map, length, option_map, option_to_list, unwrap_or, is_some, if◌then◌else◌, true, IfOk, IsTrue, OnOk, count_by};
+ghost use Rattle.std.specs.List.{list_all};
 ghost use Rattle.wast_parser.specs.Identifiers.{identifier_tree};
 ghost use Rattle.wast_exports.specs.ExportViews.{export_name_tree, inline_export_tree, kind_view};
 ghost use Rattle.wast_imports.specs.ImportViews.{head_tree};
@@ -7,12 +8,15 @@ ghost use Rattle.wast_core.specs.ModuleViews.{field_tree};
 ghost use Rattle.wast_fields.specs.FieldTree.{Define};
 ghost use Rattle.wast_meaning.specs.Written.{by_counter, definition_out, export_of, field_of, field_out, has_segment, takes_name, written_out};
 ghost use Rattle.wast_meaning.specs.Made.{made};
-ghost use Rattle.wast_deinline.specs.Definitions.{defined_view, definition_view, parts_out};
+ghost use Rattle.wast_deinline.specs.Definitions.{defined_view, definition_view, parts_out, stands_alone};
 
 use crate::definition::Definition;
 use crate::split::{Split, set_apart};
 use std::alloc::{AllocError, Global};
-use wast_core::{Export, ExportKind, InlineExport, ModuleField};
+use wast_core::{
+    Export, ExportKind, FuncKind, GlobalKind, InlineExport, MemoryKind, ModuleField, TableKind,
+    TagKind,
+};
 use wast_exports::ExportName;
 use wast_imports::Head;
 use wast_parser::{Gensym, Id, Index, Span};
@@ -44,7 +48,8 @@ pub fn run<'a>(
     Ok(out)
 }
 
-/// The same in the fields' place; refused, they may be gone.
+/// The same in the fields' place; refused, they may be gone. Fields of which nothing stands inline are left as they are, without
+/// memory.
 pub fn run_in_place<'a>(
     alloc: Global,
     fields: &mut Vec<ModuleField<'a>>,
@@ -56,6 +61,9 @@ pub fn run_in_place<'a>(
     ensures rises { gensym.old ≤ gensym.new }
     ensures bounded { gensym.new ≤ gensym.old + count_by takes_name (map field_tree fields.old.items) }
 {
+    if all_stand_alone(fields) {
+        return Ok(());
+    }
     let taken = std::mem::replace(fields, Vec::new(alloc));
     match run(alloc, taken, gensym) {
         Ok(out) => {
@@ -63,6 +71,49 @@ pub fn run_in_place<'a>(
             Ok(())
         }
         Err(e) => Err(e),
+    }
+}
+
+/// Whether nothing stands inline in any of the fields.
+fn all_stand_alone(fields: &[ModuleField<'_>]) -> bool
+    ensures { IsTrue result → list_all stands_alone (map field_tree fields.now) ≡ true }
+{
+    for field in fields {
+        if !stands_alone(field) {
+            return false;
+        }
+    }
+    true
+}
+
+/// Whether nothing of a field stands inline.
+fn stands_alone(field: &ModuleField<'_>) -> bool
+    ensures { result ≡ stands_alone (field_tree field.now) }
+{
+    match field {
+        ModuleField::Func(func) => {
+            func.exports.names.is_empty() && !matches!(func.kind, FuncKind::Import { .. })
+        }
+        ModuleField::Table(table) => {
+            table.exports.names.is_empty() && matches!(table.kind, TableKind::Normal { .. })
+        }
+        ModuleField::Memory(memory) => {
+            memory.exports.names.is_empty() && matches!(memory.kind, MemoryKind::Normal(_))
+        }
+        ModuleField::Global(global) => {
+            global.exports.names.is_empty() && !matches!(global.kind, GlobalKind::Import(_))
+        }
+        ModuleField::Tag(tag) => {
+            tag.exports.names.is_empty() && !matches!(tag.kind, TagKind::Import(_))
+        }
+        ModuleField::TypeItem(_)
+        | ModuleField::Rec(_)
+        | ModuleField::Import(_)
+        | ModuleField::Export(_)
+        | ModuleField::Start(_)
+        | ModuleField::Elem(_)
+        | ModuleField::Data(_)
+        | ModuleField::Custom(_) => true,
     }
 }
 

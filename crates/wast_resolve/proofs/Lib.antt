@@ -10,3 +10,4 @@ mod Telling
 mod Refusals
 mod Given
 mod Wholly
+mod InPlace

@@ -16,6 +16,7 @@ ghost use Rattle.wast_resolve.specs.Steps.{behind, seen, step_of, step_view};
 use crate::place::Place;
 use crate::step::{Step, steps_of};
 use std::alloc::{AllocError, Global};
+use std::mem::replace;
 use wast_changed::change_instruction;
 use wast_core_instr::{Expression, Instruction};
 use wast_names::Namespace;
@@ -59,7 +60,7 @@ fn number_instructions<'a>(
     }
 }
 
-/// The same by what each does to the labels.
+/// The same by what each does to the labels; each in its place.
 fn number_by<'a>(
     alloc: Global,
     spaces: &Spaces<'a>,
@@ -70,12 +71,13 @@ fn number_by<'a>(
     requires { map step_view steps.now ≡ map step_of (map instruction_tree instrs.items) }
     ensures { IfOk result (λ new. map instruction_tree new.items ≡ instrs_changed (by_place spaces.now (space locals.now)) [] (map instruction_tree instrs.entry.items)) }
 {
-    let mut new = Vec::with_capacity(alloc, steps.len())?;
+    let mut new = instrs;
     let mut labels = Labels::new(alloc);
     let mut at = 0;
-    for instr in instrs {
-        match number_next(alloc, spaces, locals, &steps[at], &mut labels, instr) {
-            Ok(instr) => new.push(instr)?,
+    for instr in new.iter_mut() {
+        let old = replace(instr, Instruction::Nop);
+        match number_next(alloc, spaces, locals, &steps[at], &mut labels, old) {
+            Ok(numbered) => *instr = numbered,
             Err(e) => return Err(e),
         }
         at += 1;

@@ -1,5 +1,4 @@
-use Rattle.std.proofs.Common.{◌≡◌, [], ◌∷◌, map, length}
-use Rattle.wast_grammar.specs.Spelling.{same_name}
+use Rattle.std.proofs.Common.{◌≡◌, [], ◌∷◌, map, take, drop}
 use Rattle.wast_core_instr.specs.InstructionViews.{instruction_tree}
 use Rattle.wast_names.specs.Walk.{reached}
 use Rattle.wast_names.specs.Views.{space}
@@ -10,7 +9,8 @@ use Rattle.wast_resolve.proofs.body.number_by.Given as goal
 
 abbrev pub invariant-loop-instr : goal.invariant-loop-instr
 invariant-loop-instr l = record {
-  made : map instruction_tree l.new.items ≡ instrs_changed (by_place l.spaces (space l.locals)) [] (map instruction_tree l.yielded);
-  labels : l.labels ≡ open_labels (reached (λ before i. i ∷ before) [] (map instruction_tree l.yielded));
-  count : l.at ≡ length l.yielded;
+  made : map instruction_tree (take l.instr-index l.instr-items) ≡ instrs_changed (by_place l.spaces (space l.locals)) [] (map instruction_tree (take l.instr-index l.fn.instrs.items));
+  rest : drop l.instr-index l.instr-items ≡ drop l.instr-index l.fn.instrs.items;
+  labels : l.labels ≡ open_labels (reached (λ before i. i ∷ before) [] (map instruction_tree (take l.instr-index l.fn.instrs.items)));
+  count : l.at ≡ l.instr-index;
 }
