@@ -1,3 +1,4 @@
-mod Boxed
+pub mod InPlace
+mod Lists
 mod Rows
 mod Trees

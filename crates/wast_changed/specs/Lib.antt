@@ -1,2 +1,2 @@
-pub mod Boxed
+pub mod Lists
 pub mod Rows

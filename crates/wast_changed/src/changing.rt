@@ -1,5 +1,5 @@
 //! What becomes of each index.
-ghost use Rattle.std.specs.Prelude.{◌≡◌, ℕ, IfOk, option_map};
+ghost use Rattle.std.specs.Prelude.{◌≡◌, ℕ, None, IfOk, IsOk, option_map};
 ghost use Rattle.wast_grammar.specs.Tokens.{Name};
 ghost use Rattle.wast_parser.specs.Identifiers.{index_tree};
 ghost use Rattle.wast_core_types.specs.TypeViews.{sig_tree};
@@ -32,13 +32,14 @@ pub trait Changing<'a> {
     ) -> Result<Option<Index<'a>>, AllocError>
         ensures { IfOk result (λ new. option_map index_tree new ≡ (change self.now).type_use (record { index = option_map index_tree index.entry; inline = option_map (λ s. sig_tree s.now) inline.entry })) };
 
-    /// The same in a block (6.5.2).
+    /// The same in a block (6.5.2); without a signature no memory is asked for.
     fn block_use(
         &self,
         index: Option<Index<'a>>,
         inline: Option<&FunctionType<'a>>,
     ) -> Result<Option<Index<'a>>, AllocError>
-        ensures { IfOk result (λ new. option_map index_tree new ≡ (change self.now).block_use (record { index = option_map index_tree index.entry; inline = option_map (λ s. sig_tree s.now) inline.entry })) };
+        ensures changed { IfOk result (λ new. option_map index_tree new ≡ (change self.now).block_use (record { index = option_map index_tree index.entry; inline = option_map (λ s. sig_tree s.now) inline.entry })) }
+        ensures unasked { inline.entry ≡ None → IsOk result };
 }
 
 /// The index of a space, where there is one.

@@ -1,9 +1,9 @@
 //! Instructions.
-ghost use Rattle.std.specs.Prelude.{◌≡◌, ℕ, false, IfOk};
+ghost use Rattle.std.specs.Prelude.{◌≡◌, ℕ, false, IfOk, IsOk};
 ghost use Rattle.wast_core_instr.specs.InstructionViews.{instruction_operands, instruction_tree};
 ghost use Rattle.wast_core_instr.specs.WordViews.{instruction_word};
 ghost use Rattle.wast_meaning.specs.Changed.{operands_changed, instr_changed};
-ghost use Rattle.wast_changed.specs.Boxed.{is_boxed};
+ghost use Rattle.wast_changed.specs.Lists.{holds_types, takes_memory};
 ghost use Rattle.wast_changed.specs.Rows.{row_of};
 
 use crate::bulk::change_bulk;
@@ -19,14 +19,16 @@ use std::alloc::{AllocError, Global};
 use wast_core_instr::Instruction;
 use wast_meaning::Space;
 
-/// An instruction (6.5) with what becomes of its indices. Fails only for want of memory.
+/// An instruction (6.5) with what becomes of its indices. Fails only for want of memory, of which none is asked but for a block with a
+/// signature, `try_table`, an indirect call, `select` with types, or an instruction with handlers.
 #[tactic(auto, using(crate::proofs::Trees::as_changed))]
 pub fn change_instruction<'a, C: Changing<'a>>(
     alloc: Global,
     change: &C,
     instruction: Instruction<'a>,
 ) -> Result<Instruction<'a>, AllocError>
-    ensures { IfOk result (λ new. instruction_tree new ≡ instr_changed (C.change change.now) (instruction_tree instruction.entry)) }
+    ensures changed { IfOk result (λ new. instruction_tree new ≡ instr_changed (C.change change.now) (instruction_tree instruction.entry)) }
+    ensures unasked { takes_memory instruction.entry ≡ false → IsOk result }
 {
     change_operands(alloc, change, instruction)
 }
@@ -37,6 +39,7 @@ fn change_operands<'a, C: Changing<'a>>(
     change: &C,
     instruction: Instruction<'a>,
 ) -> Result<Instruction<'a>, AllocError>
+    ensures unasked { takes_memory instruction.entry ≡ false → IsOk result }
     ensures word { IfOk result (λ new. instruction_word new ≡ instruction_word instruction.entry) }
     ensures operands { IfOk result (λ new. instruction_operands new ≡ operands_changed (C.change change.now) (row_of (instruction_word instruction.entry)) (instruction_operands instruction.entry)) }
 {
@@ -50,9 +53,6 @@ fn change_operands<'a, C: Changing<'a>>(
         Instruction::TryTable(table) => Ok(Instruction::TryTable(change_try_table(
             alloc, change, table,
         )?)),
-        Instruction::BrTable(table) => Ok(Instruction::BrTable(change_label_table(
-            alloc, change, table,
-        )?)),
         Instruction::CallIndirect(call) => Ok(Instruction::CallIndirect(change_call_indirect(
             alloc, change, call,
         )?)),
@@ -62,36 +62,23 @@ fn change_operands<'a, C: Changing<'a>>(
         Instruction::Select(types) => Ok(Instruction::Select(change_select_types(
             alloc, change, types,
         )?)),
-        Instruction::Access(op, memarg) => Ok(Instruction::Access(
-            op,
-            change_mem_arg(alloc, change, memarg)?,
-        )),
-        Instruction::Atomic(op, memarg) => Ok(Instruction::Atomic(
-            op,
-            change_mem_arg(alloc, change, memarg)?,
-        )),
-        Instruction::AtomicRmw(op, memarg) => Ok(Instruction::AtomicRmw(
-            op,
-            change_mem_arg(alloc, change, memarg)?,
-        )),
-        Instruction::Bulk(op) => Ok(Instruction::Bulk(change_bulk(alloc, change, op)?)),
-        Instruction::Gc(op) => Ok(Instruction::Gc(change_gc(alloc, change, op)?)),
-        Instruction::VectorArg(op) => Ok(Instruction::VectorArg(change_vector_arg(
-            alloc, change, op,
-        )?)),
         Instruction::Proposal(op) => Ok(Instruction::Proposal(change_boxed_proposal(
             alloc, change, op,
         )?)),
-        other => Ok(change_unboxed(change, other)),
+        other => Ok(change_in_place(alloc, change, other)),
     }
 }
 
-/// The same where no memory is needed. An instruction that may hold a list or a box, or is of a family in
-/// which some do, is answered as it is.
+/// The same where no memory is needed. A block, an indirect call, `select` or an instruction of a proposal is
+/// answered as it is.
 #[tactic(auto, using(crate::proofs::Rows::index_row, crate::proofs::Rows::optional_row))]
-fn change_unboxed<'a, C: Changing<'a>>(change: &C, instruction: Instruction<'a>) -> Instruction<'a>
+fn change_in_place<'a, C: Changing<'a>>(
+    alloc: Global,
+    change: &C,
+    instruction: Instruction<'a>,
+) -> Instruction<'a>
     ensures word { instruction_word result ≡ instruction_word instruction.entry }
-    ensures operands { is_boxed instruction.entry ≡ false → instruction_operands result ≡ operands_changed (C.change change.now) (row_of (instruction_word instruction.entry)) (instruction_operands instruction.entry) }
+    ensures operands { holds_types instruction.entry ≡ false → instruction_operands result ≡ operands_changed (C.change change.now) (row_of (instruction_word instruction.entry)) (instruction_operands instruction.entry) }
 {
     match instruction {
         Instruction::Unreachable => Instruction::Unreachable,
@@ -149,21 +136,25 @@ fn change_unboxed<'a, C: Changing<'a>>(change: &C, instruction: Instruction<'a>)
         Instruction::VectorWide(op) => Instruction::VectorWide(op),
         Instruction::VectorFloat(op) => Instruction::VectorFloat(op),
         Instruction::AtomicFence(ordering) => Instruction::AtomicFence(ordering),
-        Instruction::Access(op, memarg) => Instruction::Access(op, memarg),
-        Instruction::Atomic(op, memarg) => Instruction::Atomic(op, memarg),
-        Instruction::AtomicRmw(op, memarg) => Instruction::AtomicRmw(op, memarg),
-        Instruction::Bulk(op) => Instruction::Bulk(op),
-        Instruction::VectorArg(op) => Instruction::VectorArg(op),
+        Instruction::Access(op, memarg) => Instruction::Access(op, change_mem_arg(change, memarg)),
+        Instruction::Atomic(op, memarg) => Instruction::Atomic(op, change_mem_arg(change, memarg)),
+        Instruction::AtomicRmw(op, memarg) => {
+            Instruction::AtomicRmw(op, change_mem_arg(change, memarg))
+        }
+        Instruction::Bulk(op) => Instruction::Bulk(change_bulk(change, op)),
+        Instruction::Gc(op) => Instruction::Gc(change_gc(change, op)),
+        Instruction::VectorArg(op) => Instruction::VectorArg(change_vector_arg(change, op)),
+        Instruction::BrTable(table) => {
+            Instruction::BrTable(change_label_table(alloc, change, table))
+        }
         Instruction::Block(block) => Instruction::Block(block),
         Instruction::Loop(block) => Instruction::Loop(block),
         Instruction::If(block) => Instruction::If(block),
         Instruction::Try(block) => Instruction::Try(block),
         Instruction::TryTable(table) => Instruction::TryTable(table),
-        Instruction::BrTable(table) => Instruction::BrTable(table),
         Instruction::CallIndirect(call) => Instruction::CallIndirect(call),
         Instruction::ReturnCallIndirect(call) => Instruction::ReturnCallIndirect(call),
         Instruction::Select(types) => Instruction::Select(types),
-        Instruction::Gc(op) => Instruction::Gc(op),
         Instruction::Proposal(op) => Instruction::Proposal(op),
     }
 }

@@ -2,14 +2,17 @@
 //!
 //! [`Changing`] says what becomes of an index, and each `change_` function answers a tree with that in its indices' place:
 //! types, type uses, operands, instructions ([`change_instruction`]), imports ([`change_imports`]). What stands in lists is
-//! [`Changed`], and [`change_list`] rewrites a list. Lists and boxes are made anew, so want of memory is the only refusal.
+//! [`Changed`], and [`change_list`] rewrites a list. What a box holds is rewritten in the box, and indices in their list; other lists are
+//! made anew, and a type use may want memory for its index, so want of memory is the only refusal.
 //!
 //! # What has to be believed
 //!
-//! The trees with other indices are those of `Changed` of `wast_meaning`. The files of `specs/` serve private contracts: `Rows`,
-//! what the table says stands after a word, and `Boxed`, which instructions take memory to be made anew.
+//! The trees with other indices are those of `Changed` of `wast_meaning`, and `takes_memory` of `Lists` says which instructions may want
+//! memory. The rest of `specs/` serves private contracts: `Rows`, what the table says stands after a word, and `Lists`, which instructions
+//! may have types or handlers.
 #![tactic(auto)]
 
+mod boxed;
 mod bulk;
 mod changing;
 mod gc;

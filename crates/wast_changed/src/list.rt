@@ -5,6 +5,7 @@ ghost use Rattle.wast_parser.specs.Identifiers.{index_tree};
 ghost use Rattle.wast_meaning.specs.Changed.{Change};
 ghost use Rattle.wast_meaning.specs.Views.{space_view};
 
+use crate::boxed::no_index;
 use crate::changing::Changing;
 use std::alloc::{AllocError, Global};
 use wast_meaning::Space;
@@ -40,18 +41,18 @@ pub fn change_list<'a, C: Changing<'a>, T: Changed<'a, C>>(
     Ok(new)
 }
 
-/// Indices of one space, one by one. Fails only for want of memory.
+/// Indices of one space, one by one.
 pub fn change_indices<'a, C: Changing<'a>>(
-    alloc: Global,
     change: &C,
     space: Space,
     indices: Vec<Index<'a>>,
-) -> Result<Vec<Index<'a>>, AllocError>
-    ensures { IfOk result (λ new. map index_tree new.items ≡ map ((C.change change.now).index (space_view space)) (map index_tree indices.entry.items)) }
+) -> Vec<Index<'a>>
+    ensures { map index_tree result.items ≡ map ((C.change change.now).index (space_view space)) (map index_tree indices.entry.items) }
 {
-    let mut new = Vec::with_capacity(alloc, indices.len())?;
-    for index in indices {
-        new.push(change.index(space, index))?;
+    let mut new = indices;
+    for index in new.iter_mut() {
+        let old = std::mem::replace(index, no_index());
+        *index = change.index(space, old);
     }
-    Ok(new)
+    new
 }

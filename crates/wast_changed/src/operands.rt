@@ -7,6 +7,7 @@ ghost use Rattle.wast_operands.specs.OperandTree as spec;
 ghost use Rattle.wast_operands.specs.OperandViews.{table_arg_tree, memory_arg_tree, target_tree, mem_arg_tree, handle_tree, handlers_tree};
 ghost use Rattle.wast_meaning.specs.Changed.{target_changed, mem_arg_changed, handle_changed};
 
+use crate::boxed::{emptied, filled, no_index};
 use crate::changing::{Changing, change_optional};
 use crate::list::{Changed, change_indices, change_list};
 use std::alloc::{AllocError, Global};
@@ -33,19 +34,23 @@ pub fn change_memory_arg<'a, C: Changing<'a>>(change: &C, arg: MemoryArg<'a>) ->
     }
 }
 
-/// The labels of `br_table`, and its default (6.5.2). Fails only for want of memory.
+/// The labels of `br_table`, and its default (6.5.2). No memory is asked for.
 pub fn change_label_table<'a, C: Changing<'a>>(
     alloc: Global,
     change: &C,
     table: Box<BrTableIndices<'a>>,
-) -> Result<Box<BrTableIndices<'a>>, AllocError>
-    ensures labels { IfOk result (λ new. map index_tree new.value.labels.items ≡ map ((C.change change.now).index Labels) (map index_tree table.entry.value.labels.items)) }
-    ensures default { IfOk result (λ new. index_tree new.value.default ≡ (C.change change.now).index Labels (index_tree table.entry.value.default)) }
+) -> Box<BrTableIndices<'a>>
+    ensures labels { map index_tree result.value.labels.items ≡ map ((C.change change.now).index Labels) (map index_tree table.entry.value.labels.items) }
+    ensures default { index_tree result.value.default ≡ (C.change change.now).index Labels (index_tree table.entry.value.default) }
 {
-    let BrTableIndices { labels, default } = Box::into_inner(table);
-    let labels = change_indices(alloc, change, Space::Labels, labels)?;
+    let nothing = BrTableIndices {
+        labels: Vec::new(alloc),
+        default: no_index(),
+    };
+    let (BrTableIndices { labels, default }, place) = emptied(table, nothing);
+    let labels = change_indices(change, Space::Labels, labels);
     let default = change.index(Space::Labels, default);
-    Ok(Box::new(alloc, BrTableIndices { labels, default })?)
+    filled(place, BrTableIndices { labels, default })
 }
 
 /// A structure type and one of its fields (6.5.7).
@@ -72,36 +77,30 @@ pub fn change_target<'a, C: Changing<'a>>(change: &C, target: MemArgTarget<'a>) 
     }
 }
 
-/// A memory argument (6.5.6). Fails only for want of memory, which it asks for where there is a target.
-pub fn change_mem_arg<'a, C: Changing<'a>>(
-    alloc: Global,
-    change: &C,
-    memarg: MemArg<'a>,
-) -> Result<MemArg<'a>, AllocError>
-    ensures { IfOk result (λ new. mem_arg_tree new ≡ mem_arg_changed (C.change change.now) (mem_arg_tree memarg.entry)) }
+/// A memory argument (6.5.6).
+pub fn change_mem_arg<'a, C: Changing<'a>>(change: &C, memarg: MemArg<'a>) -> MemArg<'a>
+    ensures { mem_arg_tree result ≡ mem_arg_changed (C.change change.now) (mem_arg_tree memarg.entry) }
 {
-    let target = change_optional_target(alloc, change, memarg.target)?;
-    Ok(MemArg {
+    MemArg {
         align: memarg.align,
         offset: memarg.offset,
-        target,
+        target: change_optional_target(change, memarg.target),
         ordering: memarg.ordering,
-    })
+    }
 }
 
 fn change_optional_target<'a, C: Changing<'a>>(
-    alloc: Global,
     change: &C,
     target: Option<Box<MemArgTarget<'a>>>,
-) -> Result<Option<Box<MemArgTarget<'a>>>, AllocError>
-    ensures { IfOk result (λ new. option_map (λ t. target_tree t.value) new ≡ option_map (target_changed (C.change change.now)) (option_map (λ t. target_tree t.value) target.entry)) }
+) -> Option<Box<MemArgTarget<'a>>>
+    ensures { option_map (λ t. target_tree t.value) result ≡ option_map (target_changed (C.change change.now)) (option_map (λ t. target_tree t.value) target.entry) }
 {
     match target {
         Some(target) => {
-            let target = change_target(change, Box::into_inner(target));
-            Ok(Some(Box::new(alloc, target)?))
+            let (target, place) = emptied(target, MemArgTarget::Memory(no_index()));
+            Some(filled(place, change_target(change, target)))
         }
-        None => Ok(None),
+        None => None,
     }
 }
 

@@ -1,15 +1,17 @@
 //! Instructions of proposals.
-ghost use Rattle.std.specs.Prelude.{◌≡◌, ℕ, false, IfOk, option_map};
-ghost use Rattle.wasm_encoder_base.specs.Table.{Types, Tables};
+ghost use Rattle.std.specs.Prelude.{◌≡◌, ℕ, false, IfOk, IsOk, option_map};
+ghost use Rattle.wasm_encoder_base.specs.Table.{Labels, Types, Tables};
 ghost use Rattle.wast_parser.specs.Identifiers.{index_tree};
+ghost use Rattle.wast_value_types.specs.ValueViews.{ref_tree};
 ghost use Rattle.wast_operands.specs.OperandViews.{ordering_tree, table_arg_tree};
 ghost use Rattle.wast_core_instr.specs.InstructionViews.{proposal_operands};
 ghost use Rattle.wast_core_instr.specs.WordViews.{proposal_word};
-ghost use Rattle.wast_meaning.specs.Changed.{operands_changed};
-ghost use Rattle.wast_changed.specs.Boxed.{is_boxed_proposal};
+ghost use Rattle.wast_meaning.specs.Changed.{ref_changed, operands_changed};
+ghost use Rattle.wast_changed.specs.Lists.{has_list};
 ghost use Rattle.wast_changed.specs.Rows.{row_of};
 ghost use Rattle.wast_meaning.specs.Views.{space_view};
 
+use crate::boxed::{emptied, filled, no_index, no_ref_type};
 use crate::changing::Changing;
 use crate::operands::{change_handlers, change_memory_arg, change_struct_access, change_table_arg};
 use crate::value_types::change_ref_type;
@@ -28,11 +30,13 @@ pub(crate) fn change_boxed_proposal<'a, C: Changing<'a>>(
     change: &C,
     op: Box<ProposalOp<'a>>,
 ) -> Result<Box<ProposalOp<'a>>, AllocError>
+    ensures unasked { has_list op.entry.value ≡ false → IsOk result }
     ensures word { IfOk result (λ new. proposal_word new.value ≡ proposal_word op.entry.value) }
     ensures operands { IfOk result (λ new. proposal_operands new.value ≡ operands_changed (C.change change.now) (row_of (proposal_word op.entry.value)) (proposal_operands op.entry.value)) }
 {
-    let op = change_proposal(alloc, change, Box::into_inner(op))?;
-    Ok(Box::new(alloc, op)?)
+    let (op, place) = emptied(op, ProposalOp::Pause);
+    let op = change_proposal(alloc, change, op)?;
+    Ok(filled(place, op))
 }
 
 /// The same without its box.
@@ -41,34 +45,11 @@ fn change_proposal<'a, C: Changing<'a>>(
     change: &C,
     op: ProposalOp<'a>,
 ) -> Result<ProposalOp<'a>, AllocError>
+    ensures unasked { has_list op.entry ≡ false → IsOk result }
     ensures word { IfOk result (λ new. proposal_word new ≡ proposal_word op.entry) }
     ensures operands { IfOk result (λ new. proposal_operands new ≡ operands_changed (C.change change.now) (row_of (proposal_word op.entry)) (proposal_operands op.entry)) }
 {
     match op {
-        ProposalOp::BrOnCastDescEq(cast) => {
-            let cast = Box::into_inner(cast);
-            let cast = Box::new(
-                alloc,
-                BrOnCastDescEq {
-                    label: change.index(Space::Labels, cast.label),
-                    from_type: change_ref_type(change, cast.from_type),
-                    to_type: change_ref_type(change, cast.to_type),
-                },
-            )?;
-            Ok(ProposalOp::BrOnCastDescEq(cast))
-        }
-        ProposalOp::BrOnCastDescEqFail(cast) => {
-            let cast = Box::into_inner(cast);
-            let cast = Box::new(
-                alloc,
-                BrOnCastDescEqFail {
-                    label: change.index(Space::Labels, cast.label),
-                    from_type: change_ref_type(change, cast.from_type),
-                    to_type: change_ref_type(change, cast.to_type),
-                },
-            )?;
-            Ok(ProposalOp::BrOnCastDescEqFail(cast))
-        }
         ProposalOp::Resume(resume) => Ok(ProposalOp::Resume(Resume {
             type_index: change.index(Space::Types, resume.type_index),
             table: change_handlers(alloc, change, resume.table)?,
@@ -82,15 +63,15 @@ fn change_proposal<'a, C: Changing<'a>>(
             tag_index: change.index(Space::Tags, resume.tag_index),
             table: change_handlers(alloc, change, resume.table)?,
         })),
-        other => Ok(change_unboxed_proposal(change, other)),
+        other => Ok(change_proposal_in_place(change, other)),
     }
 }
 
-/// The same where no memory is needed. An instruction with a list or a box is answered as it is.
+/// The same where no memory is needed. An instruction with a list is answered as it is.
 #[tactic(auto, using(crate::proofs::Rows::index_proposal_row, crate::proofs::Rows::indices_proposal_row, crate::proofs::Rows::discard_row, crate::proofs::Rows::ordered_index_row, crate::proofs::Rows::ordered_optional_row, crate::proofs::Rows::ordered_indices_row))]
-fn change_unboxed_proposal<'a, C: Changing<'a>>(change: &C, op: ProposalOp<'a>) -> ProposalOp<'a>
+fn change_proposal_in_place<'a, C: Changing<'a>>(change: &C, op: ProposalOp<'a>) -> ProposalOp<'a>
     ensures word { proposal_word result ≡ proposal_word op.entry }
-    ensures operands { is_boxed_proposal op.entry ≡ false → proposal_operands result ≡ operands_changed (C.change change.now) (row_of (proposal_word op.entry)) (proposal_operands op.entry) }
+    ensures operands { has_list op.entry ≡ false → proposal_operands result ≡ operands_changed (C.change change.now) (row_of (proposal_word op.entry)) (proposal_operands op.entry) }
 {
     match op {
         ProposalOp::Pause => ProposalOp::Pause,
@@ -239,12 +220,72 @@ fn change_unboxed_proposal<'a, C: Changing<'a>>(change: &C, op: ProposalOp<'a>) 
         ProposalOp::StructAtomicRmwCmpxchg(operand) => ProposalOp::StructAtomicRmwCmpxchg(
             change_ordered_access(change, operand),
         ),
-        ProposalOp::BrOnCastDescEq(cast) => ProposalOp::BrOnCastDescEq(cast),
-        ProposalOp::BrOnCastDescEqFail(cast) => ProposalOp::BrOnCastDescEqFail(cast),
+        ProposalOp::BrOnCastDescEq(cast) => ProposalOp::BrOnCastDescEq(change_cast_desc(
+            change, cast,
+        )),
+        ProposalOp::BrOnCastDescEqFail(cast) => {
+            ProposalOp::BrOnCastDescEqFail(change_cast_desc_fail(change, cast))
+        }
         ProposalOp::Resume(resume) => ProposalOp::Resume(resume),
         ProposalOp::ResumeThrowRef(resume) => ProposalOp::ResumeThrowRef(resume),
         ProposalOp::ResumeThrow(resume) => ProposalOp::ResumeThrow(resume),
     }
+}
+
+/// A label and two reference types.
+fn change_cast_desc<'a, C: Changing<'a>>(
+    change: &C,
+    cast: Box<BrOnCastDescEq<'a>>,
+) -> Box<BrOnCastDescEq<'a>>
+    ensures label { index_tree result.value.label ≡ (C.change change.now).index Labels (index_tree cast.entry.value.label) }
+    ensures from { ref_tree result.value.from_type ≡ ref_changed (C.change change.now) (ref_tree cast.entry.value.from_type) }
+    ensures to { ref_tree result.value.to_type ≡ ref_changed (C.change change.now) (ref_tree cast.entry.value.to_type) }
+{
+    let nothing = BrOnCastDescEq {
+        label: no_index(),
+        from_type: no_ref_type(),
+        to_type: no_ref_type(),
+    };
+    let (cast, place) = emptied(cast, nothing);
+    let label = change.index(Space::Labels, cast.label);
+    let from_type = change_ref_type(change, cast.from_type);
+    let to_type = change_ref_type(change, cast.to_type);
+    filled(
+        place,
+        BrOnCastDescEq {
+            label,
+            from_type,
+            to_type,
+        },
+    )
+}
+
+/// The same behind `br_on_cast_desc_eq_fail`.
+fn change_cast_desc_fail<'a, C: Changing<'a>>(
+    change: &C,
+    cast: Box<BrOnCastDescEqFail<'a>>,
+) -> Box<BrOnCastDescEqFail<'a>>
+    ensures label { index_tree result.value.label ≡ (C.change change.now).index Labels (index_tree cast.entry.value.label) }
+    ensures from { ref_tree result.value.from_type ≡ ref_changed (C.change change.now) (ref_tree cast.entry.value.from_type) }
+    ensures to { ref_tree result.value.to_type ≡ ref_changed (C.change change.now) (ref_tree cast.entry.value.to_type) }
+{
+    let nothing = BrOnCastDescEqFail {
+        label: no_index(),
+        from_type: no_ref_type(),
+        to_type: no_ref_type(),
+    };
+    let (cast, place) = emptied(cast, nothing);
+    let label = change.index(Space::Labels, cast.label);
+    let from_type = change_ref_type(change, cast.from_type);
+    let to_type = change_ref_type(change, cast.to_type);
+    filled(
+        place,
+        BrOnCastDescEqFail {
+            label,
+            from_type,
+            to_type,
+        },
+    )
 }
 
 /// An index behind an ordering.

@@ -1,5 +1,5 @@
 //! Operands in which types stand.
-ghost use Rattle.std.specs.Prelude.{◌≡◌, ℕ, IfOk, map, option_map};
+ghost use Rattle.std.specs.Prelude.{◌≡◌, ℕ, false, IfOk, IsOk, is_some, map, option_map};
 ghost use Rattle.wast_grammar.specs.Tokens.{Name};
 ghost use Rattle.wasm_encoder_base.specs.Table.{Tables};
 ghost use Rattle.wast_core_types.specs.TypeViews.{use_tree};
@@ -7,6 +7,7 @@ ghost use Rattle.wast_typed_operands.specs.TypedTree as spec;
 ghost use Rattle.wast_typed_operands.specs.TypedViews.{block_tree, catch_tree, try_table_tree, indirect_tree, select_types_tree};
 ghost use Rattle.wast_meaning.specs.Changed.{val_changed, sig_changed, use_changed, block_changed, catch_changed};
 
+use crate::boxed::{emptied, filled};
 use crate::changing::{Changing, change_optional};
 use crate::list::{Changed, change_list};
 use crate::types::{change_function_type, change_type_use};
@@ -17,17 +18,30 @@ use wast_typed_operands::{
     BlockType, CallIndirect, SelectTypes, TryTable, TryTableCatch, TryTableCatchKind,
 };
 
-/// A block's label and type (6.5.2). Fails only for want of memory.
+/// A block's label and type (6.5.2). Fails only for want of memory, of which none is asked for a block without a signature.
 pub fn change_block_type<'a, C: Changing<'a>>(
     alloc: Global,
     change: &C,
     block: Box<BlockType<'a>>,
 ) -> Result<Box<BlockType<'a>>, AllocError>
-    ensures { IfOk result (λ new. block_tree new.value ≡ block_changed (C.change change.now) (block_tree block.entry.value)) }
+    ensures changed { IfOk result (λ new. block_tree new.value ≡ block_changed (C.change change.now) (block_tree block.entry.value)) }
+    ensures unasked { is_some block.entry.value.ty.inline ≡ false → IsOk result }
 {
-    let BlockType { label, ty } = Box::into_inner(block);
+    let nothing = BlockType {
+        label: None,
+        ty: no_type_use(),
+    };
+    let (BlockType { label, ty }, place) = emptied(block, nothing);
     let ty = change_block_use(alloc, change, ty)?;
-    Ok(Box::new(alloc, BlockType { label, ty })?)
+    Ok(filled(place, BlockType { label, ty }))
+}
+
+/// A type use that stands where another is taken out.
+fn no_type_use<'a>() -> TypeUse<'a, FunctionType<'a>> {
+    TypeUse {
+        index: None,
+        inline: None,
+    }
 }
 
 /// A type use in a block (6.5.2). Fails only for want of memory.
@@ -36,7 +50,8 @@ fn change_block_use<'a, C: Changing<'a>>(
     change: &C,
     ty: TypeUse<'a, FunctionType<'a>>,
 ) -> Result<TypeUse<'a, FunctionType<'a>>, AllocError>
-    ensures { IfOk result (λ new. use_tree new ≡ record { index = (C.change change.now).block_use (use_tree ty.entry); inline = option_map (sig_changed (C.change change.now)) (use_tree ty.entry).inline }) }
+    ensures changed { IfOk result (λ new. use_tree new ≡ record { index = (C.change change.now).block_use (use_tree ty.entry); inline = option_map (sig_changed (C.change change.now)) (use_tree ty.entry).inline }) }
+    ensures unasked { is_some ty.entry.inline ≡ false → IsOk result }
 {
     let TypeUse { index, inline } = ty;
     match inline {
@@ -106,19 +121,24 @@ pub fn change_call_indirect<'a, C: Changing<'a>>(
 ) -> Result<Box<CallIndirect<'a>>, AllocError>
     ensures { IfOk result (λ new. indirect_tree new.value ≡ record { table = option_map ((C.change change.now).index Tables) (indirect_tree call.entry.value).table; type_use = use_changed (C.change change.now) (indirect_tree call.entry.value).type_use }) }
 {
-    let call = Box::into_inner(call);
-    let table = change_optional(change, Space::Tables, call.table);
-    let ty = change_type_use(alloc, change, call.ty)?;
-    Ok(Box::new(alloc, CallIndirect { table, ty })?)
+    let nothing = CallIndirect {
+        table: None,
+        ty: no_type_use(),
+    };
+    let (CallIndirect { table, ty }, place) = emptied(call, nothing);
+    let table = change_optional(change, Space::Tables, table);
+    let ty = change_type_use(alloc, change, ty)?;
+    Ok(filled(place, CallIndirect { table, ty }))
 }
 
-/// The types of `select` (6.5.4). Fails only for want of memory.
+/// The types of `select` (6.5.4). Fails only for want of memory, of which none is asked for where no types are written.
 pub fn change_select_types<'a, C: Changing<'a>>(
     alloc: Global,
     change: &C,
     types: SelectTypes<'a>,
 ) -> Result<SelectTypes<'a>, AllocError>
-    ensures { IfOk result (λ new. select_types_tree new ≡ option_map (map (val_changed (C.change change.now))) (select_types_tree types.entry)) }
+    ensures changed { IfOk result (λ new. select_types_tree new ≡ option_map (map (val_changed (C.change change.now))) (select_types_tree types.entry)) }
+    ensures unasked { is_some types.entry.tys ≡ false → IsOk result }
 {
     match types.tys {
         Some(tys) => Ok(SelectTypes {

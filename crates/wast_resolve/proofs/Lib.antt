@@ -10,4 +10,3 @@ mod Telling
 mod Refusals
 mod Given
 mod Wholly
-mod InPlace

@@ -18,7 +18,7 @@ use wast_changed::{
     change_val_type,
 };
 use wast_core_instr::Expression;
-use wast_core_types::{FunctionType, TypeUse};
+use wast_core_types::{FunctionType, TypeUse, ValType};
 use wast_fields::{
     Func, FuncKind, Global as GlobalField, GlobalKind, Local, Table, TableKind, Tag,
 };
@@ -110,7 +110,16 @@ fn change_locals<'a, C: Changing<'a>>(
 ) -> Result<Vec<Local<'a>>, AllocError>
     ensures { IfOk result (λ new. map local_tree new.items ≡ map (local_changed (C.change change.now)) (map local_tree locals.entry.items)) }
 {
-    turn_list(alloc, &Locals { change }, locals)
+    turn_list(
+        alloc,
+        &Locals { change },
+        Local {
+            id: None,
+            name: None,
+            ty: ValType::I32,
+        },
+        locals,
+    )
 }
 
 /// A local.

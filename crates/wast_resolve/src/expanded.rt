@@ -8,7 +8,7 @@ ghost use Rattle.wast_meaning.specs.Numbered.{expanded, implied_field};
 ghost use Rattle.wast_implied.specs.Views.{implied_tree, known};
 ghost use Rattle.wast_resolve.specs.Expanding.{expanded_by, field_taken};
 
-use crate::field::change_field;
+use crate::field::{change_field, no_field};
 use crate::implied_field::implied_field;
 use crate::in_place::{InPlace, by_value};
 use crate::list::{Each, push_item, turn_list};
@@ -113,7 +113,7 @@ fn expand_by<'a>(
 ) -> Result<Vec<ModuleField<'a>>, AllocError>
     ensures { IfOk result (λ out. map field_tree out.items ≡ expanded_by (known implied.now) (map field_tree fields.entry.items)) }
 {
-    match turn_list(alloc, &Takes { implied }, fields) {
+    match turn_list(alloc, &Takes { implied }, no_field(alloc), fields) {
         Ok(fields) => with_types(alloc, implied.types(), fields),
         Err(e) => Err(e),
     }

@@ -25,7 +25,7 @@ pub(crate) fn change_expression<'a, C: Changing<'a>>(
     ensures spans { IfOk result (λ new. new.instr_spans ≡ expression.entry.instr_spans) }
 {
     let (instrs, branch_hints, instr_spans) = expression.into_parts();
-    match turn_list(alloc, &Instructions { change }, instrs) {
+    match turn_list(alloc, &Instructions { change }, Instruction::Nop, instrs) {
         Ok(instrs) => Ok(Expression {
             instrs,
             branch_hints,
@@ -43,7 +43,16 @@ pub(crate) fn change_constants<'a, R: Rewriting<'a>>(
 ) -> Result<Vec<Expression<'a>>, AllocError>
     ensures { IfOk result (λ new. map expression_tree new.items ≡ map (expr_changed (R.in_constant rewriting.now)) (map expression_tree expressions.entry.items)) }
 {
-    turn_list(alloc, &Constants { rewriting }, expressions)
+    turn_list(
+        alloc,
+        &Constants { rewriting },
+        Expression {
+            instrs: Vec::new(alloc),
+            branch_hints: Vec::new(alloc),
+            instr_spans: None,
+        },
+        expressions,
+    )
 }
 
 /// Instructions that are rewritten alike.

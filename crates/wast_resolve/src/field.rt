@@ -15,8 +15,9 @@ use crate::rewriting::Rewriting;
 use crate::segment::{change_data, change_elem};
 use std::alloc::{AllocError, Global};
 use wast_changed::{Changing, change_imports, change_rec, change_type_item};
-use wast_core::{Export, ModuleField, Start};
+use wast_core::{Export, ModuleField, Rec, Start};
 use wast_meaning::Space;
+use wast_parser::Span;
 
 /// A field (6.6.14) with what becomes of its indices. Fails only for want of memory.
 #[tactic(auto, using(crate::proofs::Defined::memory_field_kept))]
@@ -79,7 +80,7 @@ pub(crate) fn change_fields<'a, R: Rewriting<'a>>(
 ) -> Result<Vec<ModuleField<'a>>, AllocError>
     ensures { IfOk result (λ new. map field_tree new.items ≡ map (field_changed (together (R.change rewriting.now) (R.in_constant rewriting.now) (R.in_function rewriting.now))) (map field_tree fields.entry.items)) }
 {
-    turn_list(alloc, &Fields { rewriting }, fields)
+    turn_list(alloc, &Fields { rewriting }, no_field(alloc), fields)
 }
 
 /// Fields by a rewriting.
@@ -98,6 +99,14 @@ impl<'a, R: Rewriting<'a>> Each<ModuleField<'a>> for Fields<'_, R> {
     fn turn(&self, alloc: Global, item: ModuleField<'a>) -> Result<ModuleField<'a>, AllocError> {
         change_field(alloc, self.rewriting, item)
     }
+}
+
+/// A group of no types, which stands where a field is taken out.
+pub(crate) fn no_field<'a>(alloc: Global) -> ModuleField<'a> {
+    ModuleField::Rec(Rec {
+        span: Span::from_offset(0),
+        types: Vec::new(alloc),
+    })
 }
 
 /// An export (6.6.9).

@@ -34,8 +34,9 @@
 //! (data (memory 0) (i32.const 0) "ab")
 //! ```
 //!
-//! Fields are rewritten by value, by what becomes of each index, wherever one stands; nothing else of them changes. Lists and boxes are
-//! made anew, so want of memory is refused too.
+//! Fields are rewritten by value, by what becomes of each index, wherever one stands; nothing else of them changes. Lists of fields,
+//! instructions, locals, constant expressions and indices keep their places, and so do boxes; signatures and other lists are made anew, so
+//! want of memory is refused too.
 //!
 //! # What has to be believed
 //!

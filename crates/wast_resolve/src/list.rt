@@ -18,17 +18,21 @@ pub(crate) trait Each<T: Drop> {
         ensures { IfOk result (λ new. tree new ≡ turned self.now (tree item)) };
 }
 
-/// A list, item by item. Fails only for want of memory.
+/// A list, item by item, each in its place, where `other` stands meanwhile. Fails only for want of memory.
 pub(crate) fn turn_list<T: Drop, E: Each<T>>(
     alloc: Global,
     each: &E,
+    other: T,
     items: Vec<T>,
 ) -> Result<Vec<T>, AllocError>
     ensures { IfOk result (λ new. map E.tree new.items ≡ map (E.turned each.now) (map E.tree items.items)) }
 {
-    let mut new = Vec::with_capacity(alloc, items.len())?;
-    for item in items {
-        new.push(each.turn(alloc, item)?)?;
+    let mut new = items;
+    let mut hole = other;
+    for item in new.iter_mut() {
+        let old = std::mem::replace(item, hole);
+        let turned = each.turn(alloc, old)?;
+        hole = std::mem::replace(item, turned);
     }
     Ok(new)
 }

@@ -73,12 +73,11 @@ pub(crate) fn change_elements<'a, R: Rewriting<'a>>(
     ensures { IfOk result (λ new. elements_tree new ≡ elements_changed (together (R.change rewriting.now) (R.in_constant rewriting.now) (R.in_function rewriting.now)) (elements_tree elements.entry)) }
 {
     match elements {
-        ElemPayload::Indices(indices) => {
-            match change_indices(alloc, rewriting, Space::Functions, indices) {
-                Ok(indices) => Ok(ElemPayload::Indices(indices)),
-                Err(e) => Err(e),
-            }
-        }
+        ElemPayload::Indices(indices) => Ok(ElemPayload::Indices(change_indices(
+            rewriting,
+            Space::Functions,
+            indices,
+        ))),
         ElemPayload::Exprs { ty, exprs } => {
             let ty = change_ref_type(rewriting, ty);
             match change_constants(alloc, rewriting, exprs) {

@@ -10,7 +10,7 @@ use Rattle.wast_meaning.specs.Scope.{open_labels}
 use Rattle.wast_meaning.specs.Spaces.{listed}
 use Rattle.wast_resolve.specs.Place.{by_place, here}
 use Rattle.wast_resolve.specs.Steps.{seen, step_of, step_view}
-use Rattle.wast_resolve.proofs.InPlace.{same_item, rest_more, front_more, before_more}
+use Rattle.wast_changed.proofs.InPlace.{same_item, rest_more, front_more, before_more}
 use Rattle.wast_resolve.proofs.Joined.{twice}
 use Rattle.wast_resolve.proofs.Labelled.{alike_at, labels_more, made_more}
 use Rattle.wast_resolve.proofs.body.number_by.Goals as goal

@@ -1,5 +1,8 @@
-use Rattle.std.proofs.Common.{◌≡◌, map}
+use Rattle.std.proofs.Common.{◌≡◌, map, take, drop}
 use Rattle.wast_resolve.proofs.list.turn_list.Given as goal
 
 abbrev pub invariant-loop-item : goal.invariant-loop-item
-invariant-loop-item g l = map g.E.Each.tree l.new.items ≡ map (g.E.Each.turned l.each) (map g.E.Each.tree l.yielded)
+invariant-loop-item g l = record {
+  made : map g.E.Each.tree (take l.item-index l.item-items) ≡ map (g.E.Each.turned l.each) (map g.E.Each.tree (take l.item-index l.fn.items.items));
+  rest : drop l.item-index l.item-items ≡ drop l.item-index l.fn.items.items;
+}
