@@ -2,3 +2,4 @@ pub mod ModuleSyntax
 pub mod ModuleViews
 pub mod Laws
 pub mod FieldsAlone
+pub mod FieldWords

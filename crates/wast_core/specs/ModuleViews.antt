@@ -1,5 +1,5 @@
 -- What the grammar sees of the code's fields as such, and of its modules.
-use Rattle.std.specs.Prelude.{ℕ, List, map, option_map}
+use Rattle.std.specs.Prelude.{ℕ, map, option_map}
 use Rattle.wast_grammar.specs.Tokens.{Name}
 use Rattle.wast_parser.specs.Identifiers.{identifier_tree, index_tree}
 use Rattle.wast_core_types.specs.TypeViews.{name_tree, item_tree, rec_tree}

@@ -8,14 +8,15 @@ ghost use Rattle.wast_parser.specs.Reading.{Asks};
 ghost use Rattle.wast_parser.specs.Cursors.{stands};
 ghost use Rattle.wast_fields.specs.FieldTree as spec;
 ghost use Rattle.wast_fields.specs.FieldTree.{field_place};
-ghost use Rattle.wast_core.specs.ModuleSyntax.{defining_starts, describing_starts, field_starts, defining, describing, field};
+ghost use Rattle.wast_core.specs.ModuleSyntax.{defining_starts, field_starts, defining, describing, field};
 ghost use Rattle.wast_core.specs.ModuleViews.{field_tree};
 
+use crate::field_word::FieldWord;
 use crate::keyword as words;
 use crate::start::Start;
 use wast_core_types::{Rec, TypeItem};
 use wast_customs::Custom;
-use wast_exports::{Export, InlineExport, InlineImport, keyword};
+use wast_exports::{Export, ExportKind, InlineExport, InlineImport, keyword};
 use wast_fields::{Data, Elem, Func, Global, Memory, Table, Tag};
 use wast_imports::Imports;
 use wast_parser::{Cursor, Error, Item, Meaning, Parse, Parser, Peek, Span};
@@ -105,10 +106,8 @@ impl<'a> Peek for ModuleField<'a> {
     fn peek(cursor: Cursor<'_, '_>) -> Result<bool, Error>
         ensures { Asks result (stands cursor.entry).source (ask field_starts (ahead (stands cursor.entry))) }
     {
-        let found = or_peek::<Group<words::Rec>>(cursor.peek_group("type"), cursor);
-        let found = or_peek::<InlineImport>(found, cursor);
-        let found = or_peek::<Defining>(found, cursor);
-        or_peek::<Describing>(found, cursor)
+        let found = cursor.peek_group_among::<FieldWord>();
+        or_peek::<Custom>(found, cursor)
     }
 
     fn display() -> &'static str {
@@ -167,10 +166,7 @@ impl<'a> Peek for Defining<'a> {
     fn peek(cursor: Cursor<'_, '_>) -> Result<bool, Error>
         ensures { Asks result (stands cursor.entry).source (ask defining_starts (ahead (stands cursor.entry))) }
     {
-        let found = or_peek::<Group<keyword::Table>>(cursor.peek_group("func"), cursor);
-        let found = or_peek::<Group<keyword::Memory>>(found, cursor);
-        let found = or_peek::<Group<keyword::Global>>(found, cursor);
-        or_peek::<Group<keyword::Tag>>(found, cursor)
+        cursor.peek_group_among::<ExportKind>()
     }
 
     fn display() -> &'static str {
@@ -210,28 +206,5 @@ impl<'a> Parse<'a> for Describing<'a> {
             ModuleField::Custom(Custom::parse(parser)?)
         };
         Ok(Describing { field })
-    }
-}
-
-impl<'a> Peek for Describing<'a> {
-    ghost plain = { refl };
-
-    ghost sure = { refl };
-
-    fn leads()
-        ensures { Leads (describing {N = Name} {P = ℕ}).spells describing_starts }
-    {}
-
-    fn peek(cursor: Cursor<'_, '_>) -> Result<bool, Error>
-        ensures { Asks result (stands cursor.entry).source (ask describing_starts (ahead (stands cursor.entry))) }
-    {
-        let found = or_peek::<Group<words::Start>>(cursor.peek_group("export"), cursor);
-        let found = or_peek::<Group<words::Elem>>(found, cursor);
-        let found = or_peek::<Group<words::Data>>(found, cursor);
-        or_peek::<Custom>(found, cursor)
-    }
-
-    fn display() -> &'static str {
-        "a field of a module"
     }
 }

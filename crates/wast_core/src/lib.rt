@@ -16,9 +16,12 @@
 //! | `ModuleSyntax` | the productions of fields and modules |
 //! | `ModuleViews` | which tree of `FieldTree` of `wast_fields` each Rust type is |
 //! | `Laws` | the statements of the law functions |
+//!
+//! `FieldsAlone` and `FieldWords` serve private contracts.
 #![tactic(auto)]
 
 mod field;
+mod field_word;
 pub mod keyword;
 pub mod laws;
 mod module;

@@ -1,8 +1,7 @@
 -- Custom fields by their names.
-use Rattle.std.proofs.Common.{◌≡◌, ℕ, Bool, true, false, ◌||◌, List, [], ◌∷◌, map, refl, sym, ap, ◌∙◌, subst}
-use Rattle.std.proofs.lemmas.Bool.{false≢true}
+use Rattle.std.proofs.Common.{◌≡◌, ℕ, Bool, true, false, ◌||◌, List, [], ◌∷◌, map, refl, sym, ap, ◌∙◌}
 use Rattle.wasm_encoder_base.specs.Table.{same_text}
-use Rattle.wast_grammar.proofs.Looks.{alike, same_self}
+use Rattle.wast_parser_core.proofs.Names.{same_sym}
 use Rattle.wast_customs.specs.CustomTree.{Custom, Raw, ProducersField, DylinkField, name_of}
 use Rattle.wast_customs.specs.CustomViews.{custom_tree}
 use Rattle.wast_core.specs.ModuleViews.{field_tree}
@@ -21,19 +20,10 @@ or_false : (b : Bool) → b ≡ ((b || false) || false)
 or_false true = refl
 or_false false = refl
 
-swapped : (a b : List ℕ) → same_text a b ≡ same_text b a
-swapped a b = of (same_text a b) (same_text b a) refl refl
-  where
-    of : (x y : Bool) → same_text a b ≡ x → same_text b a ≡ y → same_text a b ≡ same_text b a
-    of true true p q = p ∙ sym q
-    of false false p q = p ∙ sym q
-    of true false p q = absurd (false≢true (sym q ∙ subst (λ w. same_text w a ≡ true) (alike a b p) (same_self a)))
-    of false true p q = absurd (false≢true (sym p ∙ subst (λ w. same_text w b ≡ true) (alike b a q) (same_self b)))
-
 pub one_called : (name : List ℕ) (f : ModuleField) (x : _) (own : List ℕ) → f ≡ fields.Custom x → own ≡ name_of (custom_tree x)
     → same_text own name ≡ is_called name (map custom_of (customs_in (field_tree f)) ∷ [])
 one_called name f x own is e =
-    swapped own name ∙ ap (same_text name) (e ∙ sym (same_name (custom_tree x))) ∙ or_false (same_text name (custom_of (custom_tree x)).name)
+    same_sym own name ∙ ap (same_text name) (e ∙ sym (same_name (custom_tree x))) ∙ or_false (same_text name (custom_of (custom_tree x)).name)
     ∙ ap (λ f. is_called name (map custom_of (customs_in (field_tree f)) ∷ [])) (sym is)
 
 pub none_called : (name : List ℕ) (f : ModuleField) → ((x : _) → f ≡ fields.Custom x → ⊥) → false ≡ is_called name (map custom_of (customs_in (field_tree f)) ∷ [])

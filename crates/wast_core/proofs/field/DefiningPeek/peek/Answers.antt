@@ -1,14 +1,12 @@
-use Rattle.std.proofs.Common.{[], ◌∷◌, refl, codes}
-use Rattle.wast_parser.specs.Look.{this_group}
+use Rattle.std.proofs.Common.{[], ◌∷◌, map, subst}
+use Rattle.wast_parser.specs.State.{ahead}
+use Rattle.wast_parser.specs.Reading.{Asks}
+use Rattle.wast_parser.specs.Cursors.{stands}
+use Rattle.wast_exports.specs.Exports.{Func, Table, Memory, Global, Tag, export_word}
+use Rattle.wast_core.proofs.Grouped.{asked_as_one}
 use Rattle.wast_core.proofs.field.DefiningPeek.peek.Goals as goal
 
 pub returns : goal.returns
 returns c =
-    let func = this_group (codes "func") in
-    let table = this_group (codes "table") in
-    let memory = this_group (codes "memory") in
-    let global = this_group (codes "global") in
-    let second = c.or_peek-found.ensures (func ∷ []) refl c.peek_group.ensures in
-    let third = c.or_peek-found-2.ensures (func ∷ table ∷ []) refl second in
-    let fourth = c.or_peek-found-3.ensures (func ∷ table ∷ memory ∷ []) refl third in
-    c.or_peek.ensures (func ∷ table ∷ memory ∷ global ∷ []) refl fourth
+    let behind = map export_word (Table ∷ Memory ∷ Global ∷ Tag ∷ []) in
+    subst (Asks c.peek_group_among.result (stands c.args.cursor).source) (asked_as_one (export_word Func) behind [] (ahead (stands c.args.cursor))) c.peek_group_among.ensures

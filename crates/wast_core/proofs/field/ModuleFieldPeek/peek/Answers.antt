@@ -1,14 +1,13 @@
-use Rattle.std.proofs.Common.{[], ◌∷◌, refl, codes}
-use Rattle.wast_parser.specs.Look.{this_group, join}
-use Rattle.wast_core.specs.ModuleSyntax.{defining_starts}
+use Rattle.std.proofs.Common.{[], ◌∷◌, refl, subst, codes}
+use Rattle.wast_parser.specs.State.{ahead}
+use Rattle.wast_parser.specs.Reading.{Asks}
+use Rattle.wast_parser.specs.Cursors.{stands}
+use Rattle.wast_customs.specs.CustomSyntax.{custom_starts}
+use Rattle.wast_core.specs.FieldWords.{field_words, words_behind}
+use Rattle.wast_core.proofs.Grouped.{asked_as_one, groups}
 use Rattle.wast_core.proofs.field.ModuleFieldPeek.peek.Goals as goal
 
 pub returns : goal.returns
 returns c =
-    let types = this_group (codes "type") ∷ [] in
-    let recs = this_group (codes "type") ∷ this_group (codes "rec") ∷ [] in
-    let imports = this_group (codes "type") ∷ this_group (codes "rec") ∷ this_group (codes "import") ∷ [] in
-    let second = c.or_peek-found.ensures types refl c.peek_group.ensures in
-    let third = c.or_peek-found-2.ensures recs refl second in
-    let fourth = c.or_peek-found-3.ensures imports refl third in
-    c.or_peek.ensures (join imports defining_starts) refl fourth
+    subst (Asks c.or_peek.result (stands c.args.cursor).source) (asked_as_one (codes "type") words_behind custom_starts (ahead (stands c.args.cursor)))
+    (c.or_peek.ensures (groups field_words ∷ []) refl c.peek_group_among-found.ensures)
