@@ -1,5 +1,5 @@
 //! Inline imports, exports and segments as fields of their own.
-ghost use Rattle.std.specs.Prelude.{◌≡◌, ◌+◌, ◌-◌, ◌^◌, ◌<◌, ◌≤◌, ◌++◌, false, [], ◌∷◌, map, length, option_map, option_to_list, unwrap_or, is_some, if◌then◌else◌, true, IfOk, IsTrue, OnOk, count_by};
+ghost use Rattle.std.specs.Prelude.{◌≡◌, ◌+◌, ◌-◌, ◌^◌, ◌<◌, ◌≤◌, ◌++◌, false, [], ◌∷◌, map, length, option_map, option_to_list, unwrap_or, is_some, if◌then◌else◌, true, IfOk, IsOk, OnOk, count_by};
 ghost use Rattle.std.specs.List.{list_all};
 ghost use Rattle.wast_parser.specs.Identifiers.{identifier_tree};
 ghost use Rattle.wast_exports.specs.ExportViews.{export_name_tree, inline_export_tree, kind_view};
@@ -48,8 +48,8 @@ pub fn run<'a>(
     Ok(out)
 }
 
-/// The same in the fields' place; refused, they may be gone. Fields of which nothing stands inline are left as they are, without
-/// memory.
+/// The same in the fields' place; refused, they may be gone. Where nothing stands inline in any of them, they are left as they are and
+/// no memory is asked for.
 pub fn run_in_place<'a>(
     alloc: Global,
     fields: &mut Vec<ModuleField<'a>>,
@@ -57,6 +57,7 @@ pub fn run_in_place<'a>(
 ) -> Result<(), AllocError>
     requires { gensym.old + length fields.old.items < 2 ^ 32 }
     ensures written { OnOk result (map field_tree fields.new.items ≡ written_out (by_counter made gensym.old (map field_tree fields.old.items)) (map field_tree fields.old.items)) }
+    ensures alone { list_all stands_alone (map field_tree fields.old.items) ≡ true → IsOk result × (fields.new ≡ fields.old) }
     ensures counted { OnOk result (gensym.new ≡ gensym.old + count_by takes_name (map field_tree fields.old.items)) }
     ensures rises { gensym.old ≤ gensym.new }
     ensures bounded { gensym.new ≤ gensym.old + count_by takes_name (map field_tree fields.old.items) }
@@ -76,7 +77,7 @@ pub fn run_in_place<'a>(
 
 /// Whether nothing stands inline in any of the fields.
 fn all_stand_alone(fields: &[ModuleField<'_>]) -> bool
-    ensures { IsTrue result → list_all stands_alone (map field_tree fields.now) ≡ true }
+    ensures { result ≡ list_all stands_alone (map field_tree fields.now) }
 {
     for field in fields {
         if !stands_alone(field) {

@@ -18,6 +18,7 @@
 //!
 //! | File of `specs/` | Says |
 //! |---|---|
+//! | `Definitions` | of which fields nothing stands inline (`stands_alone`); the rest of it serves private contracts |
 //! | `Laws` | the statements of the law functions |
 //!
 //! The rest is in `wast_meaning`: `Written` says what fields are written out as, `Made` which names are made, and `Fresh` when names are fresh.

@@ -1,7 +1,8 @@
 -- The module without names is the same for any names.
 use Rattle.std.proofs.Common.{◌≡◌, Bool, true, false, List, [], ◌∷◌, ◌++◌, Option, refl, sym, ap, ◌∙◌, append_assoc}
-use Rattle.std.specs.Prelude.{if◌then◌else◌, ◌&&◌}
+use Rattle.std.specs.Prelude.{if◌then◌else◌}
 use Rattle.std.specs.List.{flat_map, list_all}
+use Rattle.std.proofs.lemmas.Bool.{and_parts}
 use std.Path.{fun_ext}
 use Rattle.wast_grammar.specs.Tokens.{Name}
 use Rattle.wasm_encoder_custom.specs.Custom as binary
@@ -118,10 +119,6 @@ pub record JoinedTo (gs hs : List (List binary.Custom)) : Type 0 where
   pub two : has_two gs ≡ true
   pub joined : last_joined gs ≡ hs
 
-both_true : (a b : Bool) → (a && b) ≡ true → (a ≡ true) × (b ≡ true)
-both_true true b h = (refl, h)
-both_true false b h = absurd (cc)
-
 joined_kind : (b c : Bool) → b ≡ c → (gs hs : List (List binary.Custom)) → JoinedTo gs hs
     → JoinedTo (elim b as (λ b. List (List binary.Custom)) [ true ↦ [] ∷ gs | false ↦ gs ]) (elim c as (λ c. List (List binary.Custom)) [ true ↦ [] ∷ hs | false ↦ hs ])
 joined_kind true true e gs hs j = record { two = two_more [] gs j.two; joined = joined_more [] gs j.two ∙ ap (λ v. [] ∷ v) j.joined }
@@ -139,7 +136,7 @@ module _ {A : Type 0} (at : CustomPlace → List binary.Custom) (m : AbstractMod
         joined = joined_behind (at place) (gaps_from at (there_with m true) (ss ++ last_stops)) j.two ∙ ap (precede (at place)) j.joined;
       }
   joined_before (Of kind ∷ ss) h =
-      let each = both_true (is_known kind) (list_all is_before ss) h in
+      let each = and_parts (is_known kind) (list_all is_before ss) h in
       joined_kind (there_with m true kind) (there_with m false kind) (there_either m kind each.0)
       (gaps_from at (there_with m true) (ss ++ last_stops)) (gaps_from at (there_with m false) (ss ++ last_stops)) (joined_before ss each.1)
 

@@ -34,6 +34,25 @@ pub fn tokens(rt: HostRuntime, text: &str, allow: bool) -> io::Result<()> {
     }
 }
 
+/// Prints the tokens of a text as the iterator gives them: kind and text of each, and what its reader answers; and why there are no more.
+pub fn passed(rt: HostRuntime, text: &str) -> io::Result<()> {
+    if 4_294_967_295 < text.len() {
+        return println!(rt; "too long");
+    }
+    let mut tokens = Lexer::new(text).iter(0);
+    while let Some(next) = tokens.next() {
+        match next {
+            Ok(token) => {
+                print!(rt; "{:?} [{}]", token.kind, token.src(text))?;
+                read(rt, text, token)?;
+            }
+            Err(fault) => refused(rt, fault)?,
+        }
+        println!(rt)?;
+    }
+    Ok(())
+}
+
 /// Prints what the reader of a token answers.
 fn read(rt: HostRuntime, text: &str, token: Token) -> io::Result<()>
     requires { IsOf text.now token }

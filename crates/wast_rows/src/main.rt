@@ -4,6 +4,8 @@
 //! - `tokens TEXT`: the tokens of the text, a line each: kind, offset, length, what the token's reader answers, and for
 //!   a `(` the index of the token that ends its group; then why there are no more, where that isn't the end;
 //! - `allowed TEXT`: the same, with confusing characters allowed;
+//! - `passed TEXT`: the tokens as the iterator gives them, a line each: kind, text, and what the token's reader answers; then why there
+//!   are no more, where that isn't the end;
 //! - `named NAME TEXT`: the offset of each annotation of the text, and whether it stands for the name;
 //! - `place OFFSET TEXT`: the line and the column of an offset;
 //! - `read TYPE TEXT`: the text, read as one of a type (`i8`, `u8`, `i64`, `u64`, `string`), or where it is refused;
@@ -41,6 +43,8 @@ fn answer(rt: HostRuntime, line: &str) -> io::Result<()> {
         lexer::tokens(rt, text.as_str(), false)
     } else if word == "allowed" {
         lexer::tokens(rt, text.as_str(), true)
+    } else if word == "passed" {
+        lexer::passed(rt, text.as_str())
     } else if word == "named" {
         lexer::named(rt, text.as_str())
     } else if word == "place" {

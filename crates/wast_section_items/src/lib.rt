@@ -15,6 +15,7 @@
 //! | `Fits` | in which items each count and each length is at most 4294967295 |
 //! | `Sound` | in which functions each number is in the range of its binary field; of other items, `IsModule` of `wasm_layout` says it |
 //! | `Appends` | what appending items leaves in a section |
+//! | `One` | that what is ready stands for one item |
 //!
 //! Which items fields stand for is said by `FieldsMeant` of `wast_meant`. `Parts` serves private contracts.
 #![tactic(auto)]

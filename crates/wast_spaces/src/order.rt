@@ -1,10 +1,11 @@
 //! Imports stand before definitions.
 
-ghost use Rattle.std.specs.Prelude.{◌≡◌, ◌⊎◌, false, map, option_map};
+ghost use Rattle.std.specs.Prelude.{◌≡◌, ◌⊎◌, true, false, is_some, OnErr, map, option_map};
 ghost use Rattle.std.specs.Option.{option_or};
 ghost use Rattle.wast_parser.specs.Reading.{out_of_memory};
 ghost use Rattle.wast_core.specs.ModuleViews.{field_tree};
-ghost use Rattle.wast_names.specs.Demand.{Answers, ImportAfter, told};
+ghost use Rattle.wast_names.specs.Demand.{Answers, ImportAfter, is_met, told};
+ghost use Rattle.wast_names.specs.Walk.{first_unmet};
 ghost use Rattle.wast_meaning.specs.Demands.{definition_word, import_place, nearest, order_demand, order_demands};
 ghost use Rattle.wast_spaces.specs.Views.{space_of};
 
@@ -13,10 +14,11 @@ use wast_core::{ExportKind, FuncKind, GlobalKind, MemoryKind, ModuleField, Table
 use wast_parser::{Error, Span};
 
 /// Refuses the first import behind a definition of a function, table, memory, global or tag: by `import after function`, where the
-/// definition that stands nearest before it is of a function, at the field of the import, which may be inline; else only where no memory
-/// is found for the message.
+/// definition that stands nearest before it is of a function, at the field of the import, which may be inline; or for want of memory, where
+/// none is found for this message. Where no import stands so, no memory is asked for.
 pub fn check_order(alloc: Global, fields: &[ModuleField<'_>]) -> Result<(), Error>
-    ensures { Answers result (order_demands (map field_tree fields.now)) }
+    ensures answers { Answers result (order_demands (map field_tree fields.now)) }
+    ensures exact { OnErr result (is_some (first_unmet is_met (order_demands (map field_tree fields.now))) ≡ true) }
 {
     let mut nearest: Option<ExportKind> = None;
     for field in fields {
@@ -32,7 +34,8 @@ fn refuse_import(
     nearest: Option<ExportKind>,
     field: &ModuleField<'_>,
 ) -> Result<(), Error>
-    ensures { Answers result (order_demand (option_map space_of nearest) (field_tree field.now)) }
+    ensures answers { Answers result (order_demand (option_map space_of nearest) (field_tree field.now)) }
+    ensures exact { OnErr result (is_some (first_unmet is_met (order_demand (option_map space_of nearest) (field_tree field.now))) ≡ true) }
 {
     match (import_place(field), nearest) {
         (Some(place), Some(kind)) => Err(import_after(alloc, place, kind)),

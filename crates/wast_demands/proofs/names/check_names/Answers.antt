@@ -18,7 +18,7 @@ returns-in-Ok c =
     let of_items = item_demands same_name (flat_map items fs) in
     let mentioned = flat_map (field_demands same_name (scope_of same_name fs)) fs in
     answers_as c.check_ordered.result (order ++ (of_items ++ mentioned)) ((order ++ of_items) ++ mentioned) (sym (append_assoc order of_items mentioned))
-    (answers_then c.check_ordered.result order (of_items ++ mentioned) c.in-Ok.ensures c.check_ordered.ensures)
+    (answers_then c.check_ordered.result order (of_items ++ mentioned) c.in-Ok.ensures.answers c.check_ordered.ensures)
 
 pub returns-in-Err : goal.returns-in-Err
 returns-in-Err c =
@@ -26,4 +26,4 @@ returns-in-Err c =
     let order = order_demands fs in
     let of_items = item_demands same_name (flat_map items fs) in
     let mentioned = flat_map (field_demands same_name (scope_of same_name fs)) fs in
-    subst (λ ds. Refuses ds c.in-Err.e) (sym (append_assoc order of_items mentioned)) (refuses_first order (of_items ++ mentioned) c.in-Err.e c.in-Err.ensures)
+    subst (λ ds. Refuses ds c.in-Err.e) (sym (append_assoc order of_items mentioned)) (refuses_first order (of_items ++ mentioned) c.in-Err.e c.in-Err.ensures.answers)
