@@ -1,5 +1,4 @@
 mod Checks
 mod Entries
 mod Rows
-mod Search
 mod WordRows

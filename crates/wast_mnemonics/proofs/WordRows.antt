@@ -1,9 +1,9 @@
--- Each word has a row: its mnemonic, padded, is found here.
-use Rattle.std.proofs.Common.{◌≡◌, Some, refl}
+-- Each word has a row: its mnemonic is found here.
+use Rattle.std.proofs.Common.{ℕ, List, ◌++◌, ◌-◌, replicate, length, take, ◌≡◌, Some, refl}
 use Rattle.wast_grammar.specs.Spelling.{find_by}
 use Rattle.wast_mnemonics.specs.Mnemonics.{word_mnemonic}
-use Rattle.wast_mnemonics.specs.Rows.{key_of, padded}
-use Rattle.wast_mnemonics.specs.declared.table.TheConstants.{WORDS}
+use Rattle.wast_mnemonics.specs.Rows.{Row}
+use Rattle.wast_mnemonics.specs.declared.table.TheConstants.{LONGEST, WORDS}
 use Rattle.wast_mnemonics.specs.declared.word.Word.{Word}
 use Rattle.wast_mnemonics.specs.declared.word.Word.TheVariants as words
 use Rattle.wast_mnemonics.specs.declared.word.PlainWord.TheVariants as plain_words
@@ -73,8 +73,15 @@ use Rattle.wast_mnemonics.specs.declared.proposal.OrderedOptionalIndexProposal.T
 use Rattle.wast_mnemonics.specs.declared.proposal.OrderedIndicesProposal.{OrderedIndicesProposal}
 use Rattle.wast_mnemonics.specs.declared.proposal.OrderedIndicesProposal.TheVariants as ordered_indices_proposals
 
+abbrev pub text_of : Row → List ℕ
+text_of r = take r.1 r.0
+
+-- the row of a word
+abbrev pub row_of : Word → Row
+row_of w = let t = word_mnemonic w in (t ++ replicate (LONGEST - length t) 32, length t, w)
+
 abbrev pub HasRow : Word → Type 0
-HasRow w = find_by key_of (padded (word_mnemonic w)) WORDS ≡ Some (padded (word_mnemonic w), w)
+HasRow w = find_by text_of (word_mnemonic w) WORDS ≡ Some (row_of w)
 
 compare_row : (word : CompareOp) → HasRow (words.Plain (plain_words.Compare word))
 compare_row compare_ops.I32Eqz = refl

@@ -1,30 +1,28 @@
--- Rows of a sorted table: a mnemonic, blanks after it, and its word.
-use Rattle.std.specs.Prelude.{◌≡◌, ℕ, ◌-◌, ◌<◌, List, ◌++◌, replicate, length, get_or, Bool, ◌&&◌, not, nat_eq, nat_le}
-use Rattle.std.specs.List.{list_any}
-use Rattle.std.specs.List.Sorted.{IsSortedBy}
-use Rattle.std.specs.Ordering.{nat_cmp, is_lt}
-use Rattle.std.specs.Cmp.Lexicographic.{slice_cmp}
+-- Rows of the table of words, and which of them may have a text.
+use Rattle.std.specs.Prelude.{ℕ, ◌+◌, ◌*◌, ◌/◌, ◌%◌, nat_eq, nat_le, Bool, ◌&&◌, List, length, take, get_or, Option, Some, None, if◌then◌else◌}
+use Rattle.std.specs.List.{fold}
+use Rattle.wast_grammar.specs.Spelling.{same_text}
+use Rattle.wast_mnemonics.specs.declared.slots.TheConstants.{SHIFTS, SLOTS}
 use Rattle.wast_mnemonics.specs.declared.table.TheConstants.{LONGEST}
 use Rattle.wast_mnemonics.specs.declared.word.Word.{Word}
 
+-- a mnemonic and blanks, the mnemonic's length, and its word
 abbrev pub Row : Type 0
-Row = List ℕ × Word
+Row = List ℕ × ℕ × Word
 
-abbrev pub key_of : Row → List ℕ
-key_of r = r.0
+-- a number below 65536
+unfoldable pub hash : List ℕ → ℕ
+hash t = fold (λ h byte. (h * 33 + byte) % 65536) 2 t
 
--- a text, and blanks up to the length of the longest
-abbrev pub padded : List ℕ → List ℕ
-padded t = t ++ replicate (LONGEST - length t) 32
+-- the number of the only row that may have this text
+unfoldable pub row_number : List ℕ → ℕ
+row_number t = get_or SLOTS ((hash t / 256 + get_or SHIFTS (hash t % 256) 0) % 1024) 0
 
--- whether a text isn't longer, and has no blank
-abbrev pub is_clean : List ℕ → Bool
-is_clean t = nat_le (length t) LONGEST && not (list_any (λ c. nat_eq c 32) t)
+-- whether a row's mnemonic is this text
+abbrev pub has_text : List ℕ → Row → Bool
+has_text t r = (nat_eq r.1 (length t) && nat_le (length t) LONGEST) && same_text (take (length t) r.0) t
 
--- no row's text is below that of the row before
-unfoldable pub AreSorted : List Row → Type 0
-AreSorted rows = IsSortedBy (λ a b. is_lt (slice_cmp nat_cmp (key_of a) (key_of b))) rows
-
--- the word stands in a row with that text
-abbrev pub StandsAt : List Row → List ℕ → Word → Type 0
-StandsAt rows key word = (i : ℕ) × (i < length rows) × ((d : Row) → get_or rows i d ≡ (key, word))
+-- the word of a row, if there is one and it has this text
+abbrev pub word_in : List ℕ → Option Row → Option Word
+word_in t None = None
+word_in t (Some r) = if has_text t r then Some r.2 else None

@@ -5,7 +5,7 @@
 //! list, with one entry for each: `select`, `ref.test` and `ref.cast`, which have two opcodes each, stand there once. A
 //! [`Word`] is one of these 623. It has a variant for each way in which operands are written, so that a reader chooses by
 //! a short `match`; operations without operands are the encoder's own. It is a `WordSet` of `wast_parser`, so a parser takes
-//! one by `among` and a cursor looks for one by `peek_among`; the look-up is a binary search.
+//! one by `among` and a cursor looks for one by `peek_among`; the look-up is by a hash.
 //!
 //! ```
 //! let word = Word::of(b"i64.load16_u");
@@ -32,6 +32,7 @@ mod alignment;
 pub mod laws;
 mod lookup;
 mod proposal;
+mod slots;
 mod table;
 mod word;
 
