@@ -1,4 +1,4 @@
 pub mod InPlace
-mod Lists
+mod Instructions
 mod Rows
 mod Trees

@@ -1,2 +1,3 @@
-pub mod Lists
+pub mod Instructions
+pub mod Memory
 pub mod Rows

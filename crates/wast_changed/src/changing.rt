@@ -1,5 +1,5 @@
 //! What becomes of each index.
-ghost use Rattle.std.specs.Prelude.{◌≡◌, ℕ, None, IfOk, IsOk, option_map};
+ghost use Rattle.std.specs.Prelude.{◌≡◌, ℕ, None, true, IfOk, IsOk, is_some, option_map};
 ghost use Rattle.wast_grammar.specs.Tokens.{Name};
 ghost use Rattle.wast_parser.specs.Identifiers.{index_tree};
 ghost use Rattle.wast_core_types.specs.TypeViews.{sig_tree};
@@ -24,22 +24,25 @@ pub trait Changing<'a> {
     fn member(&self, owner: &Index<'a>, field: Index<'a>) -> Index<'a>
         ensures { index_tree result ≡ (change self.now).member (index_tree owner.now) (index_tree field.entry) };
 
-    /// What becomes of the index of a type use (6.6.3), beside the signature that is written with it. Fails only for want of memory.
+    /// What becomes of the index of a type use (6.6.3), beside the signature that is written with it. Fails only for want of memory,
+    /// of which none is asked for where an index is given.
     fn type_use(
         &self,
         index: Option<Index<'a>>,
         inline: Option<&FunctionType<'a>>,
     ) -> Result<Option<Index<'a>>, AllocError>
-        ensures { IfOk result (λ new. option_map index_tree new ≡ (change self.now).type_use (record { index = option_map index_tree index.entry; inline = option_map (λ s. sig_tree s.now) inline.entry })) };
+        ensures changed { IfOk result (λ new. option_map index_tree new ≡ (change self.now).type_use (record { index = option_map index_tree index.entry; inline = option_map (λ s. sig_tree s.now) inline.entry })) }
+        ensures given { is_some index.entry ≡ true → IsOk result };
 
-    /// The same in a block (6.5.2); without a signature no memory is asked for.
+    /// The same in a block (6.5.2); nor is memory asked for where no signature is written.
     fn block_use(
         &self,
         index: Option<Index<'a>>,
         inline: Option<&FunctionType<'a>>,
     ) -> Result<Option<Index<'a>>, AllocError>
         ensures changed { IfOk result (λ new. option_map index_tree new ≡ (change self.now).block_use (record { index = option_map index_tree index.entry; inline = option_map (λ s. sig_tree s.now) inline.entry })) }
-        ensures unasked { inline.entry ≡ None → IsOk result };
+        ensures given { is_some index.entry ≡ true → IsOk result }
+        ensures bare { inline.entry ≡ None → IsOk result };
 }
 
 /// The index of a space, where there is one.

@@ -1,24 +1,28 @@
 //! External types and imports.
-ghost use Rattle.std.specs.Prelude.{◌≡◌, ℕ, List, IfOk, map};
+ghost use Rattle.std.specs.Prelude.{◌≡◌, ℕ, List, false, IfOk, IsOk};
 ghost use Rattle.wast_grammar.specs.Tokens.{Name};
 ghost use Rattle.wast_imports.specs.ImportTree as spec;
 ghost use Rattle.wast_imports.specs.ImportViews.{extern_tree, item_tree, member_tree, items_tree, from_of, imports_tree};
 ghost use Rattle.wast_meaning.specs.Changed.{extern_changed, item_changed, imports_changed};
+ghost use Rattle.wast_changed.specs.Memory.{kind_may_take};
 
 use crate::changing::Changing;
-use crate::list::{Changed, change_list};
-use crate::types::change_type_use;
+use crate::list::{ByChange, TryEach, try_turn_list};
+use crate::types::{change_type_use, no_type_use};
 use crate::value_types::{change_global_type, change_table_type};
 use std::alloc::{AllocError, Global};
+use std::borrow::CowStr;
 use wast_imports::{ImportGroup1Item, ImportItems, Imports, ItemKind, ItemSig, TagType};
+use wast_parser::Span;
 
-/// An external type (6.4.13). Fails only for want of memory.
+/// An external type (6.4.13). Fails only for want of memory, of which none is asked but for a type use without an index.
 pub fn change_item_kind<'a, C: Changing<'a>>(
     alloc: Global,
     change: &C,
     kind: ItemKind<'a>,
 ) -> Result<ItemKind<'a>, AllocError>
-    ensures { IfOk result (λ new. extern_tree new ≡ extern_changed (C.change change.now) (extern_tree kind.entry)) }
+    ensures changed { IfOk result (λ new. extern_tree new ≡ extern_changed (C.change change.now) (extern_tree kind.entry)) }
+    ensures unasked { kind_may_take kind.entry ≡ false → IsOk result }
 {
     match kind {
         ItemKind::Func(ty) => Ok(ItemKind::Func(change_type_use(alloc, change, ty)?)),
@@ -32,13 +36,14 @@ pub fn change_item_kind<'a, C: Changing<'a>>(
     }
 }
 
-/// An external type with what it is called. Fails only for want of memory.
+/// An external type with what it is called. Fails only for want of memory, of which none is asked but for a type use without an index.
 pub fn change_item_sig<'a, C: Changing<'a>>(
     alloc: Global,
     change: &C,
     sig: ItemSig<'a>,
 ) -> Result<ItemSig<'a>, AllocError>
-    ensures { IfOk result (λ new. item_tree new ≡ item_changed (C.change change.now) (item_tree sig.entry)) }
+    ensures changed { IfOk result (λ new. item_tree new ≡ item_changed (C.change change.now) (item_tree sig.entry)) }
+    ensures unasked { kind_may_take sig.entry.kind ≡ false → IsOk result }
 {
     Ok(ItemSig {
         span: sig.span,
@@ -63,7 +68,7 @@ pub fn change_import_items<'a, C: Changing<'a>>(
             Ok(ImportItems::Single { module, name, sig })
         }
         ImportItems::Group1 { module, items } => {
-            let items = change_list(alloc, change, items)?;
+            let items = try_turn_list(alloc, &ByChange { change }, no_item(), items)?;
             Ok(ImportItems::Group1 { module, items })
         }
         ImportItems::Group2 { module, sig, items } => {
@@ -87,17 +92,38 @@ pub fn change_imports<'a, C: Changing<'a>>(
     })
 }
 
-impl<'a, C: Changing<'a>> Changed<'a, C> for ImportGroup1Item<'a> {
+/// An item that stands where another is taken out.
+fn no_item<'a>() -> ImportGroup1Item<'a> {
+    ImportGroup1Item {
+        name: CowStr::Borrowed(""),
+        sig: ItemSig {
+            span: Span::from_offset(0),
+            id: None,
+            name: None,
+            kind: ItemKind::Func(no_type_use()),
+        },
+    }
+}
+
+impl<'a, C: Changing<'a>> TryEach<ImportGroup1Item<'a>> for ByChange<'_, C> {
     ghost Tree = { List ℕ × spec.Item Name ℕ };
 
     ghost tree = { member_tree };
 
-    ghost changed = { λ c i. (i.0, item_changed c i.1) };
+    ghost turned = { λ b i. (i.0, item_changed (C.change b.change.now) i.1) };
 
-    fn changed(self, alloc: Global, change: &C) -> Result<Self, AllocError> {
+    fn stays(&self, _item: &ImportGroup1Item<'a>) -> bool {
+        false
+    }
+
+    fn try_turn(
+        &self,
+        alloc: Global,
+        item: ImportGroup1Item<'a>,
+    ) -> Result<ImportGroup1Item<'a>, AllocError> {
         Ok(ImportGroup1Item {
-            name: self.name,
-            sig: change_item_sig(alloc, change, self.sig)?,
+            name: item.name,
+            sig: change_item_sig(alloc, self.change, item.sig)?,
         })
     }
 }

@@ -1,14 +1,18 @@
 //! Instructions.
-ghost use Rattle.std.specs.Prelude.{◌≡◌, ℕ, false, IfOk, IsOk};
+ghost use Rattle.std.specs.Prelude.{◌≡◌, ℕ, false, true, IfOk, IsOk};
+ghost use Rattle.wast_grammar.specs.Tokens.{Name};
+ghost use Rattle.wast_core_instr.specs.InstructionTree as spec;
 ghost use Rattle.wast_core_instr.specs.InstructionViews.{instruction_operands, instruction_tree};
 ghost use Rattle.wast_core_instr.specs.WordViews.{instruction_word};
-ghost use Rattle.wast_meaning.specs.Changed.{operands_changed, instr_changed};
-ghost use Rattle.wast_changed.specs.Lists.{holds_types, takes_memory};
+ghost use Rattle.wast_meaning.specs.Changed.{Change, operands_changed, instr_changed};
+ghost use Rattle.wast_changed.specs.Instructions.{has_type_use, is_bare};
+ghost use Rattle.wast_changed.specs.Memory.{may_take};
 ghost use Rattle.wast_changed.specs.Rows.{row_of};
 
 use crate::bulk::change_bulk;
 use crate::changing::Changing;
 use crate::gc::change_gc;
+use crate::list::{ByChange, TryEach};
 use crate::operands::{change_label_table, change_mem_arg, change_memory_arg, change_table_arg};
 use crate::proposal::change_boxed_proposal;
 use crate::typed_operands::{
@@ -20,7 +24,7 @@ use wast_core_instr::Instruction;
 use wast_meaning::Space;
 
 /// An instruction (6.5) with what becomes of its indices. Fails only for want of memory, of which none is asked but for a block with a
-/// signature, `try_table`, an indirect call, `select` with types, or an instruction with handlers.
+/// signature and no index of its type, or an indirect call without one.
 #[tactic(auto, using(crate::proofs::Trees::as_changed))]
 pub fn change_instruction<'a, C: Changing<'a>>(
     alloc: Global,
@@ -28,9 +32,67 @@ pub fn change_instruction<'a, C: Changing<'a>>(
     instruction: Instruction<'a>,
 ) -> Result<Instruction<'a>, AllocError>
     ensures changed { IfOk result (λ new. instruction_tree new ≡ instr_changed (C.change change.now) (instruction_tree instruction.entry)) }
-    ensures unasked { takes_memory instruction.entry ≡ false → IsOk result }
+    ensures unasked { may_take instruction.entry ≡ false → IsOk result }
 {
     change_operands(alloc, change, instruction)
+}
+
+/// Whether no index and no type stands behind the word of an instruction; then nothing becomes of it, whatever becomes of indices.
+#[tactic(auto, using(crate::proofs::Instructions::bare_stays))]
+pub fn is_bare(instruction: &Instruction<'_>) -> bool
+    ensures exact { result ≡ is_bare instruction.now }
+    ensures same { result ≡ true → (c : Change Name ℕ) → instr_changed c (instruction_tree instruction.now) ≡ instruction_tree instruction.now }
+{
+    has_bare_word(instruction)
+}
+
+/// The same by its word.
+fn has_bare_word(instruction: &Instruction<'_>) -> bool
+    ensures { result ≡ is_bare instruction.now }
+{
+    match instruction {
+        Instruction::Unreachable => true,
+        Instruction::Nop => true,
+        Instruction::ThrowRef => true,
+        Instruction::Return => true,
+        Instruction::CatchAll => true,
+        Instruction::Drop => true,
+        Instruction::Else(_) => true,
+        Instruction::End(_) => true,
+        Instruction::I32Const(_) => true,
+        Instruction::I64Const(_) => true,
+        Instruction::F32Const(_) => true,
+        Instruction::F64Const(_) => true,
+        Instruction::Compare(_) => true,
+        Instruction::Numeric(_) => true,
+        Instruction::Convert(_) => true,
+        Instruction::Vector(_) => true,
+        Instruction::VectorNarrow(_) => true,
+        Instruction::VectorWide(_) => true,
+        Instruction::VectorFloat(_) => true,
+        Instruction::AtomicFence(_) => true,
+        _ => false,
+    }
+}
+
+impl<'a, C: Changing<'a>> TryEach<Instruction<'a>> for ByChange<'_, C> {
+    ghost Tree = { spec.Instruction Name ℕ };
+
+    ghost tree = { instruction_tree };
+
+    ghost turned = { λ b. instr_changed (C.change b.change.now) };
+
+    fn stays(&self, item: &Instruction<'a>) -> bool {
+        is_bare(item)
+    }
+
+    fn try_turn(
+        &self,
+        alloc: Global,
+        item: Instruction<'a>,
+    ) -> Result<Instruction<'a>, AllocError> {
+        change_instruction(alloc, self.change, item)
+    }
 }
 
 /// The same word, with what becomes of the indices behind it.
@@ -39,7 +101,7 @@ fn change_operands<'a, C: Changing<'a>>(
     change: &C,
     instruction: Instruction<'a>,
 ) -> Result<Instruction<'a>, AllocError>
-    ensures unasked { takes_memory instruction.entry ≡ false → IsOk result }
+    ensures unasked { may_take instruction.entry ≡ false → IsOk result }
     ensures word { IfOk result (λ new. instruction_word new ≡ instruction_word instruction.entry) }
     ensures operands { IfOk result (λ new. instruction_operands new ≡ operands_changed (C.change change.now) (row_of (instruction_word instruction.entry)) (instruction_operands instruction.entry)) }
 {
@@ -59,18 +121,11 @@ fn change_operands<'a, C: Changing<'a>>(
         Instruction::ReturnCallIndirect(call) => Ok(Instruction::ReturnCallIndirect(
             change_call_indirect(alloc, change, call)?,
         )),
-        Instruction::Select(types) => Ok(Instruction::Select(change_select_types(
-            alloc, change, types,
-        )?)),
-        Instruction::Proposal(op) => Ok(Instruction::Proposal(change_boxed_proposal(
-            alloc, change, op,
-        )?)),
         other => Ok(change_in_place(alloc, change, other)),
     }
 }
 
-/// The same where no memory is needed. A block, an indirect call, `select` or an instruction of a proposal is
-/// answered as it is.
+/// The same where no type use stands. A block or an indirect call is answered as it is.
 #[tactic(auto, using(crate::proofs::Rows::index_row, crate::proofs::Rows::optional_row))]
 fn change_in_place<'a, C: Changing<'a>>(
     alloc: Global,
@@ -78,7 +133,7 @@ fn change_in_place<'a, C: Changing<'a>>(
     instruction: Instruction<'a>,
 ) -> Instruction<'a>
     ensures word { instruction_word result ≡ instruction_word instruction.entry }
-    ensures operands { holds_types instruction.entry ≡ false → instruction_operands result ≡ operands_changed (C.change change.now) (row_of (instruction_word instruction.entry)) (instruction_operands instruction.entry) }
+    ensures operands { has_type_use instruction.entry ≡ false → instruction_operands result ≡ operands_changed (C.change change.now) (row_of (instruction_word instruction.entry)) (instruction_operands instruction.entry) }
 {
     match instruction {
         Instruction::Unreachable => Instruction::Unreachable,
@@ -154,7 +209,7 @@ fn change_in_place<'a, C: Changing<'a>>(
         Instruction::TryTable(table) => Instruction::TryTable(table),
         Instruction::CallIndirect(call) => Instruction::CallIndirect(call),
         Instruction::ReturnCallIndirect(call) => Instruction::ReturnCallIndirect(call),
-        Instruction::Select(types) => Instruction::Select(types),
-        Instruction::Proposal(op) => Instruction::Proposal(op),
+        Instruction::Select(types) => Instruction::Select(change_select_types(change, types)),
+        Instruction::Proposal(op) => Instruction::Proposal(change_boxed_proposal(change, op)),
     }
 }

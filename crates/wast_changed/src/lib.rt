@@ -1,15 +1,16 @@
 //! Trees rewritten by value: what becomes of each index, wherever one stands; nothing else of them changes.
 //!
 //! [`Changing`] says what becomes of an index, and each `change_` function answers a tree with that in its indices' place:
-//! types, type uses, operands, instructions ([`change_instruction`]), imports ([`change_imports`]). What stands in lists is
-//! [`Changed`], and [`change_list`] rewrites a list. What a box holds is rewritten in the box, and indices in their list; other lists are
-//! made anew, and a type use may want memory for its index, so want of memory is the only refusal.
+//! types, type uses, operands, instructions ([`change_instruction`]), imports ([`change_imports`]). What stands in a box is rewritten in
+//! the box, and what stands in a list in the list: [`Each`] and [`TryEach`] say what becomes of an item, [`turn_list`] and
+//! [`try_turn_list`] rewrite the list. Only a type use without an index may want memory, for the index that it takes, so want of memory is
+//! the only refusal.
 //!
 //! # What has to be believed
 //!
-//! The trees with other indices are those of `Changed` of `wast_meaning`, and `takes_memory` of `Lists` says which instructions may want
-//! memory. The rest of `specs/` serves private contracts: `Rows`, what the table says stands after a word, and `Lists`, which instructions
-//! may have types or handlers.
+//! The trees with other indices are those of `Changed` of `wast_meaning`. `Memory` says what may want memory, and `Instructions` which
+//! instructions have neither an index nor a type. `Rows`, what the table says stands after a word, and the rest of `Instructions` serve
+//! private contracts.
 #![tactic(auto)]
 
 mod boxed;
@@ -28,8 +29,8 @@ mod vector_arg;
 
 pub use changing::{Changing, change_optional};
 pub use imports::{change_import_items, change_imports, change_item_kind, change_item_sig};
-pub use instruction::change_instruction;
-pub use list::{Changed, change_indices, change_list};
+pub use instruction::{change_instruction, is_bare};
+pub use list::{ByChange, Each, TryEach, change_indices, try_turn_list, turn_list};
 pub use operands::{
     change_handle, change_handlers, change_label_table, change_mem_arg, change_memory_arg,
     change_struct_access, change_table_arg, change_target,

@@ -1,8 +1,7 @@
-//! Lists.
-ghost use Rattle.std.specs.Prelude.{◌≡◌, ℕ, List, IfOk, map};
+//! Lists, each item in its place.
+ghost use Rattle.std.specs.Prelude.{◌≡◌, ℕ, IfOk, map, true};
+ghost use Rattle.wast_parser.specs.Identifiers.{Named, Reference, index_tree};
 ghost use Rattle.wast_grammar.specs.Tokens.{Name};
-ghost use Rattle.wast_parser.specs.Identifiers.{index_tree};
-ghost use Rattle.wast_meaning.specs.Changed.{Change};
 ghost use Rattle.wast_meaning.specs.Views.{space_view};
 
 use crate::boxed::no_index;
@@ -11,34 +10,80 @@ use std::alloc::{AllocError, Global};
 use wast_meaning::Space;
 use wast_parser::Index;
 
-/// What stands in lists: a tree that is rewritten by itself.
-pub trait Changed<'a, C: Changing<'a>>: Sized + Drop {
-    /// What the grammar sees of one.
+/// What becomes of each item of a list.
+pub trait Each<T: Drop> {
+    /// What contracts see of an item.
     ghost Tree: { Type 0 };
 
-    ghost tree: { Self → Tree };
+    ghost tree: { T → Tree };
 
-    /// The tree with what becomes of its indices.
-    ghost changed: { Change Name ℕ → Tree → Tree };
+    /// What becomes of it.
+    ghost turned: { Self → Tree → Tree };
 
-    /// The same with what becomes of its indices. Fails only for want of memory.
-    fn changed(self, alloc: Global, change: &C) -> Result<Self, AllocError>
-        ensures { IfOk result (λ new. tree new ≡ changed (C.change change.now) (tree self)) };
+    /// Makes of an item what becomes of it.
+    fn turn(&self, item: T) -> T
+        ensures { tree result ≡ turned self.now (tree item) };
 }
 
-/// A list, item by item. Fails only for want of memory.
-pub fn change_list<'a, C: Changing<'a>, T: Changed<'a, C>>(
+/// What becomes of each item of a list, where memory may be wanted.
+pub trait TryEach<T: Drop> {
+    /// What contracts see of an item.
+    ghost Tree: { Type 0 };
+
+    ghost tree: { T → Tree };
+
+    /// What becomes of it.
+    ghost turned: { Self → Tree → Tree };
+
+    /// Whether it is known that an item stays as it is. Then it isn't taken out of its place.
+    fn stays(&self, item: &T) -> bool
+        ensures { result ≡ true → turned self.now (tree item.now) ≡ tree item.now };
+
+    /// Makes of an item what becomes of it. Fails only for want of memory.
+    fn try_turn(&self, alloc: Global, item: T) -> Result<T, AllocError>
+        ensures { IfOk result (λ new. tree new ≡ turned self.now (tree item)) };
+}
+
+/// A list, item by item, each in its place, where `other` stands meanwhile.
+pub fn turn_list<T: Drop, E: Each<T>>(each: &E, other: T, items: Vec<T>) -> Vec<T>
+    ensures { map E.tree result.items ≡ map (E.turned each.now) (map E.tree items.items) }
+{
+    let mut new = items;
+    let mut hole = other;
+    for item in new.iter_mut() {
+        let old = std::mem::replace(item, hole);
+        let turned = each.turn(old);
+        hole = std::mem::replace(item, turned);
+    }
+    new
+}
+
+/// The same where memory may be wanted. Fails only for that.
+pub fn try_turn_list<T: Drop, E: TryEach<T>>(
     alloc: Global,
-    change: &C,
+    each: &E,
+    other: T,
     items: Vec<T>,
 ) -> Result<Vec<T>, AllocError>
-    ensures { IfOk result (λ new. map T.tree new.items ≡ map (T.changed (C.change change.now)) (map T.tree items.items)) }
+    ensures { IfOk result (λ new. map E.tree new.items ≡ map (E.turned each.now) (map E.tree items.items)) }
 {
-    let mut new = Vec::with_capacity(alloc, items.len())?;
-    for item in items {
-        new.push(item.changed(alloc, change)?)?;
+    let mut new = items;
+    let mut hole = other;
+    for item in new.iter_mut() {
+        if each.stays(item) {
+            continue;
+        }
+        let old = std::mem::replace(item, hole);
+        let turned = each.try_turn(alloc, old)?;
+        hole = std::mem::replace(item, turned);
     }
     Ok(new)
+}
+
+/// Trees with what becomes of their indices.
+#[derive(Drop)]
+pub struct ByChange<'c, C> {
+    pub change: &'c C,
 }
 
 /// Indices of one space, one by one.
@@ -49,10 +94,24 @@ pub fn change_indices<'a, C: Changing<'a>>(
 ) -> Vec<Index<'a>>
     ensures { map index_tree result.items ≡ map ((C.change change.now).index (space_view space)) (map index_tree indices.entry.items) }
 {
-    let mut new = indices;
-    for index in new.iter_mut() {
-        let old = std::mem::replace(index, no_index());
-        *index = change.index(space, old);
+    turn_list(&OfSpace { change, space }, no_index(), indices)
+}
+
+/// Indices of a space with what becomes of them.
+#[derive(Drop)]
+struct OfSpace<'c, C> {
+    change: &'c C,
+    space: Space,
+}
+
+impl<'a, C: Changing<'a>> Each<Index<'a>> for OfSpace<'_, C> {
+    ghost Tree = { Reference Name ℕ };
+
+    ghost tree = { index_tree };
+
+    ghost turned = { λ o. (C.change o.change.now).index (space_view o.space) };
+
+    fn turn(&self, item: Index<'a>) -> Index<'a> {
+        self.change.index(self.space, item)
     }
-    new
 }

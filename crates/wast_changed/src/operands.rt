@@ -9,7 +9,7 @@ ghost use Rattle.wast_meaning.specs.Changed.{target_changed, mem_arg_changed, ha
 
 use crate::boxed::{emptied, filled, no_index};
 use crate::changing::{Changing, change_optional};
-use crate::list::{Changed, change_indices, change_list};
+use crate::list::{ByChange, Each, change_indices, turn_list};
 use std::alloc::{AllocError, Global};
 use wast_meaning::Space;
 use wast_operands::{
@@ -119,27 +119,24 @@ pub fn change_handle<'a, C: Changing<'a>>(change: &C, handle: Handle<'a>) -> Han
     }
 }
 
-/// Handlers. Fails only for want of memory.
-pub fn change_handlers<'a, C: Changing<'a>>(
-    alloc: Global,
-    change: &C,
-    table: ResumeTable<'a>,
-) -> Result<ResumeTable<'a>, AllocError>
-    ensures { IfOk result (λ new. handlers_tree new ≡ map (handle_changed (C.change change.now)) (handlers_tree table.entry)) }
+/// Handlers.
+pub fn change_handlers<'a, C: Changing<'a>>(change: &C, table: ResumeTable<'a>) -> ResumeTable<'a>
+    ensures { handlers_tree result ≡ map (handle_changed (C.change change.now)) (handlers_tree table.entry) }
 {
-    Ok(ResumeTable {
-        handlers: change_list(alloc, change, table.handlers)?,
-    })
+    let other = Handle::OnSwitch { tag: no_index() };
+    ResumeTable {
+        handlers: turn_list(&ByChange { change }, other, table.handlers),
+    }
 }
 
-impl<'a, C: Changing<'a>> Changed<'a, C> for Handle<'a> {
+impl<'a, C: Changing<'a>> Each<Handle<'a>> for ByChange<'_, C> {
     ghost Tree = { spec.Handle Name ℕ };
 
     ghost tree = { handle_tree };
 
-    ghost changed = { handle_changed };
+    ghost turned = { λ b. handle_changed (C.change b.change.now) };
 
-    fn changed(self, _alloc: Global, change: &C) -> Result<Self, AllocError> {
-        Ok(change_handle(change, self))
+    fn turn(&self, item: Handle<'a>) -> Handle<'a> {
+        change_handle(self.change, item)
     }
 }

@@ -1,5 +1,5 @@
 //! Instructions of proposals.
-ghost use Rattle.std.specs.Prelude.{◌≡◌, ℕ, false, IfOk, IsOk, option_map};
+ghost use Rattle.std.specs.Prelude.{◌≡◌, option_map};
 ghost use Rattle.wasm_encoder_base.specs.Table.{Labels, Types, Tables};
 ghost use Rattle.wast_parser.specs.Identifiers.{index_tree};
 ghost use Rattle.wast_value_types.specs.ValueViews.{ref_tree};
@@ -7,7 +7,6 @@ ghost use Rattle.wast_operands.specs.OperandViews.{ordering_tree, table_arg_tree
 ghost use Rattle.wast_core_instr.specs.InstructionViews.{proposal_operands};
 ghost use Rattle.wast_core_instr.specs.WordViews.{proposal_word};
 ghost use Rattle.wast_meaning.specs.Changed.{ref_changed, operands_changed};
-ghost use Rattle.wast_changed.specs.Lists.{has_list};
 ghost use Rattle.wast_changed.specs.Rows.{row_of};
 ghost use Rattle.wast_meaning.specs.Views.{space_view};
 
@@ -15,7 +14,6 @@ use crate::boxed::{emptied, filled, no_index, no_ref_type};
 use crate::changing::Changing;
 use crate::operands::{change_handlers, change_memory_arg, change_struct_access, change_table_arg};
 use crate::value_types::change_ref_type;
-use std::alloc::{AllocError, Global};
 use wast_core_instr::ProposalOp;
 use wast_meaning::Space;
 use wast_operands::{
@@ -24,54 +22,23 @@ use wast_operands::{
 use wast_parser::Index;
 use wast_typed_operands::{BrOnCastDescEq, BrOnCastDescEqFail, RefCastDescEq};
 
-/// An instruction of a proposal. Fails only for want of memory.
+/// An instruction of a proposal.
 pub(crate) fn change_boxed_proposal<'a, C: Changing<'a>>(
-    alloc: Global,
     change: &C,
     op: Box<ProposalOp<'a>>,
-) -> Result<Box<ProposalOp<'a>>, AllocError>
-    ensures unasked { has_list op.entry.value ≡ false → IsOk result }
-    ensures word { IfOk result (λ new. proposal_word new.value ≡ proposal_word op.entry.value) }
-    ensures operands { IfOk result (λ new. proposal_operands new.value ≡ operands_changed (C.change change.now) (row_of (proposal_word op.entry.value)) (proposal_operands op.entry.value)) }
+) -> Box<ProposalOp<'a>>
+    ensures word { proposal_word result.value ≡ proposal_word op.entry.value }
+    ensures operands { proposal_operands result.value ≡ operands_changed (C.change change.now) (row_of (proposal_word op.entry.value)) (proposal_operands op.entry.value) }
 {
     let (op, place) = emptied(op, ProposalOp::Pause);
-    let op = change_proposal(alloc, change, op)?;
-    Ok(filled(place, op))
+    filled(place, change_proposal(change, op))
 }
 
 /// The same without its box.
-fn change_proposal<'a, C: Changing<'a>>(
-    alloc: Global,
-    change: &C,
-    op: ProposalOp<'a>,
-) -> Result<ProposalOp<'a>, AllocError>
-    ensures unasked { has_list op.entry ≡ false → IsOk result }
-    ensures word { IfOk result (λ new. proposal_word new ≡ proposal_word op.entry) }
-    ensures operands { IfOk result (λ new. proposal_operands new ≡ operands_changed (C.change change.now) (row_of (proposal_word op.entry)) (proposal_operands op.entry)) }
-{
-    match op {
-        ProposalOp::Resume(resume) => Ok(ProposalOp::Resume(Resume {
-            type_index: change.index(Space::Types, resume.type_index),
-            table: change_handlers(alloc, change, resume.table)?,
-        })),
-        ProposalOp::ResumeThrowRef(resume) => Ok(ProposalOp::ResumeThrowRef(ResumeThrowRef {
-            type_index: change.index(Space::Types, resume.type_index),
-            table: change_handlers(alloc, change, resume.table)?,
-        })),
-        ProposalOp::ResumeThrow(resume) => Ok(ProposalOp::ResumeThrow(ResumeThrow {
-            type_index: change.index(Space::Types, resume.type_index),
-            tag_index: change.index(Space::Tags, resume.tag_index),
-            table: change_handlers(alloc, change, resume.table)?,
-        })),
-        other => Ok(change_proposal_in_place(change, other)),
-    }
-}
-
-/// The same where no memory is needed. An instruction with a list is answered as it is.
 #[tactic(auto, using(crate::proofs::Rows::index_proposal_row, crate::proofs::Rows::indices_proposal_row, crate::proofs::Rows::discard_row, crate::proofs::Rows::ordered_index_row, crate::proofs::Rows::ordered_optional_row, crate::proofs::Rows::ordered_indices_row))]
-fn change_proposal_in_place<'a, C: Changing<'a>>(change: &C, op: ProposalOp<'a>) -> ProposalOp<'a>
+fn change_proposal<'a, C: Changing<'a>>(change: &C, op: ProposalOp<'a>) -> ProposalOp<'a>
     ensures word { proposal_word result ≡ proposal_word op.entry }
-    ensures operands { has_list op.entry ≡ false → proposal_operands result ≡ operands_changed (C.change change.now) (row_of (proposal_word op.entry)) (proposal_operands op.entry) }
+    ensures operands { proposal_operands result ≡ operands_changed (C.change change.now) (row_of (proposal_word op.entry)) (proposal_operands op.entry) }
 {
     match op {
         ProposalOp::Pause => ProposalOp::Pause,
@@ -226,9 +193,19 @@ fn change_proposal_in_place<'a, C: Changing<'a>>(change: &C, op: ProposalOp<'a>)
         ProposalOp::BrOnCastDescEqFail(cast) => {
             ProposalOp::BrOnCastDescEqFail(change_cast_desc_fail(change, cast))
         }
-        ProposalOp::Resume(resume) => ProposalOp::Resume(resume),
-        ProposalOp::ResumeThrowRef(resume) => ProposalOp::ResumeThrowRef(resume),
-        ProposalOp::ResumeThrow(resume) => ProposalOp::ResumeThrow(resume),
+        ProposalOp::Resume(resume) => ProposalOp::Resume(Resume {
+            type_index: change.index(Space::Types, resume.type_index),
+            table: change_handlers(change, resume.table),
+        }),
+        ProposalOp::ResumeThrowRef(resume) => ProposalOp::ResumeThrowRef(ResumeThrowRef {
+            type_index: change.index(Space::Types, resume.type_index),
+            table: change_handlers(change, resume.table),
+        }),
+        ProposalOp::ResumeThrow(resume) => ProposalOp::ResumeThrow(ResumeThrow {
+            type_index: change.index(Space::Types, resume.type_index),
+            tag_index: change.index(Space::Tags, resume.tag_index),
+            table: change_handlers(change, resume.table),
+        }),
     }
 }
 

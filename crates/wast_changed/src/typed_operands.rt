@@ -1,16 +1,18 @@
 //! Operands in which types stand.
-ghost use Rattle.std.specs.Prelude.{◌≡◌, ℕ, false, IfOk, IsOk, is_some, map, option_map};
+ghost use Rattle.std.specs.Prelude.{◌≡◌, ℕ, false, IfOk, IsOk, map, option_map};
 ghost use Rattle.wast_grammar.specs.Tokens.{Name};
 ghost use Rattle.wasm_encoder_base.specs.Table.{Tables};
 ghost use Rattle.wast_core_types.specs.TypeViews.{use_tree};
 ghost use Rattle.wast_typed_operands.specs.TypedTree as spec;
 ghost use Rattle.wast_typed_operands.specs.TypedViews.{block_tree, catch_tree, try_table_tree, indirect_tree, select_types_tree};
 ghost use Rattle.wast_meaning.specs.Changed.{val_changed, sig_changed, use_changed, block_changed, catch_changed};
+ghost use Rattle.wast_changed.specs.Memory.{block_may_take, use_may_take};
 
-use crate::boxed::{emptied, filled};
+use crate::boxed::{emptied, filled, no_index};
 use crate::changing::{Changing, change_optional};
-use crate::list::{Changed, change_list};
-use crate::types::{change_function_type, change_type_use};
+use crate::list::{ByChange, Each, turn_list};
+use crate::types::{change_function_type, change_type_use, no_type_use};
+use crate::value_types::change_val_types;
 use std::alloc::{AllocError, Global};
 use wast_core_types::{FunctionType, TypeUse};
 use wast_meaning::Space;
@@ -18,14 +20,15 @@ use wast_typed_operands::{
     BlockType, CallIndirect, SelectTypes, TryTable, TryTableCatch, TryTableCatchKind,
 };
 
-/// A block's label and type (6.5.2). Fails only for want of memory, of which none is asked for a block without a signature.
+/// A block's label and type (6.5.2). Fails only for want of memory, of which none is asked for a block with an index or without a
+/// signature.
 pub fn change_block_type<'a, C: Changing<'a>>(
     alloc: Global,
     change: &C,
     block: Box<BlockType<'a>>,
 ) -> Result<Box<BlockType<'a>>, AllocError>
     ensures changed { IfOk result (λ new. block_tree new.value ≡ block_changed (C.change change.now) (block_tree block.entry.value)) }
-    ensures unasked { is_some block.entry.value.ty.inline ≡ false → IsOk result }
+    ensures unasked { block_may_take block.entry.value.ty ≡ false → IsOk result }
 {
     let nothing = BlockType {
         label: None,
@@ -36,14 +39,6 @@ pub fn change_block_type<'a, C: Changing<'a>>(
     Ok(filled(place, BlockType { label, ty }))
 }
 
-/// A type use that stands where another is taken out.
-fn no_type_use<'a>() -> TypeUse<'a, FunctionType<'a>> {
-    TypeUse {
-        index: None,
-        inline: None,
-    }
-}
-
 /// A type use in a block (6.5.2). Fails only for want of memory.
 fn change_block_use<'a, C: Changing<'a>>(
     alloc: Global,
@@ -51,13 +46,13 @@ fn change_block_use<'a, C: Changing<'a>>(
     ty: TypeUse<'a, FunctionType<'a>>,
 ) -> Result<TypeUse<'a, FunctionType<'a>>, AllocError>
     ensures changed { IfOk result (λ new. use_tree new ≡ record { index = (C.change change.now).block_use (use_tree ty.entry); inline = option_map (sig_changed (C.change change.now)) (use_tree ty.entry).inline }) }
-    ensures unasked { is_some ty.entry.inline ≡ false → IsOk result }
+    ensures unasked { block_may_take ty.entry ≡ false → IsOk result }
 {
     let TypeUse { index, inline } = ty;
     match inline {
         Some(signature) => {
             let index = change.block_use(index, Some(&signature))?;
-            let signature = change_function_type(alloc, change, signature)?;
+            let signature = change_function_type(change, signature);
             Ok(TypeUse {
                 index,
                 inline: Some(signature),
@@ -99,27 +94,39 @@ pub fn change_catch<'a, C: Changing<'a>>(change: &C, clause: TryTableCatch<'a>) 
     }
 }
 
-/// What stands behind `try_table` (6.5.2). Fails only for want of memory.
+/// A clause that stands where another is taken out.
+fn no_catch<'a>() -> TryTableCatch<'a> {
+    TryTableCatch {
+        kind: TryTableCatchKind::CatchAll,
+        label: no_index(),
+    }
+}
+
+/// What stands behind `try_table` (6.5.2). Fails only for want of memory, of which none is asked for a block with an index or without a
+/// signature.
 pub fn change_try_table<'a, C: Changing<'a>>(
     alloc: Global,
     change: &C,
     table: TryTable<'a>,
 ) -> Result<TryTable<'a>, AllocError>
-    ensures { IfOk result (λ new. try_table_tree new ≡ record { block = block_changed (C.change change.now) (try_table_tree table.entry).block; catches = map (catch_changed (C.change change.now)) (try_table_tree table.entry).catches }) }
+    ensures changed { IfOk result (λ new. try_table_tree new ≡ record { block = block_changed (C.change change.now) (try_table_tree table.entry).block; catches = map (catch_changed (C.change change.now)) (try_table_tree table.entry).catches }) }
+    ensures unasked { block_may_take table.entry.block.value.ty ≡ false → IsOk result }
 {
     Ok(TryTable {
         block: change_block_type(alloc, change, table.block)?,
-        catches: change_list(alloc, change, table.catches)?,
+        catches: turn_list(&ByChange { change }, no_catch(), table.catches),
     })
 }
 
-/// What stands behind an indirect call (6.5.2). Fails only for want of memory.
+/// What stands behind an indirect call (6.5.2). Fails only for want of memory, of which none is asked for where its type's index is
+/// written.
 pub fn change_call_indirect<'a, C: Changing<'a>>(
     alloc: Global,
     change: &C,
     call: Box<CallIndirect<'a>>,
 ) -> Result<Box<CallIndirect<'a>>, AllocError>
-    ensures { IfOk result (λ new. indirect_tree new.value ≡ record { table = option_map ((C.change change.now).index Tables) (indirect_tree call.entry.value).table; type_use = use_changed (C.change change.now) (indirect_tree call.entry.value).type_use }) }
+    ensures changed { IfOk result (λ new. indirect_tree new.value ≡ record { table = option_map ((C.change change.now).index Tables) (indirect_tree call.entry.value).table; type_use = use_changed (C.change change.now) (indirect_tree call.entry.value).type_use }) }
+    ensures unasked { use_may_take call.entry.value.ty ≡ false → IsOk result }
 {
     let nothing = CallIndirect {
         table: None,
@@ -131,31 +138,29 @@ pub fn change_call_indirect<'a, C: Changing<'a>>(
     Ok(filled(place, CallIndirect { table, ty }))
 }
 
-/// The types of `select` (6.5.4). Fails only for want of memory, of which none is asked for where no types are written.
+/// The types of `select` (6.5.4).
 pub fn change_select_types<'a, C: Changing<'a>>(
-    alloc: Global,
     change: &C,
     types: SelectTypes<'a>,
-) -> Result<SelectTypes<'a>, AllocError>
-    ensures changed { IfOk result (λ new. select_types_tree new ≡ option_map (map (val_changed (C.change change.now))) (select_types_tree types.entry)) }
-    ensures unasked { is_some types.entry.tys ≡ false → IsOk result }
+) -> SelectTypes<'a>
+    ensures { select_types_tree result ≡ option_map (map (val_changed (C.change change.now))) (select_types_tree types.entry) }
 {
     match types.tys {
-        Some(tys) => Ok(SelectTypes {
-            tys: Some(change_list(alloc, change, tys)?),
-        }),
-        None => Ok(SelectTypes { tys: None }),
+        Some(tys) => SelectTypes {
+            tys: Some(change_val_types(change, tys)),
+        },
+        None => SelectTypes { tys: None },
     }
 }
 
-impl<'a, C: Changing<'a>> Changed<'a, C> for TryTableCatch<'a> {
+impl<'a, C: Changing<'a>> Each<TryTableCatch<'a>> for ByChange<'_, C> {
     ghost Tree = { spec.Catch Name ℕ };
 
     ghost tree = { catch_tree };
 
-    ghost changed = { catch_changed };
+    ghost turned = { λ b. catch_changed (C.change b.change.now) };
 
-    fn changed(self, _alloc: Global, change: &C) -> Result<Self, AllocError> {
-        Ok(change_catch(change, self))
+    fn turn(&self, item: TryTableCatch<'a>) -> TryTableCatch<'a> {
+        change_catch(self.change, item)
     }
 }

@@ -1,13 +1,12 @@
 //! Types of values, heaps, tables and globals.
-ghost use Rattle.std.specs.Prelude.{◌≡◌, ℕ, IfOk};
+ghost use Rattle.std.specs.Prelude.{◌≡◌, ℕ, map};
 ghost use Rattle.wast_grammar.specs.Tokens.{Name};
 ghost use Rattle.wast_value_types.specs.ValueTree as spec;
 ghost use Rattle.wast_value_types.specs.ValueViews.{heap_tree, ref_tree, val_tree, storage_tree, field_tree, table_tree, global_tree};
 ghost use Rattle.wast_meaning.specs.Changed.{heap_changed, ref_changed, val_changed, storage_changed, field_type_changed, table_type_changed, global_type_changed};
 
 use crate::changing::Changing;
-use crate::list::Changed;
-use std::alloc::{AllocError, Global};
+use crate::list::{ByChange, Each, turn_list};
 use wast_meaning::Space;
 use wast_value_types::{FieldType, GlobalType, HeapType, RefType, StorageType, TableType, ValType};
 
@@ -84,14 +83,24 @@ pub fn change_global_type<'a, C: Changing<'a>>(change: &C, ty: GlobalType<'a>) -
     }
 }
 
-impl<'a, C: Changing<'a>> Changed<'a, C> for ValType<'a> {
+/// Value types, one by one.
+pub(crate) fn change_val_types<'a, C: Changing<'a>>(
+    change: &C,
+    types: Vec<ValType<'a>>,
+) -> Vec<ValType<'a>>
+    ensures { map val_tree result.items ≡ map (val_changed (C.change change.now)) (map val_tree types.entry.items) }
+{
+    turn_list(&ByChange { change }, ValType::I32, types)
+}
+
+impl<'a, C: Changing<'a>> Each<ValType<'a>> for ByChange<'_, C> {
     ghost Tree = { spec.ValType Name ℕ };
 
     ghost tree = { val_tree };
 
-    ghost changed = { val_changed };
+    ghost turned = { λ b. val_changed (C.change b.change.now) };
 
-    fn changed(self, _alloc: Global, change: &C) -> Result<Self, AllocError> {
-        Ok(change_val_type(change, self))
+    fn turn(&self, item: ValType<'a>) -> ValType<'a> {
+        change_val_type(self.change, item)
     }
 }

@@ -1,5 +1,5 @@
 -- Labels, and instructions one after the other.
-use Rattle.std.proofs.Common.{◌≡◌, ℕ, zero, suc, ◌<◌, List, [], ◌∷◌, ◌++◌, map, drop, length, get_or, Option, Some, None, refl, sym, ◌∙◌, ap, arith, Result, Ok, Err}
+use Rattle.std.proofs.Common.{◌≡◌, ℕ, true, false, true≢false, List, [], ◌∷◌, ◌++◌, map, Option, None, refl, sym, ◌∙◌, ap, Result, Ok, Err}
 use Rattle.std.specs.Prelude.{IfOk}
 use Rattle.std.proofs.lemmas.List.{map-append}
 use Rattle.wasm_encoder_base.specs.Balanced.{Turn, Opens, Closes, Stays}
@@ -23,13 +23,12 @@ use Rattle.wast_core_instr.specs.declared.proposal.ProposalOp.{ProposalOp}
 use Rattle.wast_core_instr.specs.declared.proposal.ProposalOp.TheVariants as proposals
 use Rattle.wast_meaning.specs.Changed.{instr_changed, instrs_changed}
 use Rattle.wast_meaning.specs.Numbered.{numbering}
-use Rattle.wast_meaning.specs.Scope.{turn_of_head, own_label, labels_seen, labels_from, open_labels}
+use Rattle.wast_meaning.specs.Scope.{turn_of_head, own_label, labels_seen, open_labels}
 use Rattle.wast_meaning.specs.Spaces.{listed}
 use Rattle.wast_meaning.proofs.Labels.{fewer, pushed, stacked}
 use Rattle.wast_spaces.specs.declared.spaces.Spaces.{Spaces}
 use Rattle.wast_resolve.specs.Place.{by_place, here}
-use Rattle.wast_resolve.specs.Steps.{behind, seen, step_of, step_view}
-use Rattle.wast_resolve.specs.declared.step.Step.{Step}
+use Rattle.wast_resolve.specs.Steps.{behind, is_stay, seen, step_of}
 
 -- INSTRUCTIONS WITHOUT A LABEL of their own
 bulk_unlabelled : (op : BulkOp) → None ≡ own_label (bulk_operands op)
@@ -86,24 +85,17 @@ before_now xs = reached (λ before i. i ∷ before) [] (map instruction_tree xs)
 before_more : (xs : List Instruction) (x : Instruction) → before_now (xs ++ x ∷ []) ≡ instruction_tree x ∷ before_now xs
 before_more xs x = ap (reached backward []) (map-append instruction_tree xs (x ∷ [])) ∙ reached_append backward [] (map instruction_tree xs) (instruction_tree x ∷ [])
 
--- code's step of an instruction
-abbrev IsStep : Step → Instruction → Type 0
-IsStep step x = step_view step ≡ step_of (instruction_tree x)
+-- what an instruction does to labels
+abbrev pub Does : Type 0
+Does = Turn × Option (Named Name ℕ)
 
-turn_so : (step : Step) (x : Instruction) → IsStep step x → (step_view step).0 ≡ turn_of_head (instruction_tree x).head
-turn_so step x e = ap (λ p. p.0) e
-
-label_so : (step : Step) (x : Instruction) → IsStep step x → (step_view step).1 ≡ own_label (instruction_tree x).operands
-label_so step x e = ap (λ p. p.1) e
-
-pub labels_more : (xs : List Instruction) (x : Instruction) (step : Step) (labels new : Blocks) → IsStep step x → labels ≡ open_labels (before_now xs)
-    → new ≡ behind (step_view step).0 (step_view step).1 (seen (step_view step).0 labels) → new ≡ open_labels (before_now (xs ++ x ∷ []))
+pub labels_more : (xs : List Instruction) (x : Instruction) (step : Does) (labels new : Blocks) → step ≡ step_of (instruction_tree x) → labels ≡ open_labels (before_now xs)
+    → new ≡ behind step.0 step.1 (seen step.0 labels) → new ≡ open_labels (before_now (xs ++ x ∷ []))
 labels_more xs x step labels new is before next =
     let i = instruction_tree x in
     next
-    ∙ ap (λ l. behind (step_view step).0 (step_view step).1 (seen (step_view step).0 l)) before
-    ∙ ap (λ t. behind t (step_view step).1 (seen t (open_labels (before_now xs)))) (turn_so step x is)
-    ∙ ap (λ l. behind (turn_of_head i.head) l (seen (turn_of_head i.head) (open_labels (before_now xs)))) (label_so step x is)
+    ∙ ap (λ l. behind step.0 step.1 (seen step.0 l)) before
+    ∙ ap (λ (s : Does). behind s.0 s.1 (seen s.0 (open_labels (before_now xs)))) is
     ∙ behind_so (turn_of_head i.head) (own_label i.operands) (open_labels (before_now xs))
     ∙ sym (stacked i (before_now xs))
     ∙ ap open_labels (sym (before_more xs x))
@@ -112,15 +104,15 @@ module _ (s : Spaces) (locals : names.Space Name) where
   abbrev at_labels : Blocks → spec.Instruction Name ℕ → spec.Instruction Name ℕ
   at_labels labels i = instr_changed (numbering (here s locals (listed same_name labels))) i
 
-  pub made_more : (xs : List Instruction) (x y : Instruction) (made new : List Instruction) (step : Step) (labels : Blocks) → IsStep step x → labels ≡ open_labels (before_now xs)
+  pub made_more : (xs : List Instruction) (x y : Instruction) (made new : List Instruction) (step : Does) (labels : Blocks) → step ≡ step_of (instruction_tree x) → labels ≡ open_labels (before_now xs)
       → map instruction_tree made ≡ instrs_changed (by_place s locals) [] (map instruction_tree xs)
-      → instruction_tree y ≡ instr_changed (numbering (here s locals (listed same_name (seen (step_view step).0 labels)))) (instruction_tree x)
+      → instruction_tree y ≡ instr_changed (numbering (here s locals (listed same_name (seen step.0 labels)))) (instruction_tree x)
       → new ≡ made ++ y ∷ []
       → map instruction_tree new ≡ instrs_changed (by_place s locals) [] (map instruction_tree (xs ++ x ∷ []))
   made_more xs x y made new step labels is before made_so y_so push =
       let i = instruction_tree x in
-      let seen_here : seen (step_view step).0 labels ≡ labels_seen (turn_of_head i.head) (before_now xs)
-      = ap (seen (step_view step).0) before ∙ ap (λ t. seen t (open_labels (before_now xs))) (turn_so step x is) ∙ seen_so (turn_of_head i.head) (before_now xs) in
+      let seen_here : seen step.0 labels ≡ labels_seen (turn_of_head i.head) (before_now xs)
+      = ap (seen step.0) before ∙ ap (λ (s : Does). seen s.0 (open_labels (before_now xs))) is ∙ seen_so (turn_of_head i.head) (before_now xs) in
       let tree : instruction_tree y ≡ instr_changed (by_place s locals (before_now xs) i) i = y_so ∙ ap (λ l. at_labels l i) seen_here in
       ap (map instruction_tree) push ∙ map-append instruction_tree made (y ∷ [])
       ∙ ap (λ l. l ++ instruction_tree y ∷ []) made_so
@@ -128,13 +120,11 @@ module _ (s : Spaces) (locals : names.Space Name) where
       ∙ sym (ap (instrs_changed (by_place s locals) []) (map-append instruction_tree xs (x ∷ []))
       ∙ threaded_append backward (λ earlier j. instr_changed (by_place s locals earlier j) j) [] (map instruction_tree xs) (i ∷ []))
 
--- lists that are seen alike
-pub alike_at : {A B C : Type 0} (f : A → C) (g : B → C) (xs : List A) (ys : List B) (i : ℕ) (d : A) (e : B) → map f xs ≡ map g ys → i < length ys → f (get_or xs i d) ≡ g (get_or ys i e)
-alike_at f g [] [] i d e = λ same lt. absurd (omega (arith, lt))
-alike_at f g [] (y ∷ ys) i d e = λ same lt. absurd (cc)
-alike_at f g (x ∷ xs) [] i d e = λ same lt. absurd (cc)
-alike_at f g (x ∷ xs) (y ∷ ys) zero d e = λ same lt. cc
-alike_at f g (x ∷ xs) (y ∷ ys) (suc i) d e = λ same lt. let rest : map f xs ≡ map g ys = cc in alike_at f g xs ys i d e rest (omega (arith, lt))
+-- one that opens and closes no block leaves the labels as they are
+pub labels_stay : (t : Turn) (label : Option (Named Name ℕ)) (labels : Blocks) → is_stay t ≡ true → labels ≡ behind t label (seen t labels)
+labels_stay Opens label labels stay = absurd (true≢false (sym stay))
+labels_stay Closes label labels stay = absurd (true≢false (sym stay))
+labels_stay Stays label labels stay = refl
 
 pub if_weaker : {T E : Type 0} {P Q : T → Type 0} (r : Result T E) → ((x : T) → P x → Q x) → IfOk r P → IfOk r Q
 if_weaker (Ok x) f h = f x h

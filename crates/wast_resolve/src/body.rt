@@ -1,23 +1,26 @@
 //! Instructions, each where it stands.
-ghost use Rattle.std.specs.Prelude.{◌≡◌, [], IfOk, OnOk, map, option_map, length};
+ghost use Rattle.std.specs.Prelude.{◌≡◌, ℕ, ◌&&◌, true, [], IfOk, OnOk, map, option_map};
+ghost use Rattle.wast_grammar.specs.Tokens.{Name};
 ghost use Rattle.wast_grammar.specs.Spelling.{same_name};
 ghost use Rattle.wast_parser.specs.Identifiers.{identifier_tree};
 ghost use Rattle.wast_core_instr.specs.InstructionViews.{instruction_tree};
 ghost use Rattle.wast_core_instr.specs.ExpressionViews.{expression_tree};
 ghost use Rattle.wast_names.specs.Views.{space};
-ghost use Rattle.wast_meaning.specs.Changed.{instr_changed, instrs_changed};
+ghost use Rattle.wast_meaning.specs.Changed.{Change, instr_changed, instrs_changed};
+ghost use Rattle.wast_changed.specs.Instructions.{is_bare};
 ghost use Rattle.wast_meaning.specs.Numbered.{numbering};
+ghost use Rattle.wast_meaning.specs.Scope.{turn_of_head};
 ghost use Rattle.wast_meaning.specs.Spaces.{listed};
 ghost use Rattle.wast_well_formed.specs.Views.{turn_view};
 ghost use Rattle.wast_resolve.specs.Rewritten.{expr_changed};
 ghost use Rattle.wast_resolve.specs.Place.{by_place, here};
-ghost use Rattle.wast_resolve.specs.Steps.{behind, seen, step_of, step_view};
+ghost use Rattle.wast_resolve.specs.Steps.{behind, is_stay, seen, step_of, step_view};
 
 use crate::place::Place;
-use crate::step::{Step, steps_of};
+use crate::step::Step;
 use std::alloc::{AllocError, Global};
 use std::mem::replace;
-use wast_changed::change_instruction;
+use wast_changed::{change_instruction, is_bare};
 use wast_core_instr::{Expression, Instruction};
 use wast_names::Namespace;
 use wast_scopes::Labels;
@@ -45,7 +48,7 @@ pub(crate) fn number_expression<'a>(
     }
 }
 
-/// Instructions, each behind those before it.
+/// Instructions, each in its place, behind those before it.
 fn number_instructions<'a>(
     alloc: Global,
     spaces: &Spaces<'a>,
@@ -54,35 +57,27 @@ fn number_instructions<'a>(
 ) -> Result<Vec<Instruction<'a>>, AllocError>
     ensures { IfOk result (λ new. map instruction_tree new.items ≡ instrs_changed (by_place spaces.now (space locals.now)) [] (map instruction_tree instrs.entry.items)) }
 {
-    match steps_of(alloc, &instrs) {
-        Ok(steps) => number_by(alloc, spaces, locals, &steps, instrs),
-        Err(e) => Err(e),
-    }
-}
-
-/// The same by what each does to the labels; each in its place.
-fn number_by<'a>(
-    alloc: Global,
-    spaces: &Spaces<'a>,
-    locals: &Namespace<'a>,
-    steps: &[Step<'a>],
-    instrs: Vec<Instruction<'a>>,
-) -> Result<Vec<Instruction<'a>>, AllocError>
-    requires { map step_view steps.now ≡ map step_of (map instruction_tree instrs.items) }
-    ensures { IfOk result (λ new. map instruction_tree new.items ≡ instrs_changed (by_place spaces.now (space locals.now)) [] (map instruction_tree instrs.entry.items)) }
-{
     let mut new = instrs;
     let mut labels = Labels::new(alloc);
-    let mut at = 0;
     for instr in new.iter_mut() {
+        if stands_apart(instr) {
+            continue;
+        }
         let old = replace(instr, Instruction::Nop);
-        match number_next(alloc, spaces, locals, &steps[at], &mut labels, old) {
+        match number_next(alloc, spaces, locals, &mut labels, old) {
             Ok(numbered) => *instr = numbered,
             Err(e) => return Err(e),
         }
-        at += 1;
     }
     Ok(new)
+}
+
+/// Whether an instruction has no index, and neither opens nor closes a block.
+fn stands_apart(instruction: &Instruction<'_>) -> bool
+    ensures exact { result ≡ is_bare instruction.now && is_stay (turn_of_head (instruction_tree instruction.now).head) }
+    ensures same { result ≡ true → (c : Change Name ℕ) → instr_changed c (instruction_tree instruction.now) ≡ instruction_tree instruction.now }
+{
+    is_bare(instruction) && matches!(Turn::of(instruction), Turn::Stays)
 }
 
 /// The next instruction, with what it does to the labels.
@@ -90,12 +85,29 @@ fn number_next<'a>(
     alloc: Global,
     spaces: &Spaces<'a>,
     locals: &Namespace<'a>,
+    labels: &mut Labels<'a>,
+    instr: Instruction<'a>,
+) -> Result<Instruction<'a>, AllocError>
+    ensures tree { IfOk result (λ new. instruction_tree new ≡ instr_changed (numbering (here spaces.now (space locals.now) (listed same_name (seen (step_of (instruction_tree instr.entry)).0 labels.old)))) (instruction_tree instr.entry)) }
+    ensures labels { OnOk result (labels.new ≡ behind (step_of (instruction_tree instr.entry)).0 (step_of (instruction_tree instr.entry)).1 (seen (step_of (instruction_tree instr.entry)).0 labels.old)) }
+{
+    match Step::of(alloc, &instr) {
+        Ok(step) => number_by(alloc, spaces, locals, &step, labels, instr),
+        Err(e) => Err(e),
+    }
+}
+
+/// The same where it is known what the instruction does to the labels.
+fn number_by<'a>(
+    alloc: Global,
+    spaces: &Spaces<'a>,
+    locals: &Namespace<'a>,
     step: &Step<'a>,
     labels: &mut Labels<'a>,
     instr: Instruction<'a>,
 ) -> Result<Instruction<'a>, AllocError>
-    ensures tree { IfOk result (λ new. instruction_tree new ≡ instr_changed (numbering (here spaces.now (space locals.now) (listed same_name (seen (turn_view step.now.turn) labels.old)))) (instruction_tree instr.entry)) }
-    ensures labels { OnOk result (labels.new ≡ behind (turn_view step.now.turn) (option_map identifier_tree step.now.label) (seen (turn_view step.now.turn) labels.old)) }
+    ensures tree { IfOk result (λ new. instruction_tree new ≡ instr_changed (numbering (here spaces.now (space locals.now) (listed same_name (seen (step_view step.now).0 labels.old)))) (instruction_tree instr.entry)) }
+    ensures labels { OnOk result (labels.new ≡ behind (step_view step.now).0 (step_view step.now).1 (seen (step_view step.now).0 labels.old)) }
 {
     see(step, labels);
     match number_one(alloc, spaces, locals, labels, instr) {

@@ -9,13 +9,13 @@ ghost use Rattle.wast_fields.specs.ElemViews.{defined_table, table_definition};
 ghost use Rattle.wast_meaning.specs.Changed.{defined_changed, func_changed, local_changed};
 ghost use Rattle.wast_resolve.specs.Rewritten.{expr_changed, function_of, together};
 
-use crate::list::{Each, both, turn_list};
+use crate::list::both;
 use crate::rewriting::Rewriting;
 use crate::segment::change_elements;
 use std::alloc::{AllocError, Global};
 use wast_changed::{
-    Changing, change_global_type, change_ref_type, change_table_type, change_type_use,
-    change_val_type,
+    Changing, Each, change_global_type, change_ref_type, change_table_type, change_type_use,
+    change_val_type, turn_list,
 };
 use wast_core_instr::Expression;
 use wast_core_types::{FunctionType, TypeUse, ValType};
@@ -95,23 +95,18 @@ fn change_function<'a, R: Rewriting<'a>>(
 {
     let expression = rewriting.body(alloc, &ty, &locals, body);
     let ty = change_type_use(alloc, rewriting, ty);
-    let locals = change_locals(alloc, rewriting, locals);
-    match both(both(locals, expression), ty) {
-        Ok(((locals, expression), ty)) => Ok((FuncKind::Inline { locals, expression }, ty)),
+    let locals = change_locals(rewriting, locals);
+    match both(expression, ty) {
+        Ok((expression, ty)) => Ok((FuncKind::Inline { locals, expression }, ty)),
         Err(e) => Err(e),
     }
 }
 
 /// Locals, one by one.
-fn change_locals<'a, C: Changing<'a>>(
-    alloc: Global,
-    change: &C,
-    locals: Vec<Local<'a>>,
-) -> Result<Vec<Local<'a>>, AllocError>
-    ensures { IfOk result (λ new. map local_tree new.items ≡ map (local_changed (C.change change.now)) (map local_tree locals.entry.items)) }
+fn change_locals<'a, C: Changing<'a>>(change: &C, locals: Vec<Local<'a>>) -> Vec<Local<'a>>
+    ensures { map local_tree result.items ≡ map (local_changed (C.change change.now)) (map local_tree locals.entry.items) }
 {
     turn_list(
-        alloc,
         &Locals { change },
         Local {
             id: None,
@@ -146,8 +141,8 @@ impl<'a, C: Changing<'a>> Each<Local<'a>> for Locals<'_, C> {
 
     ghost turned = { λ l. local_changed (C.change l.change.now) };
 
-    fn turn(&self, _alloc: Global, item: Local<'a>) -> Result<Local<'a>, AllocError> {
-        Ok(change_local(self.change, item))
+    fn turn(&self, item: Local<'a>) -> Local<'a> {
+        change_local(self.change, item)
     }
 }
 

@@ -11,7 +11,7 @@ ghost use Rattle.wast_resolve.specs.Expanding.{expanded_by, field_taken};
 use crate::field::{change_field, no_field};
 use crate::implied_field::implied_field;
 use crate::in_place::{InPlace, by_value};
-use crate::list::{Each, push_item, turn_list};
+use crate::list::{TurnEach, push_item, turn_each};
 use crate::taking::Taking;
 use std::alloc::{AllocError, Global};
 use wast_core::ModuleField;
@@ -113,7 +113,7 @@ fn expand_by<'a>(
 ) -> Result<Vec<ModuleField<'a>>, AllocError>
     ensures { IfOk result (λ out. map field_tree out.items ≡ expanded_by (known implied.now) (map field_tree fields.entry.items)) }
 {
-    match turn_list(alloc, &Takes { implied }, no_field(alloc), fields) {
+    match turn_each(alloc, &Takes { implied }, no_field(alloc), fields) {
         Ok(fields) => with_types(alloc, implied.types(), fields),
         Err(e) => Err(e),
     }
@@ -125,7 +125,7 @@ struct Takes<'t, 'a> {
     implied: &'t Implied<'a>,
 }
 
-impl<'a> Each<ModuleField<'a>> for Takes<'_, 'a> {
+impl<'a> TurnEach<ModuleField<'a>> for Takes<'_, 'a> {
     ghost Tree = { spec.Field Name ℕ };
 
     ghost tree = { field_tree };

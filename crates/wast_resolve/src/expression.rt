@@ -1,17 +1,13 @@
 //! Expressions.
 ghost use Rattle.std.specs.Prelude.{◌≡◌, ℕ, IfOk, map};
 ghost use Rattle.wast_grammar.specs.Tokens.{Name};
-ghost use Rattle.wast_core_instr.specs.InstructionTree as instr;
-ghost use Rattle.wast_core_instr.specs.InstructionViews.{instruction_tree};
 ghost use Rattle.wast_core_instr.specs.ExpressionViews.{expression_tree};
 ghost use Rattle.wast_fields.specs.FieldTree as spec;
-ghost use Rattle.wast_meaning.specs.Changed.{instr_changed};
 ghost use Rattle.wast_resolve.specs.Rewritten.{everywhere, expr_changed};
 
-use crate::list::{Each, turn_list};
 use crate::rewriting::Rewriting;
 use std::alloc::{AllocError, Global};
-use wast_changed::{Changing, change_instruction};
+use wast_changed::{ByChange, Changing, TryEach, try_turn_list};
 use wast_core_instr::{Expression, Instruction};
 
 /// An expression (6.5.11) whose instructions are rewritten alike wherever they stand; the hints stay. Fails only for want of memory.
@@ -25,7 +21,7 @@ pub(crate) fn change_expression<'a, C: Changing<'a>>(
     ensures spans { IfOk result (λ new. new.instr_spans ≡ expression.entry.instr_spans) }
 {
     let (instrs, branch_hints, instr_spans) = expression.into_parts();
-    match turn_list(alloc, &Instructions { change }, Instruction::Nop, instrs) {
+    match try_turn_list(alloc, &ByChange { change }, Instruction::Nop, instrs) {
         Ok(instrs) => Ok(Expression {
             instrs,
             branch_hints,
@@ -43,7 +39,7 @@ pub(crate) fn change_constants<'a, R: Rewriting<'a>>(
 ) -> Result<Vec<Expression<'a>>, AllocError>
     ensures { IfOk result (λ new. map expression_tree new.items ≡ map (expr_changed (R.in_constant rewriting.now)) (map expression_tree expressions.entry.items)) }
 {
-    turn_list(
+    try_turn_list(
         alloc,
         &Constants { rewriting },
         Expression {
@@ -55,38 +51,24 @@ pub(crate) fn change_constants<'a, R: Rewriting<'a>>(
     )
 }
 
-/// Instructions that are rewritten alike.
-#[derive(Drop)]
-struct Instructions<'c, C> {
-    change: &'c C,
-}
-
-impl<'a, C: Changing<'a>> Each<Instruction<'a>> for Instructions<'_, C> {
-    ghost Tree = { instr.Instruction Name ℕ };
-
-    ghost tree = { instruction_tree };
-
-    ghost turned = { λ i. instr_changed (C.change i.change.now) };
-
-    fn turn(&self, alloc: Global, item: Instruction<'a>) -> Result<Instruction<'a>, AllocError> {
-        change_instruction(alloc, self.change, item)
-    }
-}
-
 /// Constant expressions by a rewriting.
 #[derive(Drop)]
 struct Constants<'r, R> {
     rewriting: &'r R,
 }
 
-impl<'a, R: Rewriting<'a>> Each<Expression<'a>> for Constants<'_, R> {
+impl<'a, R: Rewriting<'a>> TryEach<Expression<'a>> for Constants<'_, R> {
     ghost Tree = { spec.Expr Name ℕ };
 
     ghost tree = { expression_tree };
 
     ghost turned = { λ c. expr_changed (R.in_constant c.rewriting.now) };
 
-    fn turn(&self, alloc: Global, item: Expression<'a>) -> Result<Expression<'a>, AllocError> {
+    fn stays(&self, _item: &Expression<'a>) -> bool {
+        false
+    }
+
+    fn try_turn(&self, alloc: Global, item: Expression<'a>) -> Result<Expression<'a>, AllocError> {
         self.rewriting.constant(alloc, item)
     }
 }

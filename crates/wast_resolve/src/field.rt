@@ -10,7 +10,7 @@ ghost use Rattle.wasm_encoder_base.specs.Table.{Functions};
 ghost use Rattle.wast_resolve.specs.Rewritten.{together};
 
 use crate::definition::{change_func, change_global, change_table, change_tag};
-use crate::list::{Each, turn_list};
+use crate::list::{TurnEach, turn_each};
 use crate::rewriting::Rewriting;
 use crate::segment::{change_data, change_elem};
 use std::alloc::{AllocError, Global};
@@ -29,14 +29,10 @@ pub(crate) fn change_field<'a, R: Rewriting<'a>>(
     ensures { IfOk result (λ new. field_tree new ≡ field_changed (together (R.change rewriting.now) (R.in_constant rewriting.now) (R.in_function rewriting.now)) (field_tree field.entry)) }
 {
     match field {
-        ModuleField::TypeItem(item) => match change_type_item(alloc, rewriting, item) {
-            Ok(item) => Ok(ModuleField::TypeItem(item)),
-            Err(e) => Err(e),
-        },
-        ModuleField::Rec(group) => match change_rec(alloc, rewriting, group) {
-            Ok(group) => Ok(ModuleField::Rec(group)),
-            Err(e) => Err(e),
-        },
+        ModuleField::TypeItem(item) => {
+            Ok(ModuleField::TypeItem(change_type_item(rewriting, item)))
+        }
+        ModuleField::Rec(group) => Ok(ModuleField::Rec(change_rec(rewriting, group))),
         ModuleField::Import(imports) => match change_imports(alloc, rewriting, imports) {
             Ok(imports) => Ok(ModuleField::Import(imports)),
             Err(e) => Err(e),
@@ -80,7 +76,7 @@ pub(crate) fn change_fields<'a, R: Rewriting<'a>>(
 ) -> Result<Vec<ModuleField<'a>>, AllocError>
     ensures { IfOk result (λ new. map field_tree new.items ≡ map (field_changed (together (R.change rewriting.now) (R.in_constant rewriting.now) (R.in_function rewriting.now))) (map field_tree fields.entry.items)) }
 {
-    turn_list(alloc, &Fields { rewriting }, no_field(alloc), fields)
+    turn_each(alloc, &Fields { rewriting }, no_field(alloc), fields)
 }
 
 /// Fields by a rewriting.
@@ -89,7 +85,7 @@ struct Fields<'r, R> {
     rewriting: &'r R,
 }
 
-impl<'a, R: Rewriting<'a>> Each<ModuleField<'a>> for Fields<'_, R> {
+impl<'a, R: Rewriting<'a>> TurnEach<ModuleField<'a>> for Fields<'_, R> {
     ghost Tree = { spec.Field Name ℕ };
 
     ghost tree = { field_tree };

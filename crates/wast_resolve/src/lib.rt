@@ -34,9 +34,8 @@
 //! (data (memory 0) (i32.const 0) "ab")
 //! ```
 //!
-//! Fields are rewritten by value, by what becomes of each index, wherever one stands; nothing else of them changes. Lists of fields,
-//! instructions, locals, constant expressions and indices keep their places, and so do boxes; signatures and other lists are made anew, so
-//! want of memory is refused too.
+//! Fields are rewritten by value, by what becomes of each index, wherever one stands; nothing else of them changes. Lists and boxes keep
+//! their places. Want of memory is refused too: for the names that are gathered, and for the types that uses take.
 //!
 //! # What has to be believed
 //!

@@ -3,8 +3,8 @@ ghost use Rattle.std.specs.Prelude.{◌≡◌, [], ◌∷◌, ◌++◌, Ok, IfOk
 
 use std::alloc::{AllocError, Global};
 
-/// What becomes of each item of a list.
-pub(crate) trait Each<T: Drop> {
+/// What becomes of each item of a list, by one call: where items are as large as fields, what the check compares grows with each call.
+pub(crate) trait TurnEach<T: Drop> {
     /// What contracts see of an item.
     ghost Tree: { Type 0 };
 
@@ -19,7 +19,7 @@ pub(crate) trait Each<T: Drop> {
 }
 
 /// A list, item by item, each in its place, where `other` stands meanwhile. Fails only for want of memory.
-pub(crate) fn turn_list<T: Drop, E: Each<T>>(
+pub(crate) fn turn_each<T: Drop, E: TurnEach<T>>(
     alloc: Global,
     each: &E,
     other: T,

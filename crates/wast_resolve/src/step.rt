@@ -1,5 +1,5 @@
 //! What instructions do to labels.
-ghost use Rattle.std.specs.Prelude.{◌≡◌, IfOk, map, option_map};
+ghost use Rattle.std.specs.Prelude.{◌≡◌, IfOk, option_map};
 ghost use Rattle.wast_parser.specs.Identifiers.{identifier_tree};
 ghost use Rattle.wast_core_instr.specs.InstructionViews.{instruction_tree};
 ghost use Rattle.wast_meaning.specs.Scope.{own_label};
@@ -17,30 +17,15 @@ pub(crate) struct Step<'a> {
     pub(crate) label: Option<Id<'a>>,
 }
 
-/// Those of instructions, one by one. Fails only for want of memory.
-pub(crate) fn steps_of<'a>(
-    alloc: Global,
-    instructions: &[Instruction<'a>],
-) -> Result<Vec<Step<'a>>, AllocError>
-    ensures { IfOk result (λ steps. map step_view steps.items ≡ map step_of (map instruction_tree instructions.now)) }
-{
-    let mut steps = Vec::with_capacity(alloc, instructions.len())?;
-    for instruction in instructions {
-        match one_step(alloc, instruction) {
-            Ok(step) => steps.push(step)?,
-            Err(e) => return Err(e),
-        }
+impl<'a> Step<'a> {
+    /// That of an instruction. Fails only for want of memory.
+    pub(crate) fn of(alloc: Global, instruction: &Instruction<'a>) -> Result<Self, AllocError>
+        ensures { IfOk result (λ step. step_view step ≡ step_of (instruction_tree instruction.now)) }
+    {
+        let turn = Turn::of(instruction);
+        let label = label_of(alloc, instruction)?;
+        Ok(Step { turn, label })
     }
-    Ok(steps)
-}
-
-/// That of an instruction.
-fn one_step<'a>(alloc: Global, instruction: &Instruction<'a>) -> Result<Step<'a>, AllocError>
-    ensures { IfOk result (λ step. step_view step ≡ step_of (instruction_tree instruction.now)) }
-{
-    let turn = Turn::of(instruction);
-    let label = label_of(alloc, instruction)?;
-    Ok(Step { turn, label })
 }
 
 /// The label of the block that an instruction opens, if it has one.

@@ -1,7 +1,7 @@
-use Rattle.wast_changed.proofs.Lists.{holds_none}
+use Rattle.wast_changed.proofs.Instructions.{without_type_use}
 use Rattle.wast_changed.proofs.instruction.change_operands.Goals as goal
 
 pub returns-in_default-clause-operands : goal.returns-in_default-clause-operands
 returns-in_default-clause-operands g c = c.change_in_place.ensures.operands
-    (holds_none c.args.instruction c.in_default.not-Block c.in_default.not-Loop c.in_default.not-If c.in_default.not-Try c.in_default.not-TryTable
-    c.in_default.not-CallIndirect c.in_default.not-ReturnCallIndirect c.in_default.not-Select c.in_default.not-Proposal)
+    (without_type_use c.args.instruction c.in_default.not-Block c.in_default.not-Loop c.in_default.not-If c.in_default.not-Try c.in_default.not-TryTable
+    c.in_default.not-CallIndirect c.in_default.not-ReturnCallIndirect)

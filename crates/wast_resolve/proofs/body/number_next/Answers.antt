@@ -1,4 +1,5 @@
-use Rattle.std.proofs.Common.{ap, ◌∙◌}
+use Rattle.std.proofs.Common.{◌≡◌, subst}
+use Rattle.std.specs.Prelude.{IfOk, OnOk}
 use Rattle.wast_grammar.specs.Spelling.{same_name}
 use Rattle.wast_core_instr.specs.InstructionViews.{instruction_tree}
 use Rattle.wast_names.specs.Views.{space}
@@ -6,15 +7,17 @@ use Rattle.wast_meaning.specs.Changed.{instr_changed}
 use Rattle.wast_meaning.specs.Numbered.{numbering}
 use Rattle.wast_meaning.specs.Spaces.{listed}
 use Rattle.wast_resolve.specs.Place.{here}
-use Rattle.wast_resolve.proofs.Labelled.{if_weaker}
+use Rattle.wast_resolve.specs.Steps.{behind, seen}
+use Rattle.wast_resolve.proofs.Labelled.{Does}
 use Rattle.wast_resolve.proofs.body.number_next.Goals as goal
 
 pub returns-in-Ok-clause-tree : goal.returns-in-Ok-clause-tree
 returns-in-Ok-clause-tree c =
     let s = c.args.spaces.now in
     let locals = space c.args.locals.now in
-    if_weaker c.and_pass.result
-    (λ new h.
-    ap instruction_tree h ∙ c.in-Ok.ensures
-    ∙ ap (λ l. instr_changed (numbering (here s locals (listed same_name l))) (instruction_tree c.args.instr)) c.see.ensures)
-    c.and_pass.ensures.same
+    subst (λ (does : Does). IfOk c.number_by.result (λ new. instruction_tree new ≡ instr_changed (numbering (here s locals (listed same_name (seen does.0 c.args.labels.now)))) (instruction_tree c.args.instr)))
+    c.in-Ok.ensures c.number_by.ensures.tree
+
+pub returns-in-Ok-clause-labels : goal.returns-in-Ok-clause-labels
+returns-in-Ok-clause-labels c =
+    subst (λ (does : Does). OnOk c.number_by.result (c.number_by.new.labels ≡ behind does.0 does.1 (seen does.0 c.args.labels.now))) c.in-Ok.ensures c.number_by.ensures.labels

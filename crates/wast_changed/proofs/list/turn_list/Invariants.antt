@@ -1,5 +1,5 @@
 use Rattle.std.proofs.Common.{◌≡◌, map, take, drop}
-use Rattle.wast_resolve.proofs.list.turn_list.Given as goal
+use Rattle.wast_changed.proofs.list.turn_list.Given as goal
 
 abbrev pub invariant-loop-item : goal.invariant-loop-item
 invariant-loop-item g l = record {

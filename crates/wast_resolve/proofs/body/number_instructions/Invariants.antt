@@ -5,12 +5,11 @@ use Rattle.wast_names.specs.Views.{space}
 use Rattle.wast_meaning.specs.Changed.{instrs_changed}
 use Rattle.wast_meaning.specs.Scope.{open_labels}
 use Rattle.wast_resolve.specs.Place.{by_place}
-use Rattle.wast_resolve.proofs.body.number_by.Given as goal
+use Rattle.wast_resolve.proofs.body.number_instructions.Given as goal
 
 abbrev pub invariant-loop-instr : goal.invariant-loop-instr
 invariant-loop-instr l = record {
   made : map instruction_tree (take l.instr-index l.instr-items) ≡ instrs_changed (by_place l.spaces (space l.locals)) [] (map instruction_tree (take l.instr-index l.fn.instrs.items));
   rest : drop l.instr-index l.instr-items ≡ drop l.instr-index l.fn.instrs.items;
   labels : l.labels ≡ open_labels (reached (λ before i. i ∷ before) [] (map instruction_tree (take l.instr-index l.fn.instrs.items)));
-  count : l.at ≡ l.instr-index;
 }

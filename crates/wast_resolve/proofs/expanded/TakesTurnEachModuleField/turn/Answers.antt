@@ -3,7 +3,7 @@ use Rattle.std.specs.Prelude.{IfOk}
 use Rattle.wast_core.specs.ModuleViews.{field_tree}
 use Rattle.wast_implied.specs.Views.{known}
 use Rattle.wast_resolve.proofs.Expands.{as_taken}
-use Rattle.wast_resolve.proofs.expanded.TakesEachModuleField.turn.Goals as goal
+use Rattle.wast_resolve.proofs.expanded.TakesTurnEachModuleField.turn.Goals as goal
 
 pub returns : goal.returns
 returns c =
