@@ -1,9 +1,9 @@
 //! What stands in a module, stop by stop.
-ghost use Rattle.std.specs.Prelude.{All};
+ghost use Rattle.std.specs.Prelude.{◌≡◌, All};
 ghost use Rattle.wasm_layout.specs.Layout.{pieces};
-ghost use Rattle.wast_meant.specs.CustomsMeant.{At, Of, stops};
+ghost use Rattle.wast_meant.specs.CustomsMeant.{At, Of, customs_in, stops};
 ghost use Rattle.wast_customs.specs.CustomViews.{place_tree};
-ghost use Rattle.std.specs.List.{AllByRecursion};
+ghost use Rattle.std.specs.List.{AllByRecursion, flat_map};
 ghost use Rattle.wast_encode.specs.Can.{CanEncode};
 ghost use Rattle.wast_encode.specs.Parts.{KindSound, StopSound};
 ghost use Rattle.wast_encode.specs.Puts.{Puts};
@@ -37,8 +37,9 @@ pub(crate) fn put_stops<'n, 'a>(
     requires few { AreFew (fields_in fields.now) }
     ensures { Puts (module_in id.now name.now fields.now) (pieces (module_in id.now name.now fields.now)) (AllByRecursion (StopSound (module_in id.now name.now fields.now)) stops) «module».old «module».new result }
 {
+    let customs = from_first_custom(fields);
     for stop in &STOPS {
-        match put_stop(alloc, id, name, fields, *stop, module) {
+        match put_stop(alloc, id, name, fields, customs, *stop, module) {
             Ok(()) => {}
             Err(e) => return Err(e),
         }
@@ -46,21 +47,38 @@ pub(crate) fn put_stops<'n, 'a>(
     Ok(())
 }
 
-/// Appends the custom sections of a place, in the order of their fields, or a section, if anything stands in it.
+/// Fields from the first custom field on: none, if there is none, so that a place of custom sections costs nothing then.
+fn from_first_custom<'n, 'a>(fields: &'n [ModuleField<'a>]) -> &'n [ModuleField<'a>]
+    ensures { flat_map customs_in (fields_in result.now) ≡ flat_map customs_in (fields_in fields.now) }
+{
+    let mut rest = fields;
+    'fields: while let [first, behind @ ..] = rest {
+        if matches!(first, ModuleField::Custom(_)) {
+            break;
+        }
+        rest = behind;
+    }
+    rest
+}
+
+/// Appends the custom sections of a place, in the order of their fields, or a section, if anything stands in it. The fields from the first
+/// custom one on are given beside all of them.
 fn put_stop<'n, 'a>(
     alloc: Global,
     id: &'n Option<Id<'a>>,
     name: &'n Option<NameAnnotation<'a>>,
     fields: &'n [ModuleField<'a>],
+    customs: &'n [ModuleField<'a>],
     stop: Stop,
     module: &mut Module,
 ) -> Result<(), EncodeError>
+    requires customs { flat_map customs_in (fields_in customs.now) ≡ flat_map customs_in (fields_in fields.now) }
     requires can { CanEncode (fields_in fields.now) }
     requires few { AreFew (fields_in fields.now) }
     ensures { Puts (module_in id.now name.now fields.now) (pieces_at id.now name.now fields.now (stop_view stop)) (StopSound (module_in id.now name.now fields.now) (stop_view stop)) «module».old «module».new result }
 {
     match stop {
-        Stop::At(place) => put_customs(alloc, fields, place, module),
+        Stop::At(place) => put_customs(alloc, customs, place, module),
         Stop::Of(kind) => put_kind(alloc, id, name, fields, kind, module),
     }
 }
