@@ -19,22 +19,39 @@ fn main(rt: HostRuntime) -> ExitCode {
 
 /// The binary of the module.
 fn adder(alloc: Global) -> Result<Vec<u8>, EncodeError> {
+    let mut module = Module::new(alloc)?;
+    module.section(&types(alloc)?)?;
+    module.section(&functions(alloc)?)?;
+    module.section(&exports(alloc)?)?;
+    module.section(&codes(alloc)?)?;
+    Ok(module.finish())
+}
+
+/// One type: two numbers, and a number that is answered.
+fn types(alloc: Global) -> Result<TypeSection, EncodeError> {
     let mut types = TypeSection::new(alloc);
     types
         .ty()
         .function(&[ValType::I32, ValType::I32], &[ValType::I32])?;
+    Ok(types)
+}
+
+fn functions(alloc: Global) -> Result<FunctionSection, EncodeError> {
     let mut functions = FunctionSection::new(alloc);
     functions.function(0)?;
+    Ok(functions)
+}
+
+fn exports(alloc: Global) -> Result<ExportSection, EncodeError> {
     let mut exports = ExportSection::new(alloc);
     exports.export("f", ExportKind::Func, 0)?;
+    Ok(exports)
+}
+
+fn codes(alloc: Global) -> Result<CodeSection, EncodeError> {
     let mut codes = CodeSection::new(alloc);
     codes.function(&sum(alloc)?)?;
-    let mut module = Module::new(alloc)?;
-    module.section(&types)?;
-    module.section(&functions)?;
-    module.section(&exports)?;
-    module.section(&codes)?;
-    Ok(module.finish())
+    Ok(codes)
 }
 
 /// The body: both parameters, and their sum.

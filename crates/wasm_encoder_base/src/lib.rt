@@ -23,12 +23,13 @@ pub mod laws;
 mod section;
 mod types;
 
+pub use item_lists::{Bytes, Items, OwnedItems};
 pub use section::{Section, SectionId};
 pub use types::{
     AbstractHeapType, ArrayType, CompositeType, FieldType, FuncType, HeapType, RefType,
     StorageType, StructType, SubType, ValType,
 };
 pub use wasm_encoder_bytes::{
-    Added, Bytes, Encode, EncodeError, EncodedList, Ieee32, Ieee64, Items, Measure, OwnedItems,
-    Part, RawBytes, encode_both, encode_sized, encoding_size, read_s33, read_u32, rolled_back,
+    Added, Encode, EncodeError, EncodedList, Ieee32, Ieee64, Measure, Part, RawBytes, encode_both,
+    encode_sized, encoding_size, read_s33, read_u32, rolled_back,
 };

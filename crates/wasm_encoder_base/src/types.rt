@@ -6,8 +6,9 @@ ghost use Rattle.wasm_encoder_bytes.specs.Encodes.{Encodes, Puts};
 ghost use Rattle.wasm_encoder_base.specs.Types.{abstract_heap_byte, heap_bytes, ref_bytes, val_bytes, storage_bytes, field_bytes, func_bytes, struct_bytes, array_bytes, composite_bytes, supertype_bytes, sub_bytes};
 ghost use Rattle.wasm_encoder_base.specs.Views.{abstract_view, heap_view, ref_view, val_view, storage_view, field_view, func_params, func_results, func_view, struct_view, array_view, composite_view, sub_view, func_fits, struct_fits, composite_fits};
 
+use item_lists::OwnedItems;
 use std::alloc::{AllocError, Global};
-use wasm_encoder_bytes::{Encode, EncodeError, OwnedItems, encode_both, rolled_back};
+use wasm_encoder_bytes::{Encode, EncodeError, encode_both, rolled_back};
 
 /// A heap type with a name of its own; each number is its byte.
 #[derive(Clone, Copy, Debug, PartialEq, Eq, Hash)]

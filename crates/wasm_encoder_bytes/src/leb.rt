@@ -51,6 +51,7 @@ pub fn seven(flip: bool, d: u8) -> u8
 
 /// Appends `n`, seven bits at a time, the last byte of which stands for less than `limit`; refused, the
 /// sink's bytes are unchanged.
+#[inline(always)]
 fn push_leb(sink: &mut Vec<u8>, flip: bool, limit: u64, n: u64) -> Result<(), AllocError>
     requires low { 0 < limit }
     requires high { limit ≤ 128 }

@@ -2,8 +2,7 @@
 //! their bits. It is the lower part of `wasm_encoder_base`, which hands on all that is public here.
 //!
 //! [`Encode`] appends a value's spelling to a vector of bytes; refused, the vector is as it was. Every LEB128 that is
-//! written is the shortest one. [`read_u32`] and [`read_s33`] read such numbers back. [`Items`] is a list that is
-//! borrowed or owned, [`OwnedItems`] one that is owned; contracts see their items.
+//! written is the shortest one. [`read_u32`] and [`read_s33`] read such numbers back.
 //!
 //! Spellings are put together: a pair or a triple is its values one after another, an `Option` what there may be,
 //! [`RawBytes`] bytes as they are, [`Part`] a part with its size before it. [`EncodedList`] is a list whose items are
@@ -28,7 +27,6 @@ mod adding;
 mod encode;
 mod error;
 mod ieee;
-mod items;
 pub mod laws;
 mod leb;
 mod list;
@@ -39,7 +37,6 @@ pub use adding::{Added, rolled_back};
 pub use encode::{Encode, encode_both, encode_sized};
 pub use error::EncodeError;
 pub use ieee::{Ieee32, Ieee64};
-pub use items::{Bytes, Items, OwnedItems};
 pub use leb::encoding_size;
 pub use list::EncodedList;
 pub use part::{Measure, Part, RawBytes};

@@ -128,14 +128,18 @@ fn data_at(alloc: Global, zero: &ConstExpr) -> Result<Vec<u8>, EncodeError> {
     let mut section = DataSection::new(alloc);
     calls.note(section.active(0, zero, b"ab"));
     calls.note(section.passive(b"c"));
-    calls.note(section.segment(DataSegment {
-        mode: DataSegmentMode::Active {
-            memory_index: 1,
-            offset: zero,
-        },
-        bytes: b"d",
-    }));
+    calls.note(section.segment(in_second_memory(zero)));
     calls.note(section.raw(&[0x01, 0x00]));
     calls.note_copy(section.clone());
     calls.encoded(alloc, section)
+}
+
+fn in_second_memory(offset: &ConstExpr) -> DataSegment<'_> {
+    DataSegment {
+        mode: DataSegmentMode::Active {
+            memory_index: 1,
+            offset,
+        },
+        bytes: b"d",
+    }
 }

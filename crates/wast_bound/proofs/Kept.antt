@@ -11,7 +11,7 @@ use Rattle.wast_names.specs.Walk.{first_unmet, walked}
 use Rattle.wast_names.specs.Demand.{Demand}
 use Rattle.wast_names.specs.Space as names
 use Rattle.wast_names.specs.Space.{last_counts}
-use Rattle.wast_core_types.specs.TypeTree.{Sig, TypeUse}
+use Rattle.wast_signatures.specs.TypeTree.{Sig, TypeUse}
 use Rattle.wast_meaning.specs.Demands.{agreement, agreements, says_demands, use_demands, mention_demands, part_demands}
 use Rattle.wast_meaning.specs.Mentions.{Mention, Says, use_mentions}
 use Rattle.wast_meaning.specs.Scope.{Scope}

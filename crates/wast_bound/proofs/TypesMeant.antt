@@ -9,7 +9,7 @@ use Rattle.wasm_encoder_base.specs.Table as table
 use Rattle.wast_grammar.specs.Tokens.{Name}
 use Rattle.wast_grammar.specs.Spelling.{same_name}
 use Rattle.wast_parser.specs.Identifiers.{Named, Reference, ByNumber, ByName}
-use Rattle.wast_core_types.specs.TypeTree.{TypeItem}
+use Rattle.wast_signatures.specs.TypeTree.{TypeItem}
 use Rattle.wast_exports.specs.Exports as exports
 use Rattle.wast_imports.specs.ImportTree.{Item, ImportItems, Single, Group1, Group2}
 use Rattle.wast_fields.specs.FieldTree.{Field, TypeField, RecField, ImportField, Define, ElemField, DataField, Defined, TableOf, MemoryOf}

@@ -8,7 +8,7 @@ use Rattle.wast_grammar.specs.Spelling.{same_name}
 use Rattle.wast_parser.specs.Identifiers.{Reference}
 use Rattle.wast_names.specs.Position.{bears}
 use Rattle.wast_names.specs.Space.{name_in, number_of}
-use Rattle.wast_core_types.specs.TypeTree.{Local}
+use Rattle.wast_signatures.specs.TypeTree.{Local}
 use Rattle.wast_meaning.specs.Implied.{no_sig}
 use Rattle.wast_meaning.specs.Scope.{Scope, params_of_index}
 

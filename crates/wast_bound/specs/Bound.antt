@@ -8,7 +8,7 @@ use Rattle.wast_grammar.specs.Spelling.{same_name}
 use Rattle.wast_names.specs.Position.{bears}
 use Rattle.wast_names.specs.Space.{name_in}
 use Rattle.wast_names.specs.Demand.{Demand}
-use Rattle.wast_core_types.specs.TypeTree.{TypeItem}
+use Rattle.wast_signatures.specs.TypeTree.{TypeItem}
 use Rattle.wast_fields.specs.FieldTree.{Field, TypeField, RecField}
 use Rattle.wast_parser.specs.Identifiers.{Reference}
 use Rattle.wast_meaning.specs.Spaces.{Bound, same_space, fields_of, items}

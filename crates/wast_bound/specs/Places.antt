@@ -3,12 +3,12 @@ use Rattle.std.specs.Prelude.{ℕ, List, ◌++◌, map, reverse, Option}
 use Rattle.wast_grammar.specs.Tokens.{Name}
 use Rattle.wast_grammar.specs.Spelling.{same_name}
 use Rattle.wast_parser.specs.Identifiers.{Named}
-use Rattle.wast_core_types.specs.TypeViews.{use_tree}
-use Rattle.wast_core_types.specs.declared.signature.FunctionType.{FunctionType}
-use Rattle.wast_core_types.specs.declared.type_use.TypeUse.{TypeUse}
+use Rattle.wast_signatures.specs.SignatureViews.{use_tree}
+use Rattle.wast_signatures.specs.declared.signature.FunctionType.{FunctionType}
+use Rattle.wast_signatures.specs.declared.type_use.TypeUse.{TypeUse}
 use Rattle.wast_core_instr.specs.InstructionTree.{Instruction}
-use Rattle.wast_fields.specs.FieldViews.{local_tree}
-use Rattle.wast_fields.specs.declared.local.Local.{Local}
+use Rattle.wast_fields.specs.FuncViews.{local_tree}
+use Rattle.wast_fields.specs.Local.{Local}
 use Rattle.wast_meaning.specs.Scope.{Scope, with_locals, scope_at, params_of}
 
 -- the parameters and locals of a function

@@ -4,8 +4,8 @@ ghost use Rattle.std.specs.List.{list_any};
 ghost use Rattle.wast_grammar.specs.Tokens.{Name};
 ghost use Rattle.wast_grammar.specs.Spelling.{same_name};
 ghost use Rattle.wast_parser.specs.Identifiers.{identifier_tree};
-ghost use Rattle.wast_core_types.specs.TypeViews.{param_tree, use_tree};
-ghost use Rattle.wast_fields.specs.FieldViews.{local_tree};
+ghost use Rattle.wast_signatures.specs.SignatureViews.{param_tree, use_tree};
+ghost use Rattle.wast_fields.specs.FuncViews.{local_tree};
 ghost use Rattle.wast_names.specs.Position.{bears};
 ghost use Rattle.wast_names.specs.Space.{name_in};
 ghost use Rattle.wast_meaning.specs.Scope.{Scope, params_of};
@@ -14,9 +14,9 @@ ghost use Rattle.wast_bound.specs.Places.{inside, locals_among};
 use crate::known::Known;
 use crate::made::is_borne;
 use wast_core::{FunctionType, Local, TypeUse};
-use wast_core_types::Param;
 use wast_meaning::Space;
 use wast_parser::{Id, Index};
+use wast_signatures::Param;
 
 /// A place in a function, outside its instructions.
 #[derive(Clone, Copy)]

@@ -5,7 +5,7 @@ ghost use Rattle.wasm_encoder_base.specs.Table as table;
 ghost use Rattle.wast_grammar.specs.Tokens.{Name};
 ghost use Rattle.wast_grammar.specs.Spelling.{same_name};
 ghost use Rattle.wast_parser.specs.Identifiers.{index_tree};
-ghost use Rattle.wast_core_types.specs.TypeViews.{use_tree};
+ghost use Rattle.wast_signatures.specs.SignatureViews.{use_tree};
 ghost use Rattle.wast_names.specs.Demand.{Demand};
 ghost use Rattle.wast_names.specs.Space as names;
 ghost use Rattle.wast_meaning.specs.Demands.{mention_demands, says_demands, use_demands};

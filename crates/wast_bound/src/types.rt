@@ -3,8 +3,10 @@ ghost use Rattle.std.specs.Prelude.{◌≡◌, ◌<◌, Some, is_some, length, m
 ghost use Rattle.std.specs.List.{find, flat_map, list_any};
 ghost use Rattle.wast_grammar.specs.Spelling.{same_name};
 ghost use Rattle.wast_parser.specs.Identifiers.{identifier_tree, index_tree};
-ghost use Rattle.wast_core_types.specs.TypeViews.{item_tree, struct_field_tree};
-ghost use Rattle.wast_core.specs.ModuleViews.{content_tree, field_tree};
+ghost use Rattle.wast_signatures.specs.SignatureViews.{struct_field_tree};
+ghost use Rattle.wast_core_types.specs.TypeViews.{item_tree};
+ghost use Rattle.wast_core.specs.ModuleFieldViews.{field_tree};
+ghost use Rattle.wast_core.specs.ModuleViews.{content_tree};
 ghost use Rattle.wast_names.specs.Position.{bears};
 ghost use Rattle.wast_names.specs.Space.{name_in};
 ghost use Rattle.wast_meaning.specs.Modules.{content_fields};
@@ -13,8 +15,9 @@ ghost use Rattle.wast_bound.specs.Bound.{has, types};
 
 use crate::made::is_borne;
 use wast_core::{ModuleField, ModuleKind, TypeItem};
-use wast_core_types::{InnerTypeKind, StructField};
+use wast_core_types::InnerTypeKind;
 use wast_parser::{Id, Index};
+use wast_signatures::StructField;
 
 /// Whether the struct type that an index means has a field that bears a name, in a module that holds this.
 pub(crate) fn is_member_in(content: &ModuleKind<'_>, owner: &Index<'_>, id: &Id<'_>) -> bool

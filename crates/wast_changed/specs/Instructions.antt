@@ -14,7 +14,8 @@ has_type_use (instructions.CallIndirect call) = true
 has_type_use (instructions.ReturnCallIndirect call) = true
 has_type_use _ = false
 
--- whether no index and no type stands behind the word: at most a number, an ordering, or a label that closes
+-- Whether it is of a kind behind whose words no index and no type stands: at most a number, an ordering, or a label that closes. Kinds of
+-- which some words have one are not counted, as `ref.eq` and a `select` without types.
 abbrev pub is_bare : Instruction → Bool
 is_bare instructions.Unreachable = true
 is_bare instructions.Nop = true

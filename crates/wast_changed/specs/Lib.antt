@@ -1,3 +1,4 @@
 pub mod Instructions
 pub mod Memory
+pub mod Rewritten
 pub mod Rows

@@ -1,7 +1,7 @@
 -- What may take memory where it is rewritten: a type use that has no index takes one.
-use Rattle.std.specs.Prelude.{Bool, true, false, not, ◌&&◌, is_some}
-use Rattle.wast_core_types.specs.declared.type_use.TypeUse.{TypeUse}
-use Rattle.wast_core_types.specs.declared.signature.FunctionType.{FunctionType}
+use Rattle.std.specs.Prelude.{Bool, false, not, ◌&&◌, is_some}
+use Rattle.wast_signatures.specs.declared.type_use.TypeUse.{TypeUse}
+use Rattle.wast_signatures.specs.declared.signature.FunctionType.{FunctionType}
 use Rattle.wast_imports.specs.declared.item.ItemKind.{ItemKind}
 use Rattle.wast_imports.specs.declared.item.ItemKind.TheVariants as kinds
 use Rattle.wast_imports.specs.declared.item.TagType.TheVariants.{Exception}

@@ -2,14 +2,14 @@
 ghost use Rattle.std.specs.Prelude.{◌≡◌, ℕ, None, true, IfOk, IsOk, is_some, option_map};
 ghost use Rattle.wast_grammar.specs.Tokens.{Name};
 ghost use Rattle.wast_parser.specs.Identifiers.{index_tree};
-ghost use Rattle.wast_core_types.specs.TypeViews.{sig_tree};
+ghost use Rattle.wast_signatures.specs.SignatureViews.{sig_tree};
 ghost use Rattle.wast_meaning.specs.Changed.{Change};
 ghost use Rattle.wast_meaning.specs.Views.{space_view};
 
 use std::alloc::AllocError;
-use wast_core_types::FunctionType;
 use wast_meaning::Space;
 use wast_parser::Index;
+use wast_signatures::FunctionType;
 
 /// What becomes of each index, wherever one stands.
 pub trait Changing<'a> {

@@ -86,9 +86,10 @@ pub fn change_imports<'a, C: Changing<'a>>(
 ) -> Result<Imports<'a>, AllocError>
     ensures { IfOk result (λ new. imports_tree new ≡ record (imports_tree imports.entry) { items = imports_changed (C.change change.now) (imports_tree imports.entry).items }) }
 {
+    let (span, items) = imports.into_parts();
     Ok(Imports {
-        span: imports.span,
-        items: change_import_items(alloc, change, imports.items)?,
+        span,
+        items: change_import_items(alloc, change, items)?,
     })
 }
 

@@ -37,7 +37,8 @@ pub fn change_instruction<'a, C: Changing<'a>>(
     change_operands(alloc, change, instruction)
 }
 
-/// Whether no index and no type stands behind the word of an instruction; then nothing becomes of it, whatever becomes of indices.
+/// Whether an instruction is of a kind behind whose words no index and no type stands; then nothing becomes of it, whatever becomes of
+/// indices. Of some others, as `ref.eq`, nothing becomes either.
 #[tactic(auto, using(crate::proofs::Instructions::bare_stays))]
 pub fn is_bare(instruction: &Instruction<'_>) -> bool
     ensures exact { result ≡ is_bare instruction.now }

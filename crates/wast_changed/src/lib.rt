@@ -6,10 +6,14 @@
 //! [`try_turn_list`] rewrite the list. Only a type use without an index may want memory, for the index that it takes, so want of memory is
 //! the only refusal.
 //!
+//! [`Rewriting`] says what becomes of whole fields, by what becomes of an index outside of expressions, and of constant expressions and bodies:
+//! `wast_changed_fields` rewrites them by it.
+//!
 //! # What has to be believed
 //!
-//! The trees with other indices are those of `Changed` of `wast_meaning`. `Memory` says what may want memory, and `Instructions` which
-//! instructions have neither an index nor a type. `Rows`, what the table says stands after a word, and the rest of `Instructions` serve
+//! The trees with other indices are those of `Changed` of `wast_meaning`. `Memory` says what may want memory, `Instructions` which
+//! kinds of instructions have neither an index nor a type, and `Rewritten` which changes a [`Rewriting`] of whole fields makes and what an expression
+//! is changed to. `Rows`, what the table says stands after a word, and the rest of `Instructions` serve
 //! private contracts.
 #![tactic(auto)]
 
@@ -22,6 +26,7 @@ mod instruction;
 mod list;
 mod operands;
 mod proposal;
+mod rewriting;
 mod typed_operands;
 mod types;
 mod value_types;
@@ -35,6 +40,7 @@ pub use operands::{
     change_handle, change_handlers, change_label_table, change_mem_arg, change_memory_arg,
     change_struct_access, change_table_arg, change_target,
 };
+pub use rewriting::Rewriting;
 pub use typed_operands::{
     change_block_type, change_call_indirect, change_catch, change_select_types, change_try_table,
 };

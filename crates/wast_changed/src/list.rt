@@ -1,6 +1,6 @@
 //! Lists, each item in its place.
 ghost use Rattle.std.specs.Prelude.{◌≡◌, ℕ, IfOk, map, true};
-ghost use Rattle.wast_parser.specs.Identifiers.{Named, Reference, index_tree};
+ghost use Rattle.wast_parser.specs.Identifiers.{Reference, index_tree};
 ghost use Rattle.wast_grammar.specs.Tokens.{Name};
 ghost use Rattle.wast_meaning.specs.Views.{space_view};
 

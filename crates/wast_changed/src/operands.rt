@@ -1,5 +1,5 @@
 //! Operands in which no type stands.
-ghost use Rattle.std.specs.Prelude.{◌≡◌, ℕ, IfOk, map, option_map};
+ghost use Rattle.std.specs.Prelude.{◌≡◌, ℕ, map, option_map};
 ghost use Rattle.wast_grammar.specs.Tokens.{Name};
 ghost use Rattle.wasm_encoder_base.specs.Table.{Labels, Types, Tables, Memories};
 ghost use Rattle.wast_parser.specs.Identifiers.{index_tree};

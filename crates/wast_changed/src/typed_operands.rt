@@ -2,7 +2,7 @@
 ghost use Rattle.std.specs.Prelude.{◌≡◌, ℕ, false, IfOk, IsOk, map, option_map};
 ghost use Rattle.wast_grammar.specs.Tokens.{Name};
 ghost use Rattle.wasm_encoder_base.specs.Table.{Tables};
-ghost use Rattle.wast_core_types.specs.TypeViews.{use_tree};
+ghost use Rattle.wast_signatures.specs.SignatureViews.{use_tree};
 ghost use Rattle.wast_typed_operands.specs.TypedTree as spec;
 ghost use Rattle.wast_typed_operands.specs.TypedViews.{block_tree, catch_tree, try_table_tree, indirect_tree, select_types_tree};
 ghost use Rattle.wast_meaning.specs.Changed.{val_changed, sig_changed, use_changed, block_changed, catch_changed};
@@ -14,8 +14,8 @@ use crate::list::{ByChange, Each, turn_list};
 use crate::types::{change_function_type, change_type_use, no_type_use};
 use crate::value_types::change_val_types;
 use std::alloc::{AllocError, Global};
-use wast_core_types::{FunctionType, TypeUse};
 use wast_meaning::Space;
+use wast_signatures::{FunctionType, TypeUse};
 use wast_typed_operands::{
     BlockType, CallIndirect, SelectTypes, TryTable, TryTableCatch, TryTableCatchKind,
 };

@@ -1,8 +1,9 @@
 //! Signatures, composite types, type definitions and type uses.
 ghost use Rattle.std.specs.Prelude.{◌≡◌, ℕ, false, IfOk, IsOk, map};
 ghost use Rattle.wast_grammar.specs.Tokens.{Name};
-ghost use Rattle.wast_core_types.specs.TypeTree as spec;
-ghost use Rattle.wast_core_types.specs.TypeViews.{param_tree, sig_tree, use_tree, array_tree, struct_field_tree, inner_tree, definition_tree, item_tree, rec_tree};
+ghost use Rattle.wast_signatures.specs.TypeTree as spec;
+ghost use Rattle.wast_signatures.specs.SignatureViews.{param_tree, sig_tree, use_tree, struct_field_tree};
+ghost use Rattle.wast_core_types.specs.TypeViews.{array_tree, inner_tree, definition_tree, item_tree, rec_tree};
 ghost use Rattle.wast_meaning.specs.Changed.{local_changed, sig_changed, field_type_changed, inner_changed, type_changed, use_changed};
 ghost use Rattle.wast_changed.specs.Memory.{use_may_take};
 
@@ -11,12 +12,10 @@ use crate::changing::{Changing, change_optional};
 use crate::list::{ByChange, Each, turn_list};
 use crate::value_types::{change_storage_type, change_val_type, change_val_types};
 use std::alloc::{AllocError, Global};
-use wast_core_types::{
-    ArrayType, ContType, FunctionType, InnerTypeKind, Param, Rec, StructField, StructType, TypeDef,
-    TypeItem, TypeUse,
-};
+use wast_core_types::{ArrayType, ContType, InnerTypeKind, Rec, StructType, TypeDef, TypeItem};
 use wast_meaning::Space;
 use wast_parser::Span;
+use wast_signatures::{FunctionType, Param, StructField, TypeUse};
 use wast_value_types::{StorageType, ValType};
 
 /// A signature (6.4.5).
@@ -74,11 +73,11 @@ fn no_struct_field<'a>() -> StructField<'a> {
 pub fn change_type_item<'a, C: Changing<'a>>(change: &C, item: TypeItem<'a>) -> TypeItem<'a>
     ensures { item_tree result ≡ type_changed (C.change change.now) (item_tree item.entry) }
 {
-    let def = item.def;
+    let (span, id, name, def) = item.into_parts();
     TypeItem {
-        span: item.span,
-        id: item.id,
-        name: item.name,
+        span,
+        id,
+        name,
         def: TypeDef {
             kind: change_inner_type(change, def.kind),
             shared: def.shared,
@@ -111,9 +110,10 @@ fn no_type_item<'a>() -> TypeItem<'a> {
 pub fn change_rec<'a, C: Changing<'a>>(change: &C, group: Rec<'a>) -> Rec<'a>
     ensures { rec_tree result ≡ record { place = (rec_tree group.entry).place; types = map (type_changed (C.change change.now)) (rec_tree group.entry).types } }
 {
+    let (span, types) = group.into_parts();
     Rec {
-        span: group.span,
-        types: turn_list(&ByChange { change }, no_type_item(), group.types),
+        span,
+        types: turn_list(&ByChange { change }, no_type_item(), types),
     }
 }
 

@@ -4,7 +4,7 @@ use Rattle.std.specs.Prelude.{Result, Ok, Err, IfOk}
 use Rattle.wasm_encoder_base.specs.Views.{val_view, func_params, func_results, func_view}
 use Rattle.wasm_encoder_base.specs.declared.types.FuncType.{FuncType}
 use Rattle.wasm_encoder_base.specs.declared.types.ValType.{ValType}
-use Rattle.wast_core_types.specs.TypeTree.{Sig}
+use Rattle.wast_signatures.specs.TypeTree.{Sig}
 use Rattle.wast_conversions.specs.Types.{val_meant, func_meant}
 
 pub of_parts : {N P E : Type 0} (s : Sig N P) (r : Result FuncType E) (params results : List ValType) → IfOk r (λ f. func_params f ≡ params) → IfOk r (λ f. func_results f ≡ results)

@@ -5,7 +5,7 @@
 use Rattle.std.specs.Prelude.{ℕ, Bool, true, false, ◌||◌, is_some, List, [], ◌∷◌, ◌++◌, map, Option, Some, None, codes}
 use Rattle.std.specs.List.{flat_map}
 use Rattle.wast_value_types.specs.ValueTree.{HeapWord, Known, HeapType, Abstract, Concrete, Exact, RefType, ValType, Number, Ref, StorageType, Packed, Value, TableType, GlobalType}
-use Rattle.wast_core_types.specs.TypeTree.{Sig, InnerType, FuncType, StructType, ArrayType, ContType, CompType, TypeDef, TypeUse}
+use Rattle.wast_signatures.specs.TypeTree.{Sig, InnerType, FuncType, StructType, ArrayType, ContType, CompType, TypeDef, TypeUse}
 use Rattle.wast_vector_operands.specs.VectorTree.{Vector, Integers, Floats}
 use Rattle.wast_operands.specs.OperandTree.{Ordering, AcqRel, SeqCst, MemArgTarget, Memory, Array, MemArg}
 use Rattle.wast_imports.specs.ImportTree.{ExternType, OfFunc, OfExactFunc, OfTable, OfMemory, OfGlobal, OfTag}

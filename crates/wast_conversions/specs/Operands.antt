@@ -7,7 +7,7 @@ use Rattle.wasm_encoder_base.specs.OperandSyntax.{OperandSyntax}
 use Rattle.wasm_encoder_base.specs.OperandSyntax as syntax
 use Rattle.wast_parser.specs.Identifiers.{Reference}
 use Rattle.wast_value_types.specs.ValueTree.{ValType}
-use Rattle.wast_core_types.specs.TypeTree.{Sig, TypeUse}
+use Rattle.wast_signatures.specs.TypeTree.{Sig, TypeUse}
 use Rattle.wast_vector_operands.specs.VectorTree.{Vector}
 use Rattle.wast_vector_operands.specs.VectorViews.{vector_bytes}
 use Rattle.wast_operands.specs.OperandTree.{Ordering, AcqRel, SeqCst, MemArgTarget, Memory, Array, MemArg}

@@ -8,7 +8,7 @@ use Rattle.wasm_encoder_items.specs.TypeEntries.{TypeEntry, OneType, TypeGroup}
 use Rattle.wasm_encoder_items.specs.Imports as imports
 use Rattle.wast_parser.specs.Identifiers.{Reference, ByNumber, ByName}
 use Rattle.wast_value_types.specs.ValueTree.{NumberType, I32, I64, F32, F64, V128, HeapWord, Known, HeapType, Abstract, Concrete, Exact, RefType, ValType, Number, Ref, PackedType, I8, I16, StorageType, Packed, Value, FieldType, Limits, TableType, MemoryType, GlobalType}
-use Rattle.wast_core_types.specs.TypeTree.{Sig, InnerType, FuncType, StructType, ArrayType, ContType, TypeDef, TypeItem, Rec, TypeUse}
+use Rattle.wast_signatures.specs.TypeTree.{Sig, InnerType, FuncType, StructType, ArrayType, ContType, TypeDef, TypeItem, Rec, TypeUse}
 use Rattle.wast_imports.specs.ImportTree.{ExternType, OfFunc, OfExactFunc, OfTable, OfMemory, OfGlobal, OfTag}
 use Rattle.wast_exports.specs.Exports as exports
 

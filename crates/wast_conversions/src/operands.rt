@@ -10,7 +10,7 @@ ghost use Rattle.wasm_encoder_instr.specs.MemArg.{memory_view, mem_arg_view};
 ghost use Rattle.wasm_encoder_instr.specs.Ordering.{ordering_bytes};
 ghost use Rattle.wasm_layout.specs.IsModule.{IsU32, IsU64};
 ghost use Rattle.wast_parser.specs.Identifiers.{index_tree};
-ghost use Rattle.wast_core_types.specs.TypeViews.{sig_tree, use_tree};
+ghost use Rattle.wast_signatures.specs.SignatureViews.{sig_tree, use_tree};
 ghost use Rattle.wast_value_types.specs.ValueViews.{val_tree};
 ghost use Rattle.wast_vector_operands.specs.VectorViews.{vector_tree};
 ghost use Rattle.wast_operands.specs.OperandViews.{table_arg_tree, memory_arg_tree, mem_arg_tree, target_tree, ordering_tree};
@@ -23,11 +23,11 @@ ghost use Rattle.wast_conversions.specs.Covered.{val_forms, inline_forms, use_fo
 use crate::indices::{index, optional_index};
 use crate::types::val_type;
 use wasm_encoder_instr::Lane;
-use wast_core_types::FunctionType;
 use wast_operands::{
     ArrayFill, I8x16Shuffle, LaneArg, MemArg, MemArgTarget, MemoryArg, Ordering, TableArg,
     V128Const,
 };
+use wast_signatures::FunctionType;
 use wast_typed_operands::{BlockType, TryTableCatch, TryTableCatchKind};
 use wast_value_types::ValType;
 

@@ -6,7 +6,8 @@ ghost use Rattle.wasm_encoder_base.specs.Views.{abstract_view, heap_view, ref_vi
 ghost use Rattle.wasm_layout.specs.IsModule.{IsU32};
 ghost use Rattle.wast_parser.specs.Identifiers.{index_tree};
 ghost use Rattle.wast_value_types.specs.ValueViews.{heap_word, heap_tree, ref_tree, val_tree, storage_tree, field_tree};
-ghost use Rattle.wast_core_types.specs.TypeViews.{param_tree, sig_tree, array_tree, struct_field_tree, inner_tree, definition_tree, use_tree};
+ghost use Rattle.wast_signatures.specs.SignatureViews.{param_tree, sig_tree, use_tree, struct_field_tree};
+ghost use Rattle.wast_core_types.specs.TypeViews.{array_tree, inner_tree, definition_tree};
 ghost use Rattle.wast_conversions.specs.Types.{number_of, word_meant, heap_meant, ref_meant, val_meant, storage_meant, field_meant, func_meant, inner_meant, sub_meant, use_meant};
 ghost use Rattle.wast_conversions.specs.Resolved.{IsNumber, IfThere, HeapResolved, RefResolved, ValResolved, StorageResolved, SigResolved, InnerResolved, TypeResolved, UseResolved};
 ghost use Rattle.wast_conversions.specs.Covered.{word_forms, heap_forms, ref_forms, val_forms, storage_forms, sig_forms, inner_forms, type_forms};
@@ -14,10 +15,9 @@ ghost use Rattle.wast_conversions.specs.Covered.{word_forms, heap_forms, ref_for
 use crate::indices::index;
 use std::alloc::{AllocError, Global};
 use wasm_encoder_base::OwnedItems;
-use wast_core_types::{
-    ArrayType, FunctionType, InnerTypeKind, Param, StructField, StructType, TypeDef, TypeUse,
-};
+use wast_core_types::{ArrayType, InnerTypeKind, StructType, TypeDef};
 use wast_parser::Index;
+use wast_signatures::{FunctionType, Param, StructField, TypeUse};
 use wast_value_types::{AbstractHeapType, FieldType, HeapType, RefType, StorageType, ValType};
 
 /// A heap type (6.4.2).

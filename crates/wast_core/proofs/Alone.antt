@@ -8,8 +8,8 @@ use Rattle.wast_parser.specs.Grammar.{Reader, map_reads, only_reads}
 use Rattle.wast_parser.specs.Problem.{Problem}
 use Rattle.wast_parser.specs.State.{State, ahead}
 use Rattle.wast_parser.specs.Reading.{Gives, Refuses}
-use Rattle.wast_fields.specs.FieldTree as spec
-use Rattle.wast_fields.specs.FieldTree.{one_start}
+use Rattle.wast_module_fields.specs.FieldTree as spec
+use Rattle.wast_module_fields.specs.FieldTree.{one_start}
 use Rattle.wast_core.specs.ModuleSyntax.{as_fields}
 use Rattle.wast_core.specs.ModuleViews.{module_tree}
 use Rattle.wast_core.specs.FieldsAlone.{as_list, IsModuleOf}

@@ -4,7 +4,7 @@ use Rattle.std.specs.Prelude.{codes}
 use Rattle.wast_grammar.specs.Tokens.{Name}
 use Rattle.wast_parser.specs.Tokens.{Open, Close, Word, Integer, Text}
 use Rattle.wast_parser.specs.Significant.{TextToken}
-use Rattle.wast_fields.specs.FieldTree.{Module}
+use Rattle.wast_module_fields.specs.FieldTree.{Module}
 use Rattle.wast_core.specs.ModuleSyntax.{wat}
 
 -- whether all of these tokens are read, and the place of the module

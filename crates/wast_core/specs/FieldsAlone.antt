@@ -3,8 +3,8 @@ use Rattle.std.specs.Prelude.{◌≡◌, ℕ, true, false, List, ◌∷◌, Resu
 use Rattle.wast_grammar.specs.Tokens.{Name}
 use Rattle.wast_parser.specs.Grammar.{Syntax, seen, seq, many}
 use Rattle.wast_parser.specs.Problem.{Problem}
-use Rattle.wast_fields.specs.FieldTree as spec
-use Rattle.wast_fields.specs.FieldTree.{one_start}
+use Rattle.wast_module_fields.specs.FieldTree as spec
+use Rattle.wast_module_fields.specs.FieldTree.{one_start}
 use Rattle.wast_core.specs.ModuleSyntax.{as_fields}
 use Rattle.wast_core.specs.ModuleViews.{module_tree}
 use Rattle.wast_core.specs.declared.module.Module.{Module}

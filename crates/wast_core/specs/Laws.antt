@@ -2,7 +2,7 @@
 use Rattle.std.specs.Prelude.{◌≡◌, ℕ, List}
 use Rattle.wast_grammar.specs.Tokens.{Name}
 use Rattle.wast_parser.specs.Significant.{TextToken}
-use Rattle.wast_fields.specs.FieldTree.{Module}
+use Rattle.wast_module_fields.specs.FieldTree.{Module}
 use Rattle.wast_core.specs.ModuleSyntax.{module_form, wat}
 
 -- What spells a module spells no other.

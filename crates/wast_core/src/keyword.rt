@@ -1,56 +1,8 @@
-//! The words of the syntax of fields.
+//! The words of the syntax of modules, and those of fields.
 ghost use Rattle.std.specs.Prelude.{◌≡◌, codes};
 
-pub use wast_fields::keyword::{Declare, Item, Local, Offset};
+pub use wast_module_fields::keyword::{Data, Declare, Elem, Item, Local, Offset, Rec, Start};
 use wast_parser::KeywordName;
-
-/// `rec`
-#[derive(Drop)]
-pub struct Rec;
-
-impl KeywordName for Rec {
-    ghost word = { codes "rec" };
-
-    fn text() -> &'static str {
-        "rec"
-    }
-}
-
-/// `start`
-#[derive(Drop)]
-pub struct Start;
-
-impl KeywordName for Start {
-    ghost word = { codes "start" };
-
-    fn text() -> &'static str {
-        "start"
-    }
-}
-
-/// `elem`
-#[derive(Drop)]
-pub struct Elem;
-
-impl KeywordName for Elem {
-    ghost word = { codes "elem" };
-
-    fn text() -> &'static str {
-        "elem"
-    }
-}
-
-/// `data`
-#[derive(Drop)]
-pub struct Data;
-
-impl KeywordName for Data {
-    ghost word = { codes "data" };
-
-    fn text() -> &'static str {
-        "data"
-    }
-}
 
 /// `binary`
 #[derive(Drop)]

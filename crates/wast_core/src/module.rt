@@ -4,16 +4,17 @@ ghost use Rattle.wast_grammar.specs.Tokens.{Name};
 ghost use Rattle.wast_parser.specs.Lawful.{Lawful};
 ghost use Rattle.wast_parser.specs.State.{ahead, Keeps};
 ghost use Rattle.wast_parser.specs.Reading.{Gives};
-ghost use Rattle.wast_fields.specs.FieldTree as spec;
-ghost use Rattle.wast_fields.specs.FieldTree.{one_start};
+ghost use Rattle.wast_module_fields.specs.FieldTree as spec;
+ghost use Rattle.wast_module_fields.specs.FieldTree.{one_start};
 ghost use Rattle.wast_core.specs.ModuleSyntax.{fields, content, module_form};
-ghost use Rattle.wast_core.specs.ModuleViews.{field_tree, content_tree, module_tree};
+ghost use Rattle.wast_module_fields.specs.ModuleFieldViews.{field_tree};
+ghost use Rattle.wast_core.specs.ModuleViews.{content_tree, module_tree};
 
-use crate::field::ModuleField;
 use crate::keyword;
 use wasm_encoder_base::Bytes;
 use wast_imports::Head;
 use wast_lexer::Span;
+use wast_module_fields::ModuleField;
 use wast_parser::{
     Error, Id, Keyword, LParen, Meaning, NameAnnotation, Parse, Parser, RParen, list_of,
 };

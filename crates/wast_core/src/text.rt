@@ -4,15 +4,16 @@ ghost use Rattle.wast_grammar.specs.Tokens.{Name};
 ghost use Rattle.wast_parser.specs.Lawful.{Lawful};
 ghost use Rattle.wast_parser.specs.State.{ahead, Keeps};
 ghost use Rattle.wast_parser.specs.Reading.{Gives};
-ghost use Rattle.wast_fields.specs.FieldTree as spec;
+ghost use Rattle.wast_module_fields.specs.FieldTree as spec;
 ghost use Rattle.wast_core.specs.ModuleSyntax.{bare_module, wat};
-ghost use Rattle.wast_core.specs.ModuleViews.{field_tree, module_tree};
+ghost use Rattle.wast_module_fields.specs.ModuleFieldViews.{field_tree};
+ghost use Rattle.wast_core.specs.ModuleViews.{module_tree};
 ghost use Rattle.wast_core.specs.FieldsAlone.{IsModuleOf, some};
 
-use crate::field::ModuleField;
 use crate::keyword;
 use crate::module::{Module, ModuleKind, second_start};
 use std::alloc::{AllocError, Global};
+use wast_module_fields::ModuleField;
 use wast_parser::{Error, Item, Meaning, Parse, Parser, list_of};
 use wast_value_types::Group;
 

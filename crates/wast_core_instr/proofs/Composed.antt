@@ -1,12 +1,12 @@
 -- What is read is seen as another value.
 use Rattle.std.proofs.Common.{◌≡◌, ℕ, List, ap, ◌∙◌, Option, Some}
-use Rattle.wast_grammar.specs.Tokens.{Name}
-use Rattle.wast_parser.specs.Tokens.{SignificantToken}
-use Rattle.wast_parser.specs.Grammar.{Syntax, seen}
-use Rattle.wast_parser.specs.Spelling.{◌>>=◌}
-use Rattle.wast_parser.specs.Reading.{Refuses}
-use Rattle.wast_parser_base.specs.Problem.{Problem}
-use Rattle.wast_parser_core.proofs.States.{refuses_all}
+use Rattle.wast_typed_operands.specs.Tokens.{Name}
+use Rattle.wast_typed_operands.specs.Tokens.{SignificantToken}
+use Rattle.wast_typed_operands.specs.Grammar.{Syntax, seen}
+use Rattle.wast_typed_operands.specs.Spelling.{◌>>=◌}
+use Rattle.wast_typed_operands.specs.Reading.{Refuses}
+use Rattle.wast_typed_operands.specs.Problem.{Problem}
+use Rattle.wast_typed_operands.proofs.States.{refuses_all}
 
 module _ {A B : Type 0} (f : A → B) (g : Syntax Name ℕ A) (ts : List (SignificantToken Name ℕ)) where
   abbrev again : Option (A × List (SignificantToken Name ℕ)) → Option (B × List (SignificantToken Name ℕ))

@@ -4,9 +4,9 @@ use Rattle.std.proofs.Common.{◌≡◌, ℕ, List, [], ◌∷◌, false, true, 
 use Rattle.wasm_encoder_base.specs.Table.{table, entries_of}
 use Rattle.wasm_encoder_base.specs.Leb.{uleb, leb, digits}
 use Rattle.wasm_encoder_base.specs.Uncovered.{uncovered}
-use Rattle.wast_parser.specs.Tokens.{Word}
-use Rattle.wast_parser.specs.Spelling.{◌>>=◌, find_by}
-use Rattle.wast_parser.specs.Look.{OneOf, holds, apart, any_end, join}
+use Rattle.wast_typed_operands.specs.Tokens.{Word}
+use Rattle.wast_typed_operands.specs.Spelling.{◌>>=◌, find_by}
+use Rattle.wast_typed_operands.specs.Look.{OneOf, holds, apart, any_end, join}
 use Rattle.wast_mnemonics.specs.TextTable.{TextEntry, text_table}
 use Rattle.wast_mnemonics.specs.Laws.{EveryWord}
 use Rattle.wast_mnemonics.specs.Heads.{chosen}

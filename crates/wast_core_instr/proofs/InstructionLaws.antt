@@ -3,15 +3,15 @@ use Rattle.std.proofs.Common.{◌≡◌, refl, sym, ap, subst, ◌∙◌, List, 
 use Rattle.std.proofs.lemmas.Bool.{cases_Bool}
 use Rattle.wasm_encoder_base.specs.OperandSyntax.{OperandSyntax}
 use Rattle.wasm_encoder_base.specs.OperandSyntax as rows
-use Rattle.wast_parser.specs.Tokens.{SignificantToken}
-use Rattle.wast_parser.specs.Look.{Test, look, at, join}
-use Rattle.wast_grammar.proofs.Looks.{bind_ok, some_one, absurd_of, in_join, within, sub_law}
-use Rattle.wast_parser.specs.Lawful.{LawfulBut, Settles}
-use Rattle.wast_parser.specs.Grammar.{Syntax, wide, nothing, next}
-use Rattle.wast_parser.specs.Identifiers.{identifier, index}
-use Rattle.wast_parser.proofs.GrammarLaws.{Lawful, among_laws, nothing_laws, seen_laws, next_laws, next_own, maybe_laws, bound_laws, seen_settles}
-use Rattle.wast_parser.proofs.IdentifierLaws.{identifier_laws, index_laws}
-use Rattle.wast_value_types.proofs.ValueLaws.{heap_type_laws, ref_type_laws}
+use Rattle.wast_typed_operands.specs.Tokens.{SignificantToken}
+use Rattle.wast_typed_operands.specs.Look.{Test, look, at, join}
+use Rattle.wast_typed_operands.proofs.Looks.{bind_ok, some_one, absurd_of, in_join, within, sub_law}
+use Rattle.wast_typed_operands.specs.Lawful.{LawfulBut, Settles}
+use Rattle.wast_typed_operands.specs.Grammar.{Syntax, wide, nothing, next}
+use Rattle.wast_typed_operands.specs.Identifiers.{identifier, index}
+use Rattle.wast_typed_operands.proofs.GrammarLaws.{Lawful, among_laws, nothing_laws, seen_laws, next_laws, next_own, maybe_laws, bound_laws, seen_settles}
+use Rattle.wast_typed_operands.proofs.IdentifierLaws.{identifier_laws, index_laws}
+use Rattle.wast_typed_operands.proofs.ValueLaws.{heap_type_laws, ref_type_laws}
 use Rattle.wast_operands.specs.OperandSyntax.{id_starts, two_indices, optional_index}
 use Rattle.wast_vector_operands.proofs.VectorLaws.{signed_literal_laws, float_literal_laws, lane_laws, shuffle_laws, vector_laws}
 use Rattle.wast_operands.proofs.OperandLaws.{two_indices_laws, index_count_laws, label_table_laws, optional_index_laws, optional_indices_laws, one_or_two_laws, optional_ordering_laws, ordered_laws as behind_laws, mem_arg_laws, mem_arg_lane_laws, resume_laws, resume_throw_laws}

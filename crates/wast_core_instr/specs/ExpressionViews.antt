@@ -1,6 +1,6 @@
 -- What the grammar sees of expressions.
 use Rattle.std.specs.Prelude.{ℕ, List, map}
-use Rattle.wast_grammar.specs.Tokens.{Name}
+use Rattle.wast_typed_operands.specs.Tokens.{Name}
 use Rattle.wast_expressions.specs.Items as items
 use Rattle.wast_expressions.specs.Partial.{hint_tree}
 use Rattle.wast_core_instr.specs.InstructionTree as spec

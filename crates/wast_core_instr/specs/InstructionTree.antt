@@ -1,7 +1,7 @@
 -- Instructions as they are written: abstract syntax trees (WebAssembly 3.0, 6.5), over names of type N and places of type P.
 use Rattle.std.specs.Prelude.{ℕ, ℤ, Bool, true, false, List, Option, Some, None}
-use Rattle.wast_parser.specs.Identifiers.{Named, Reference}
-use Rattle.wast_value_types.specs.ValueTree.{HeapType, RefType, ValType}
+use Rattle.wast_typed_operands.specs.Identifiers.{Named, Reference}
+use Rattle.wast_typed_operands.specs.ValueTree.{HeapType, RefType, ValType}
 use Rattle.wast_vector_operands.specs.VectorTree.{Vector}
 use Rattle.wast_operands.specs.OperandTree.{Ordering, MemArg, Handle}
 use Rattle.wast_typed_operands.specs.TypedTree as typed

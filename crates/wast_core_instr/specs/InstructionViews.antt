@@ -1,8 +1,8 @@
 -- What the grammar sees of instructions: their operands, and which they are.
 use Rattle.std.specs.Prelude.{ℕ, List, map, option_map}
-use Rattle.wast_grammar.specs.Tokens.{Name}
-use Rattle.wast_parser.specs.Identifiers.{identifier_tree, index_tree}
-use Rattle.wast_value_types.specs.ValueViews.{heap_tree, ref_tree}
+use Rattle.wast_typed_operands.specs.Tokens.{Name}
+use Rattle.wast_typed_operands.specs.Identifiers.{identifier_tree, index_tree}
+use Rattle.wast_typed_operands.specs.ValueViews.{heap_tree, ref_tree}
 use Rattle.wast_vector_operands.specs.VectorViews.{float_tree, vector_tree}
 use Rattle.wast_operands.specs.OperandViews.{handlers_tree, mem_arg_tree, memory_arg_tree, memory_copy_tree, ordering_tree, table_arg_tree, table_copy_tree}
 use Rattle.wast_typed_operands.specs.TypedViews.{block_tree, cast_tree, indirect_tree, select_types_tree, try_table_tree}

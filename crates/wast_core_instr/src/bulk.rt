@@ -1,6 +1,6 @@
 //! Bulk instructions.
 use wast_operands::{MemoryArg, MemoryCopy, MemoryInit, TableArg, TableCopy, TableInit};
-use wast_parser::Index;
+use wast_typed_operands::Index;
 
 /// Bulk instructions on memories and tables (6.5.5, 6.5.6).
 #[derive(Drop)]

@@ -1,6 +1,6 @@
 //! Instructions by their words.
 ghost use Rattle.std.specs.Prelude.{◌≡◌, option_map, IfOk};
-ghost use Rattle.wast_parser.specs.Identifiers.{identifier_tree, index_tree};
+ghost use Rattle.wast_typed_operands.specs.Identifiers.{identifier_tree, index_tree};
 ghost use Rattle.wast_operands.specs.OperandViews.{mem_arg_tree, ordering_tree, table_arg_tree};
 ghost use Rattle.wast_typed_operands.specs.TypedViews.{block_tree, indirect_tree};
 ghost use Rattle.wast_mnemonics.specs.declared.word.Word.TheVariants as words;
@@ -26,8 +26,7 @@ use wast_operands::{
     ArrayCopy, ArrayFill, ArrayInit, ArrayNewData, ArrayNewElem, ContBind, LaneArg,
     LoadOrStoreLane, MemArg, MemoryArg, Ordered, StructAccess, Switch, TableArg,
 };
-use wast_parser::{Id, Index};
-use wast_typed_operands::{BlockType, CallIndirect};
+use wast_typed_operands::{BlockType, CallIndirect, Id, Index};
 
 /// The instruction of a word with nothing after it.
 pub(crate) fn plain<'a>(word: PlainWord) -> Instruction<'a>

@@ -1,10 +1,10 @@
 //! Expressions of instructions.
 ghost use Rattle.std.specs.Prelude.{◌≡◌, ℕ, ◌+◌, ◌≤◌, List, [], ◌∷◌, None, IfOk, length};
-ghost use Rattle.wast_grammar.specs.Tokens.{Name};
-ghost use Rattle.wast_parser.specs.Grammar.{seen};
-ghost use Rattle.wast_parser.specs.Lawful.{Lawful};
-ghost use Rattle.wast_parser.specs.State.{ahead, Keeps};
-ghost use Rattle.wast_parser.specs.Reading.{Gives};
+ghost use Rattle.wast_typed_operands.specs.Tokens.{Name};
+ghost use Rattle.wast_typed_operands.specs.Grammar.{seen};
+ghost use Rattle.wast_typed_operands.specs.Lawful.{Lawful};
+ghost use Rattle.wast_typed_operands.specs.State.{ahead, Keeps};
+ghost use Rattle.wast_typed_operands.specs.Reading.{Gives};
 ghost use Rattle.wast_expressions.specs.Items as items;
 ghost use Rattle.wast_expressions.specs.Items.{expression_of};
 ghost use Rattle.wast_expressions.specs.Expressions.{data_offset, expression, folded_instruction, plain, without_hints};
@@ -19,7 +19,7 @@ use crate::instruction::Instruction;
 use std::alloc::{AllocError, Global};
 use std::sync::ledger::Ledger;
 use wast_expressions::{BranchHint, Instructions, Operation, Steps};
-use wast_parser::{Error, Meaning, Parse, Parser, Span};
+use wast_typed_operands::{Error, Meaning, Parse, Parser, Span};
 
 /// Instructions in the order in which they are carried out, and hints, whose indices rise where they are read (6.5.10). Folded and
 /// flat forms of an expression are one value.
@@ -61,13 +61,14 @@ impl<'a> Expression<'a> {
         ensures tree { IfOk result (λ e. expression_tree e ≡ expression_of ((None, instruction_tree instr.entry) ∷ [])) }
         ensures spans { IfOk result (λ e. e.instr_spans ≡ None) }
     {
-        let mut instrs = Vec::new(alloc);
-        instrs.push(instr)?;
-        Ok(Expression {
-            instrs,
-            branch_hints: Vec::new(alloc),
-            instr_spans: None,
-        })
+        match list_of_one(alloc, instr) {
+            Ok(instrs) => Ok(Expression {
+                instrs,
+                branch_hints: Vec::new(alloc),
+                instr_spans: None,
+            }),
+            Err(e) => Err(e),
+        }
     }
 
     /// Reads an expression as `parse` does, and counts the turns of the loop, that which is refused too; for want of memory the
@@ -127,6 +128,15 @@ impl<'a> Expression<'a> {
             Err(e) => Err(e),
         }
     }
+}
+
+/// A list of one item. Fails only for want of memory.
+fn list_of_one<T: Drop>(alloc: Global, item: T) -> Result<Vec<T>, AllocError>
+    ensures { IfOk result (λ list. list.items ≡ item ∷ []) }
+{
+    let mut list = Vec::new(alloc);
+    list.push(item)?;
+    Ok(list)
 }
 
 impl<'a> From<Instructions<Instruction<'a>>> for Expression<'a> {

@@ -2,9 +2,7 @@
 use wast_operands::{
     ArrayCopy, ArrayFill, ArrayInit, ArrayNewData, ArrayNewElem, ArrayNewFixed, StructAccess,
 };
-use wast_parser::Index;
-use wast_typed_operands::{BrOnCast, BrOnCastFail, RefCast, RefTest};
-use wast_value_types::HeapType;
+use wast_typed_operands::{BrOnCast, BrOnCastFail, HeapType, Index, RefCast, RefTest};
 
 /// Instructions on references, structures and arrays (6.5.3, 6.5.7).
 #[derive(Drop)]

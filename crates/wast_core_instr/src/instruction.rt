@@ -8,8 +8,7 @@ use wasm_encoder_opcodes::{
     VectorNarrowOp, VectorOp, VectorWideOp,
 };
 use wast_operands::{BrTableIndices, FloatLit, MemArg, MemoryArg, Ordering, TableArg};
-use wast_parser::{Id, Index};
-use wast_typed_operands::{BlockType, CallIndirect, SelectTypes, TryTable};
+use wast_typed_operands::{BlockType, CallIndirect, Id, Index, SelectTypes, TryTable};
 
 /// An instruction with its operands (6.5). Those of one family stand behind a variant of their own, as they do in the encoder:
 /// what they are called there and have no operands, they are. What is large and seldom stands in a box, so that all others take less

@@ -1,11 +1,11 @@
 //! Instructions in the items of expressions.
 ghost use Rattle.std.specs.Prelude.{◌≡◌, ℕ, List, IfOk};
-ghost use Rattle.wast_grammar.specs.Tokens.{Name};
-ghost use Rattle.wast_parser.specs.Look.{ask};
-ghost use Rattle.wast_parser.specs.Lawful.{LawfulBut};
-ghost use Rattle.wast_parser.specs.State.{ahead, Keeps};
-ghost use Rattle.wast_parser.specs.Reading.{Asks, Gives};
-ghost use Rattle.wast_parser.specs.Cursors.{stands};
+ghost use Rattle.wast_typed_operands.specs.Tokens.{Name};
+ghost use Rattle.wast_typed_operands.specs.Look.{ask};
+ghost use Rattle.wast_typed_operands.specs.Lawful.{LawfulBut};
+ghost use Rattle.wast_typed_operands.specs.State.{ahead, Keeps};
+ghost use Rattle.wast_typed_operands.specs.Reading.{Asks, Gives};
+ghost use Rattle.wast_typed_operands.specs.Cursors.{stands};
 ghost use Rattle.wast_expressions.specs.Expressions.{OfOperands, ins_tests, one_ins};
 ghost use Rattle.wast_expressions.specs.Heeds.{Heeds, Spelled};
 ghost use Rattle.wast_expressions.specs.Views.{kind_of, made_as};
@@ -17,7 +17,7 @@ ghost use Rattle.wast_core_instr.specs.InstructionGroups.{group, instruction_hea
 use crate::instruction::Instruction;
 use wast_expressions::{GroupKind, MadeKind, Operation, Origin, ParseOperation};
 use wast_mnemonics::{Word, laws};
-use wast_parser::{Cursor, Error, Parse, Parser, Span};
+use wast_typed_operands::{Cursor, Error, Parse, Parser, Span};
 
 impl<'a> Operation for Instruction<'a> {
     ghost Tree = { spec.Instruction Name ℕ };
@@ -52,15 +52,17 @@ impl<'a> Operation for Instruction<'a> {
 }
 
 impl<'a> ParseOperation<'a> for Instruction<'a> {
+    #[inline(always)]
     fn obtain(parser: &mut Parser<'a>, origin: Origin) -> Result<(Self, GroupKind), Error> {
         match origin {
             Origin::Written => written(parser),
-            Origin::Made(kind, span) => Ok((made(kind, span), GroupKind::Operands)),
+            Origin::Made(kind, span) => Ok(made_alone(kind, span)),
         }
     }
 }
 
 /// Reads an instruction, and tells which group it heads.
+#[inline(always)]
 fn written<'a>(parser: &mut Parser<'a>) -> Result<(Instruction<'a>, GroupKind), Error>
     ensures read { Gives (λ x. instruction_tree x.0) result parser.new (instruction.reads (ahead parser.old)) }
     ensures kind { IfOk result (λ x. kind_of x.1 ≡ group (instruction_tree x.0)) }
@@ -69,6 +71,14 @@ fn written<'a>(parser: &mut Parser<'a>) -> Result<(Instruction<'a>, GroupKind), 
     let instr = Instruction::parse(parser)?;
     let kind = group_kind(&instr);
     Ok((instr, kind))
+}
+
+/// What a group makes, which heads no group of its own.
+fn made_alone<'a>(kind: MadeKind, span: Span) -> (Instruction<'a>, GroupKind)
+    ensures same { instruction_tree result.0 ≡ made_as instruction_made kind span }
+    ensures kind { kind_of result.1 ≡ group (instruction_tree result.0) }
+{
+    (made(kind, span), GroupKind::Operands)
 }
 
 /// What a group makes: it has no label, and heads no group of its own.

@@ -1,9 +1,9 @@
 //! Instructions, each by its word.
 ghost use Rattle.std.specs.Prelude.{◌≡◌, ℕ, List, IfOk};
-ghost use Rattle.wast_grammar.specs.Tokens.{Name};
-ghost use Rattle.wast_parser.specs.Lawful.{Lawful};
-ghost use Rattle.wast_parser.specs.State.{ahead, Keeps};
-ghost use Rattle.wast_parser.specs.Reading.{Gives};
+ghost use Rattle.wast_typed_operands.specs.Tokens.{Name};
+ghost use Rattle.wast_typed_operands.specs.Lawful.{Lawful};
+ghost use Rattle.wast_typed_operands.specs.State.{ahead, Keeps};
+ghost use Rattle.wast_typed_operands.specs.Reading.{Gives};
 ghost use Rattle.wast_mnemonics.specs.Words.{word_operands, proposal_operands};
 ghost use Rattle.wast_mnemonics.specs.declared.word.Word.TheVariants as words;
 ghost use Rattle.wast_mnemonics.specs.declared.proposal.ProposalWord.TheVariants as proposal_words;
@@ -24,11 +24,11 @@ use crate::instruction::Instruction;
 use crate::proposal::ProposalOp;
 use crate::vector_arg::VectorArgOp;
 use wast_mnemonics::{
-    CastProposal, CastWord, CopyWord, IndicesProposal, IndicesWord, InitWord, MemoryLaneWord,
-    MemoryWord, ProposalWord, RefWord, ResumeProposal, Word,
+    BlockWord, CastProposal, CastWord, CopyWord, IndexWord, IndicesProposal, IndicesWord, InitWord,
+    MemoryLaneWord, MemoryWord, NameWord, ProposalWord, RefWord, ResumeProposal, Word,
 };
 use wast_operands::{LoadOrStoreLane, MemArg};
-use wast_parser::{Error, Index, Meaning, Parse, Parser};
+use wast_typed_operands::{Error, Index, Meaning, Parse, Parser};
 
 impl<'a> Meaning for Instruction<'a> {
     ghost Tree = { spec.Instruction Name ℕ };
@@ -45,12 +45,12 @@ impl<'a> Meaning for Instruction<'a> {
 impl<'a> Parse<'a> for Instruction<'a> {
     fn parse(parser: &mut Parser<'a>) -> Result<Self, Error> {
         let (word, _) = parser.among("expected an instruction")?;
-        let instruction = parse_operands(parser, word)?;
-        Ok(instruction)
+        parse_operands(parser, word)
     }
 }
 
-/// Reads the instruction of a word, with the operands of its row.
+/// Reads the instruction of a word, with the operands of its row. What is met often has a function of its own: one that held what all
+/// of them need would set it to zero for each instruction.
 fn parse_operands<'a>(parser: &mut Parser<'a>, word: Word) -> Result<Instruction<'a>, Error>
     ensures read { Gives instruction_operands result parser.new ((operands (word_operands word)).reads (ahead parser.old)) }
     ensures same { IfOk result (λ i. instruction_word i ≡ word) }
@@ -58,10 +58,29 @@ fn parse_operands<'a>(parser: &mut Parser<'a>, word: Word) -> Result<Instruction
 {
     match word {
         Word::Plain(word) => Ok(plain(word)),
-        Word::Name(word) => Ok(with_label(word, Option::parse(parser)?)),
-        Word::Block(word) => Ok(with_block(word, Box::parse(parser)?)),
+        Word::Name(word) => parse_label(parser, word),
+        Word::Block(word) => parse_block(parser, word),
+        Word::Index(word) => parse_index(parser, word),
+        Word::I32Const => parse_i32_const(parser),
+        Word::I64Const => parse_i64_const(parser),
+        Word::Memory(word) => parse_memory(parser, word),
+        word => parse_seldom(parser, word),
+    }
+}
+
+/// The same of every word, for those that are met seldom: what their operands need is set to zero here alone.
+#[inline(never)]
+fn parse_seldom<'a>(parser: &mut Parser<'a>, word: Word) -> Result<Instruction<'a>, Error>
+    ensures read { Gives instruction_operands result parser.new ((operands (word_operands word)).reads (ahead parser.old)) }
+    ensures same { IfOk result (λ i. instruction_word i ≡ word) }
+    ensures keeps { Keeps parser.old parser.new }
+{
+    match word {
+        Word::Plain(word) => Ok(plain(word)),
+        Word::Name(word) => parse_label(parser, word),
+        Word::Block(word) => parse_block(parser, word),
         Word::TryTable => Ok(Instruction::TryTable(Parse::parse(parser)?)),
-        Word::Index(word) => Ok(with_index(word, Index::parse(parser)?)),
+        Word::Index(word) => parse_index(parser, word),
         Word::Indices(word) => parse_indices(parser, word),
         Word::ArrayNewFixed => Ok(Instruction::Gc(GcOp::ArrayNewFixed(Box::parse(parser)?))),
         Word::BrTable => Ok(Instruction::BrTable(Box::parse(parser)?)),
@@ -72,8 +91,8 @@ fn parse_operands<'a>(parser: &mut Parser<'a>, word: Word) -> Result<Instruction
         Word::RefNull => Ok(Instruction::Gc(GcOp::RefNull(Box::parse(parser)?))),
         Word::Ref(word) => parse_ref(parser, word),
         Word::Cast(word) => parse_cast(parser, word),
-        Word::I32Const => Ok(Instruction::I32Const(i32::parse(parser)?)),
-        Word::I64Const => Ok(Instruction::I64Const(i64::parse(parser)?)),
+        Word::I32Const => parse_i32_const(parser),
+        Word::I64Const => parse_i64_const(parser),
         Word::F32Const => Ok(Instruction::F32Const(Parse::parse(parser)?)),
         Word::F64Const => Ok(Instruction::F64Const(Parse::parse(parser)?)),
         Word::V128Const => Ok(Instruction::VectorArg(VectorArgOp::V128Const(Box::parse(parser)?))),
@@ -85,11 +104,75 @@ fn parse_operands<'a>(parser: &mut Parser<'a>, word: Word) -> Result<Instruction
         Word::Memory(word) => parse_memory(parser, word),
         Word::MemoryLane(word) => parse_memory_lane(parser, word),
         Word::AtomicFence => Ok(Instruction::AtomicFence(Option::parse(parser)?)),
-        Word::Proposal(word) => {
-            let op = parse_proposal(parser, word)?;
-            Ok(Instruction::Proposal(Box::new(parser.alloc(), op)?))
-        }
+        Word::Proposal(word) => parse_boxed_proposal(parser, word),
     }
+}
+
+#[inline(never)]
+fn parse_label<'a>(parser: &mut Parser<'a>, word: NameWord) -> Result<Instruction<'a>, Error>
+    ensures read { Gives instruction_operands result parser.new ((operands (word_operands (words.Name word))).reads (ahead parser.old)) }
+    ensures same { IfOk result (λ i. instruction_word i ≡ words.Name word) }
+    ensures keeps { Keeps parser.old parser.new }
+{
+    Ok(with_label(word, Option::parse(parser)?))
+}
+
+#[inline(never)]
+fn parse_block<'a>(parser: &mut Parser<'a>, word: BlockWord) -> Result<Instruction<'a>, Error>
+    ensures read { Gives instruction_operands result parser.new ((operands (word_operands (words.Block word))).reads (ahead parser.old)) }
+    ensures same { IfOk result (λ i. instruction_word i ≡ words.Block word) }
+    ensures keeps { Keeps parser.old parser.new }
+{
+    match Box::parse(parser) {
+        Ok(block_type) => Ok(with_block(word, block_type)),
+        Err(e) => Err(e),
+    }
+}
+
+#[inline(never)]
+fn parse_index<'a>(parser: &mut Parser<'a>, word: IndexWord) -> Result<Instruction<'a>, Error>
+    ensures read { Gives instruction_operands result parser.new ((operands (word_operands (words.Index word))).reads (ahead parser.old)) }
+    ensures same { IfOk result (λ i. instruction_word i ≡ words.Index word) }
+    ensures keeps { Keeps parser.old parser.new }
+{
+    match Index::parse(parser) {
+        Ok(index) => Ok(with_index(word, index)),
+        Err(e) => Err(e),
+    }
+}
+
+#[inline(never)]
+fn parse_i32_const<'a>(parser: &mut Parser<'a>) -> Result<Instruction<'a>, Error>
+    ensures read { Gives instruction_operands result parser.new ((operands (word_operands words.I32Const)).reads (ahead parser.old)) }
+    ensures same { IfOk result (λ i. instruction_word i ≡ words.I32Const) }
+    ensures keeps { Keeps parser.old parser.new }
+{
+    match i32::parse(parser) {
+        Ok(value) => Ok(Instruction::I32Const(value)),
+        Err(e) => Err(e),
+    }
+}
+
+#[inline(never)]
+fn parse_i64_const<'a>(parser: &mut Parser<'a>) -> Result<Instruction<'a>, Error>
+    ensures read { Gives instruction_operands result parser.new ((operands (word_operands words.I64Const)).reads (ahead parser.old)) }
+    ensures same { IfOk result (λ i. instruction_word i ≡ words.I64Const) }
+    ensures keeps { Keeps parser.old parser.new }
+{
+    match i64::parse(parser) {
+        Ok(value) => Ok(Instruction::I64Const(value)),
+        Err(e) => Err(e),
+    }
+}
+
+#[inline(never)]
+fn parse_memory<'a>(parser: &mut Parser<'a>, word: MemoryWord) -> Result<Instruction<'a>, Error>
+    ensures read { Gives instruction_operands result parser.new ((operands (word_operands (words.Memory word))).reads (ahead parser.old)) }
+    ensures same { IfOk result (λ i. instruction_word i ≡ words.Memory word) }
+    ensures keeps { Keeps parser.old parser.new }
+{
+    let memarg = MemArg::parse(parser, u64::from(word.natural_alignment()))?;
+    Ok(with_memarg(word, memarg))
 }
 
 fn parse_indices<'a>(parser: &mut Parser<'a>, word: IndicesWord) -> Result<Instruction<'a>, Error>
@@ -146,15 +229,6 @@ fn parse_cast<'a>(parser: &mut Parser<'a>, word: CastWord) -> Result<Instruction
     }
 }
 
-fn parse_memory<'a>(parser: &mut Parser<'a>, word: MemoryWord) -> Result<Instruction<'a>, Error>
-    ensures read { Gives instruction_operands result parser.new ((operands (word_operands (words.Memory word))).reads (ahead parser.old)) }
-    ensures same { IfOk result (λ i. instruction_word i ≡ words.Memory word) }
-    ensures keeps { Keeps parser.old parser.new }
-{
-    let memarg = MemArg::parse(parser, u64::from(word.natural_alignment()))?;
-    Ok(with_memarg(word, memarg))
-}
-
 fn parse_memory_lane<'a>(
     parser: &mut Parser<'a>,
     word: MemoryLaneWord,
@@ -167,6 +241,18 @@ fn parse_memory_lane<'a>(
         Ok(operands) => Ok(with_memarg_lane(word, operands)),
         Err(e) => Err(e),
     }
+}
+
+fn parse_boxed_proposal<'a>(
+    parser: &mut Parser<'a>,
+    word: ProposalWord,
+) -> Result<Instruction<'a>, Error>
+    ensures read { Gives instruction_operands result parser.new ((operands (word_operands (words.Proposal word))).reads (ahead parser.old)) }
+    ensures same { IfOk result (λ i. instruction_word i ≡ words.Proposal word) }
+    ensures keeps { Keeps parser.old parser.new }
+{
+    let op = parse_proposal(parser, word)?;
+    Ok(Instruction::Proposal(Box::new(parser.alloc(), op)?))
 }
 
 fn parse_proposal<'a>(parser: &mut Parser<'a>, word: ProposalWord) -> Result<ProposalOp<'a>, Error>

@@ -3,8 +3,7 @@ use wast_operands::{
     ContBind, MemoryArg, Ordered, Resume, ResumeThrow, ResumeThrowRef, StructAccess, Switch,
     TableArg,
 };
-use wast_parser::Index;
-use wast_typed_operands::{BrOnCastDescEq, BrOnCastDescEqFail, RefCastDescEq};
+use wast_typed_operands::{BrOnCastDescEq, BrOnCastDescEqFail, Index, RefCastDescEq};
 
 /// Instructions of proposals, which are refused as uncovered.
 #[derive(Drop)]

@@ -3,9 +3,9 @@ use crate::values::print_heap;
 use std::alloc::Global;
 use std::io;
 use wast_core_instr::{Expression, GcOp, Instruction};
-use wast_core_types::HeapType;
 use wast_parser::{Error, Index, Parse, ParseBuffer, Parser};
 use wast_typed_operands::{BlockType, CallIndirect};
+use wast_value_types::HeapType;
 
 /// Prints what the items of a text unfold to, with the hints; or that they are refused.
 pub fn unfold(rt: HostRuntime, text: &str, folded: bool) -> io::Result<()> {

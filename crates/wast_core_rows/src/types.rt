@@ -5,11 +5,13 @@ use crate::values::{
 };
 use std::io;
 use wast_core_types::{
-    ArrayType, CompositeType, FieldType, FunctionType, FunctionTypeNoNames, GlobalType, HeapType,
-    InnerTypeKind, MemoryType, Param, Rec, RefType, StorageType, StructType, TableType, TypeDef,
-    TypeItem, TypeUse, ValType,
+    ArrayType, CompositeType, InnerTypeKind, Rec, StructType, TypeDef, TypeItem,
 };
 use wast_parser::{Error, Id, Index, NameAnnotation, Parse, ParseBuffer, Parser};
+use wast_signatures::{FunctionType, FunctionTypeNoNames, Param, TypeUse};
+use wast_value_types::{
+    FieldType, GlobalType, HeapType, MemoryType, RefType, StorageType, TableType, ValType,
+};
 
 /// Prints what a text is, read as one of a production, whose name stands before it.
 pub fn read(rt: HostRuntime, words: &str) -> io::Result<()> {

@@ -1,10 +1,10 @@
 //! Types of values, heaps, tables, memories and globals, as they are printed.
 use std::io;
-use wast_core_types::{
+use wast_parser::Index;
+use wast_value_types::{
     AbstractHeapType, GlobalType, HeapType, Limits, MemoryType, RefType, StorageType, TableType,
     ValType,
 };
-use wast_parser::Index;
 
 pub fn print_index(rt: HostRuntime, index: &Index) -> io::Result<()> {
     match index {

@@ -7,8 +7,8 @@ use Rattle.wast_parser.specs.Look.{ask}
 use Rattle.wast_parser.specs.Grammar.{one_of, word}
 use Rattle.wast_grammar.proofs.Looks.{bind_ok, some_one}
 use Rattle.wast_parser.proofs.GrammarLaws.{one_open, shrinks, word_laws}
-use Rattle.wast_core_types.specs.TypeTree.{CompType, InnerType}
-use Rattle.wast_core_types.specs.TypeSyntax.{shared_starts, comp_starts, comp_step, comp_type, inner_type, as_shared, unshared}
+use Rattle.wast_signatures.specs.TypeTree.{CompType, InnerType}
+use Rattle.wast_signatures.specs.TypeSyntax.{shared_starts, comp_starts, comp_step, comp_type, inner_type, as_shared, unshared}
 use Rattle.wast_core_types.specs.Depths.{closed, within, opened}
 use Rattle.wast_core_types.proofs.TypeLaws.{comp_steps}
 use Rattle.wast_core_types.proofs.Turns.{fix_turn}

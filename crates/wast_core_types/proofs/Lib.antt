@@ -1,8 +1,10 @@
 pub use Rattle.wast_value_types.proofs.ValueLaws
+pub use Rattle.wast_signatures.proofs.Lists
+pub use Rattle.wast_signatures.proofs.Readings
+pub use Rattle.wast_signatures.proofs.SignatureLaws
+pub use Rattle.wast_signatures.proofs.SignatureSamples
+pub use Rattle.wast_signatures.proofs.Uses
 pub mod Depths
-pub mod Lists
-pub mod Readings
 pub mod Samples
 pub mod Turns
 pub mod TypeLaws
-pub mod Uses

@@ -4,8 +4,8 @@ use Rattle.wast_grammar.specs.Tokens.{Name}
 use Rattle.wast_parser.specs.Spelling.{◌>>=◌, that_open, that_close}
 use Rattle.wast_parser.specs.Significant.{TextToken}
 use Rattle.wast_parser.specs.Grammar.{Reader, one_of, word}
-use Rattle.wast_core_types.specs.TypeTree.{CompType}
-use Rattle.wast_core_types.specs.TypeSyntax.{as_shared, comp_type}
+use Rattle.wast_signatures.specs.TypeTree.{CompType}
+use Rattle.wast_signatures.specs.TypeSyntax.{as_shared, comp_type}
 
 -- so many parentheses close behind it; what stands in one group at least is shared
 abbrev pub closed : ℕ → CompType Name ℕ × List TextToken → Option (CompType Name ℕ × List TextToken)

@@ -1,20 +1,14 @@
--- What the grammar sees of the code's types.
-use Rattle.std.specs.Prelude.{ℕ, List, Option, map, option_map}
-use Rattle.std.specs.Cow.{cow_str_bytes}
+-- What the grammar sees of the code's composite types and definitions.
+use Rattle.std.specs.Prelude.{ℕ, map, option_map}
 use Rattle.wast_grammar.specs.Tokens.{Name}
-use Rattle.wast_parser_base.specs.Identifier.{Identifier}
-use Rattle.wast_parser_base.specs.declared.index.NameAnnotation.{NameAnnotation}
 use Rattle.wast_parser.specs.Identifiers.{identifier_tree, index_tree}
 use Rattle.wast_value_types.specs.ValueTree as values
-use Rattle.wast_value_types.specs.ValueViews.{val_tree, storage_tree}
-use Rattle.wast_value_types.specs.declared.val_type.ValType.{ValType}
-use Rattle.wast_core_types.specs.TypeTree.{Local, Sig, CompType}
-use Rattle.wast_core_types.specs.TypeTree as spec
-use Rattle.wast_core_types.specs.TypeTree.{InnerType, FuncType, StructType, ContType}
-use Rattle.wast_core_types.specs.declared.signature.FunctionType.{FunctionType}
-use Rattle.wast_core_types.specs.declared.type_use.TypeUse.{TypeUse}
+use Rattle.wast_value_types.specs.ValueViews.{storage_tree}
+use Rattle.wast_signatures.specs.TypeTree.{CompType}
+use Rattle.wast_signatures.specs.TypeTree as spec
+use Rattle.wast_signatures.specs.TypeTree.{InnerType, FuncType, StructType, ContType}
+use Rattle.wast_signatures.specs.SignatureViews.{name_tree, sig_tree, struct_field_tree}
 use Rattle.wast_core_types.specs.declared.composite.ArrayType.{ArrayType}
-use Rattle.wast_core_types.specs.declared.composite.StructField.{StructField}
 use Rattle.wast_core_types.specs.declared.composite.InnerTypeKind.{InnerTypeKind}
 use Rattle.wast_core_types.specs.declared.composite.InnerTypeKind.TheVariants as kinds
 use Rattle.wast_core_types.specs.declared.composite.CompositeType.{CompositeType}
@@ -22,25 +16,9 @@ use Rattle.wast_core_types.specs.declared.definition.TypeDef.{TypeDef}
 use Rattle.wast_core_types.specs.declared.definition.TypeItem.{TypeItem}
 use Rattle.wast_core_types.specs.declared.definition.Rec.{Rec}
 
-abbrev pub name_tree : NameAnnotation → List ℕ
-name_tree a = cow_str_bytes a.name
-
--- SIGNATURES
-abbrev pub param_tree : Option Identifier × Option NameAnnotation × ValType → Local Name ℕ
-param_tree p = record { id = option_map identifier_tree p.0; given = option_map name_tree p.1; val_type = val_tree p.2 }
-
-abbrev pub sig_tree : FunctionType → Sig Name ℕ
-sig_tree t = record { params = map param_tree t.params.items; results = map val_tree t.results.items }
-
-abbrev pub use_tree : TypeUse FunctionType → spec.TypeUse Name ℕ
-use_tree u = record { index = option_map index_tree u.index; inline = option_map sig_tree u.inline }
-
 -- COMPOSITE TYPES
 abbrev pub array_tree : ArrayType → values.FieldType Name ℕ
 array_tree t = record { mutable = t.mutable; storage = storage_tree t.ty }
-
-abbrev pub struct_field_tree : StructField → spec.StructField Name ℕ
-struct_field_tree f = record { id = option_map identifier_tree f.id; field_type = record { mutable = f.mutable; storage = storage_tree f.ty } }
 
 abbrev pub inner_tree : InnerTypeKind → InnerType Name ℕ
 inner_tree (kinds.Func t) = FuncType (sig_tree t)

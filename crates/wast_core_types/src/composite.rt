@@ -7,106 +7,23 @@ ghost use Rattle.wast_parser.specs.Significant.{TextToken};
 ghost use Rattle.wast_parser.specs.State.{ahead, Keeps};
 ghost use Rattle.wast_parser.specs.Reading.{Asks, Gives, Refuses};
 ghost use Rattle.wast_parser.specs.Cursors.{stands};
-ghost use Rattle.wast_parser.specs.Identifiers.{Reference, identifier_tree, index, index_tree};
+ghost use Rattle.wast_parser.specs.Identifiers.{Reference, index, index_tree};
 ghost use Rattle.wast_value_types.specs.ValueTree as spec_value;
 ghost use Rattle.wast_value_types.specs.ValueSyntax.{field_type};
-ghost use Rattle.wast_core_types.specs.TypeTree as spec;
-ghost use Rattle.wast_core_types.specs.TypeSyntax.{shared_starts, as_field, unnamed_field, named_fields, struct_type, inner_type, comp_type};
-ghost use Rattle.wast_core_types.specs.TypeViews.{array_tree, struct_field_tree, inner_tree, comp_tree};
-ghost use Rattle.wast_value_types.specs.ValueViews.{field_tree};
+ghost use Rattle.wast_signatures.specs.TypeTree as spec;
+ghost use Rattle.wast_signatures.specs.TypeSyntax.{shared_starts, struct_type, inner_type, comp_type};
+ghost use Rattle.wast_signatures.specs.SignatureViews.{struct_field_tree};
+ghost use Rattle.wast_core_types.specs.TypeViews.{array_tree, inner_tree, comp_tree};
 ghost use Rattle.wast_core_types.specs.Depths.{closed, opened, within};
 
-use crate::group::{Body, Grouped};
-use crate::join::{Several, join};
 use crate::keyword;
-use crate::signature::FunctionType;
-use std::alloc::{AllocError, Global};
+use std::alloc::AllocError;
 use wast_parser::{
-    Error, Id, Index, Keyword, KeywordName, LParen, Meaning, Parse, Parser, RParen, list_of,
+    Error, Index, Keyword, KeywordName, LParen, Meaning, Parse, Parser, RParen, list_of,
 };
+use wast_signatures::{Body, FunctionType, Grouped, Several, StructField, join_groups as join};
 use wast_value_types::keyword::Shared;
 use wast_value_types::{FieldType, Group, StorageType};
-
-/// A field of a structure (6.4.6).
-#[derive(Drop)]
-pub struct StructField<'a> {
-    pub id: Option<Id<'a>>,
-    pub mutable: bool,
-    pub ty: StorageType<'a>,
-}
-
-/// The fields of one group.
-impl<'a> Meaning for Several<StructField<'a>> {
-    ghost Tree = { List (spec.StructField Name ℕ) };
-
-    ghost tree = { λ g. map struct_field_tree g.items.items };
-
-    ghost syntax = { named_fields };
-
-    fn lawful()
-        ensures { Lawful (named_fields {N = Name} {P = ℕ}) }
-    {}
-}
-
-impl<'a> Parse<'a> for Several<StructField<'a>> {
-    fn parse(parser: &mut Parser<'a>) -> Result<Self, Error> {
-        if parser.peek::<Id>()? {
-            let id = Id::parse(parser)?;
-            let ty = FieldType::parse(parser)?;
-            let items = one_field(parser.alloc(), id, ty)?;
-            Ok(Several { items })
-        } else {
-            let types = list_of(parser)?;
-            let items = fields_of(parser.alloc(), types)?;
-            Ok(Several { items })
-        }
-    }
-}
-
-impl<'a> Body for Several<StructField<'a>> {
-    fn spelled()
-        ensures { (s : List (spec.StructField Name ℕ)) × (us : List TextToken) × named_fields.spells s us }
-    {}
-
-    ghost plain = { refl };
-
-    ghost ended = { refl };
-}
-
-/// A field with an identifier, alone.
-fn one_field<'a>(
-    alloc: Global,
-    id: Id<'a>,
-    ty: FieldType<'a>,
-) -> Result<Vec<StructField<'a>>, AllocError>
-    ensures { IfOk result (λ fields. map struct_field_tree fields.items ≡ as_field (identifier_tree id.entry, field_tree ty.entry)) }
-{
-    let mut fields = Vec::new(alloc);
-    fields.push(StructField {
-        id: Some(id),
-        mutable: ty.mutable,
-        ty: ty.ty,
-    })?;
-    Ok(fields)
-}
-
-/// Fields of these types, without identifiers.
-fn fields_of<'a>(
-    alloc: Global,
-    types: Vec<FieldType<'a>>,
-) -> Result<Vec<StructField<'a>>, AllocError>
-    ensures { IfOk result (λ fields. map struct_field_tree fields.items ≡ map unnamed_field (map field_tree types.entry.items)) }
-{
-    let mut fields = Vec::new(alloc);
-    for ty in types {
-        fields.push(StructField {
-            id: None,
-            mutable: ty.mutable,
-            ty: ty.ty,
-        })?;
-    }
-    Ok(fields)
-}
 
 /// The fields of a structure (6.4.6), in the order of their text.
 #[derive(Drop)]
@@ -206,16 +123,6 @@ impl<'a> Parse<'a> for ContType<'a> {
 }
 
 impl<'a> Body for ContType<'a> {
-    fn spelled()
-        ensures { (i : Reference Name ℕ) × (us : List TextToken) × index.spells i us }
-    {}
-
-    ghost plain = { refl };
-
-    ghost ended = { refl };
-}
-
-impl<'a> Body for Index<'a> {
     fn spelled()
         ensures { (i : Reference Name ℕ) × (us : List TextToken) × index.spells i us }
     {}

@@ -8,17 +8,17 @@ ghost use Rattle.wast_parser.specs.State.{ahead, Keeps};
 ghost use Rattle.wast_parser.specs.Reading.{Asks, Gives};
 ghost use Rattle.wast_parser.specs.Cursors.{stands};
 ghost use Rattle.wast_parser.specs.Identifiers.{Reference, index_tree};
-ghost use Rattle.wast_core_types.specs.TypeTree as spec;
-ghost use Rattle.wast_core_types.specs.TypeSyntax.{type_starts, index_of, described, sub_type, type_def, type_body, type_item, rec_body, rec_group, as_definition};
+ghost use Rattle.wast_signatures.specs.TypeTree as spec;
+ghost use Rattle.wast_signatures.specs.TypeSyntax.{type_starts, index_of, described, sub_type, type_def, type_body, type_item, rec_body, rec_group, as_definition};
 ghost use Rattle.wast_core_types.specs.TypeViews.{comp_tree, definition_tree, item_tree, rec_tree};
 
 use crate::composite::{CompositeType, InnerTypeKind};
-use crate::group::{Body, Grouped, value_of};
 use crate::keyword;
 use wast_lexer::Span;
 use wast_parser::{
     Cursor, Error, Id, Index, Item, Keyword, Meaning, NameAnnotation, Parse, Parser, Peek, list_of,
 };
+use wast_signatures::{Body, Grouped, value_of};
 
 /// What a type is defined as (6.4.7).
 #[derive(Drop)]
@@ -149,7 +149,8 @@ impl<'a> Parse<'a> for Described<'a> {
 }
 
 /// The field that defines a type (6.4.7).
-#[derive(Drop)]
+///
+/// It is taken apart by [`TypeItem::into_parts`] alone.
 pub struct TypeItem<'a> {
     /// Where the word `type` stands.
     pub span: Span,
@@ -157,6 +158,41 @@ pub struct TypeItem<'a> {
     /// The name that an annotation gives it.
     pub name: Option<NameAnnotation<'a>>,
     pub def: TypeDef<'a>,
+}
+
+// By hand, so that what drops one is proved here once, and not in each crate that holds one.
+impl Drop for TypeItem<'_> {
+    fn drop(self) {
+        let TypeItem {
+            span: _,
+            id: _,
+            name: _,
+            def: _,
+        } = self;
+    }
+}
+
+/// What a value of [`TypeItem`] holds, in the order of its fields.
+type TypeItemParts<'a> = (
+    Span,
+    Option<Id<'a>>,
+    Option<NameAnnotation<'a>>,
+    TypeDef<'a>,
+);
+
+impl<'a> TypeItem<'a> {
+    /// Its fields, in their order.
+    pub fn into_parts(self) -> TypeItemParts<'a>
+        ensures { result ≡ (self.entry.span, self.entry.id, self.entry.name, self.entry.def) }
+    {
+        let TypeItem {
+            span,
+            id,
+            name,
+            def,
+        } = self;
+        (span, id, name, def)
+    }
 }
 
 impl<'a> Meaning for TypeItem<'a> {
@@ -238,11 +274,29 @@ impl<'a> Parse<'a> for TypeBody<'a> {
 }
 
 /// A group of type definitions, which may refer to each other (6.4.7).
-#[derive(Drop)]
+///
+/// It is taken apart by [`Rec::into_parts`] alone.
 pub struct Rec<'a> {
     /// Where the word `rec` stands.
     pub span: Span,
     pub types: Vec<TypeItem<'a>>,
+}
+
+// By hand, so that what drops one is proved here once, and not in each crate that holds one.
+impl Drop for Rec<'_> {
+    fn drop(self) {
+        let Rec { span: _, types: _ } = self;
+    }
+}
+
+impl<'a> Rec<'a> {
+    /// Where it stands, and its types.
+    pub fn into_parts(self) -> (Span, Vec<TypeItem<'a>>)
+        ensures { result ≡ (self.entry.span, self.entry.types) }
+    {
+        let Rec { span, types } = self;
+        (span, types)
+    }
 }
 
 impl<'a> Meaning for Rec<'a> {

@@ -1,31 +1,7 @@
-//! The words of the syntax of types.
+//! The words of the syntax of composite types and type definitions.
 ghost use Rattle.std.specs.Prelude.{◌≡◌, codes};
 
 use wast_parser::KeywordName;
-
-/// `param`
-#[derive(Drop)]
-pub struct Param;
-
-impl KeywordName for Param {
-    ghost word = { codes "param" };
-
-    fn text() -> &'static str {
-        "param"
-    }
-}
-
-/// `result`
-#[derive(Drop)]
-pub struct Result;
-
-impl KeywordName for Result {
-    ghost word = { codes "result" };
-
-    fn text() -> &'static str {
-        "result"
-    }
-}
 
 /// `field`
 #[derive(Drop)]
@@ -132,17 +108,5 @@ impl KeywordName for Final {
 
     fn text() -> &'static str {
         "final"
-    }
-}
-
-/// `type`
-#[derive(Drop)]
-pub struct Type;
-
-impl KeywordName for Type {
-    ghost word = { codes "type" };
-
-    fn text() -> &'static str {
-        "type"
     }
 }

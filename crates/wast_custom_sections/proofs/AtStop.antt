@@ -14,7 +14,7 @@ use Rattle.wasm_layout.specs.Present.{has_any, is_present}
 use Rattle.wasm_layout.specs.IsModule.{IsModule}
 use Rattle.wasm_layout.specs.Section.{Hints, Codes}
 use Rattle.wasm_layout.specs.Layout.{Piece, Known, if_there, placed_hints, functions_in, function_at, section}
-use Rattle.wast_fields.specs.FieldTree.{Field}
+use Rattle.wast_module_fields.specs.FieldTree.{Field}
 use Rattle.wast_meant.specs.FieldsMeant.{function_of, imports_of, defined_in, functions_of}
 use Rattle.wast_meant.specs.NamesMeant.{GivenName, bodies_in}
 use Rattle.wast_meant.specs.Meaning.{meant}

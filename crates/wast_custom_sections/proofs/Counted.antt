@@ -5,19 +5,20 @@ use Rattle.wast_value_types.specs.declared.global_type.GlobalType.{GlobalType}
 use Rattle.wast_imports.specs.ImportTree.{ExternType, OfFunc, OfExactFunc, OfTable, OfMemory, OfGlobal, OfTag}
 use Rattle.wast_imports.specs.ImportViews.{items_tree}
 use Rattle.wast_imports.specs.declared.item.TagType.{TagType}
-use Rattle.wast_fields.specs.FieldViews.{defined_tag, defined_global, defined_memory}
-use Rattle.wast_fields.specs.ElemViews.{defined_table}
-use Rattle.wast_fields.specs.declared.global.GlobalKind.{GlobalKind}
-use Rattle.wast_fields.specs.declared.global.GlobalKind.TheVariants as globals
-use Rattle.wast_fields.specs.declared.memory.MemoryKind.{MemoryKind}
-use Rattle.wast_fields.specs.declared.memory.MemoryKind.TheVariants as memories
-use Rattle.wast_fields.specs.declared.table.TableKind.{TableKind}
-use Rattle.wast_fields.specs.declared.table.TableKind.TheVariants as tables
-use Rattle.wast_fields.specs.declared.tag.TagKind.{TagKind}
-use Rattle.wast_fields.specs.declared.tag.TagKind.TheVariants as tags
-use Rattle.wast_core.specs.ModuleViews.{field_tree}
-use Rattle.wast_core.specs.declared.field.ModuleField.{ModuleField}
-use Rattle.wast_core.specs.declared.field.ModuleField.TheVariants as fields
+use Rattle.wast_module_fields.specs.FuncViews.{defined_tag, defined_global}
+use Rattle.wast_module_fields.specs.MemoryViews.{defined_memory}
+use Rattle.wast_module_fields.specs.ElemViews.{defined_table}
+use Rattle.wast_module_fields.specs.GlobalKind.{GlobalKind}
+use Rattle.wast_module_fields.specs.GlobalKind.TheVariants as globals
+use Rattle.wast_module_fields.specs.MemoryKind.{MemoryKind}
+use Rattle.wast_module_fields.specs.MemoryKind.TheVariants as memories
+use Rattle.wast_module_fields.specs.TableKind.{TableKind}
+use Rattle.wast_module_fields.specs.TableKind.TheVariants as tables
+use Rattle.wast_module_fields.specs.TagKind.{TagKind}
+use Rattle.wast_module_fields.specs.TagKind.TheVariants as tags
+use Rattle.wast_module_fields.specs.ModuleFieldViews.{field_tree}
+use Rattle.wast_module_fields.specs.declared.field.ModuleField.{ModuleField}
+use Rattle.wast_module_fields.specs.declared.field.ModuleField.TheVariants as fields
 use Rattle.wast_meant.specs.NamesMeant.{imported, imported_function, defined_function, bodies_in}
 use Rattle.wast_custom_sections.specs.Hinted.{hinted_from}
 

@@ -22,7 +22,7 @@ use Rattle.wasm_layout.specs.Present.{has_any}
 use Rattle.wasm_layout.specs.Section.{Hints}
 use Rattle.wast_customs.proofs.Encodings.{encodes_as}
 use Rattle.wast_expressions.specs.Items.{Hint}
-use Rattle.wast_fields.specs.FieldTree.{Function, Field}
+use Rattle.wast_module_fields.specs.FieldTree.{Function, Field}
 use Rattle.wast_meant.specs.FieldsMeant.{function_of}
 use Rattle.wast_meant.specs.NamesMeant.{bodies_in, function_hints, hints_from}
 use Rattle.wast_custom_sections.specs.Parts.{PiecesFit}

@@ -12,7 +12,7 @@ use Rattle.wasm_encoder_custom.specs.declared.branch_hints.BranchHint.{BranchHin
 use Rattle.wasm_encoder_sections.specs.Writes.{Writes}
 use Rattle.wasm_layout.specs.Layout.{if_there}
 use Rattle.wasm_layout.specs.Present.{has_any}
-use Rattle.wast_fields.specs.FieldTree.{Function}
+use Rattle.wast_module_fields.specs.FieldTree.{Function}
 use Rattle.wast_custom_sections.specs.Parts.{joined}
 use Rattle.wast_custom_sections.specs.Hinted.{Hinted, HintedFits, placed, placed_at, hinted_bytes, with_hints, hinted, hinted_from, AddsHinted}
 use Rattle.wast_custom_sections.proofs.Sizes.{uleb_some, count_size, counted_size, cons_size, append_size}

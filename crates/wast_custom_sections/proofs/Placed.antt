@@ -12,10 +12,10 @@ use Rattle.wasm_encoder_custom.specs.Custom.{CustomFits}
 use Rattle.wasm_layout.specs.Layout.{Free}
 use Rattle.wast_customs.specs.CustomTree.{Custom, CustomPlace, place_of}
 use Rattle.wast_customs.proofs.Encodings.{encodes_as}
-use Rattle.wast_fields.specs.FieldTree.{Field}
-use Rattle.wast_core.specs.ModuleViews.{field_tree}
-use Rattle.wast_core.specs.declared.field.ModuleField.{ModuleField}
-use Rattle.wast_core.specs.declared.field.ModuleField.TheVariants as fields
+use Rattle.wast_module_fields.specs.FieldTree.{Field}
+use Rattle.wast_module_fields.specs.ModuleFieldViews.{field_tree}
+use Rattle.wast_module_fields.specs.declared.field.ModuleField.{ModuleField}
+use Rattle.wast_module_fields.specs.declared.field.ModuleField.TheVariants as fields
 use Rattle.wast_meant.specs.CustomsMeant.{custom_of, customs_in, same_place, at_place}
 use Rattle.wast_custom_sections.specs.Parts.{section_bytes, sections_at, PiecesFit, AreCustom}
 

@@ -2,7 +2,7 @@
 use Rattle.std.proofs.Common.{◌≡◌, [], ◌++◌}
 use Rattle.std.specs.Prelude.{All}
 use Rattle.std.specs.List.{flat_map}
-use Rattle.wast_fields.specs.FieldTree.{Function, Func}
+use Rattle.wast_module_fields.specs.FieldTree.{Function, Func}
 use Rattle.wast_conversions.specs.Operands.{OperandsAligned}
 use Rattle.wast_conversions.specs.Resolved.{ValResolved, InstrsResolved}
 use Rattle.wast_conversions.specs.Covered.{val_forms, use_forms}

@@ -8,9 +8,9 @@ use Rattle.wasm_encoder_code.specs.Body.{Body, place_of}
 use Rattle.wasm_encoder_custom.specs.BranchHints as offsets
 use Rattle.wasm_encoder_custom.specs.BranchHints.{function_hints_bytes}
 use Rattle.wasm_encoder_custom.specs.declared.branch_hints.BranchHint.{BranchHint}
-use Rattle.wast_core_types.specs.TypeTree.{Local}
+use Rattle.wast_signatures.specs.TypeTree.{Local}
 use Rattle.wast_expressions.specs.Items.{Hint}
-use Rattle.wast_fields.specs.FieldTree.{Expr, Function}
+use Rattle.wast_module_fields.specs.FieldTree.{Expr, Function}
 use Rattle.wast_conversions.specs.Types.{val_meant}
 use Rattle.wast_conversions.specs.Instructions.{instrs_meant}
 use Rattle.wasm_layout.specs.IsModule.{IsU32}

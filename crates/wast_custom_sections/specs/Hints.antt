@@ -7,8 +7,8 @@ use Rattle.wasm_encoder_code.specs.Body.{Body, place_of}
 use Rattle.wasm_encoder_code.specs.Locals.{LocalsFit}
 use Rattle.wasm_encoder_custom.specs.Custom.{custom_body}
 use Rattle.wasm_encoder_custom.specs.BranchHints.{function_hints_bytes, hints_section}
-use Rattle.wast_core_types.specs.TypeTree.{Local}
-use Rattle.wast_fields.specs.FieldTree.{Expr, Defined, Func, Field, Define}
+use Rattle.wast_signatures.specs.TypeTree.{Local}
+use Rattle.wast_module_fields.specs.FieldTree.{Expr, Defined, Func, Field, Define}
 use Rattle.wast_conversions.specs.Operands.{OperandsAligned}
 use Rattle.wast_conversions.specs.Resolved.{ValResolved, InstrsResolved}
 use Rattle.wast_conversions.specs.Covered.{val_forms, instrs_forms}

@@ -9,7 +9,7 @@ use Rattle.wasm_layout.specs.Layout.{Piece, Free, if_there, contents, piece_byte
 use Rattle.wasm_layout.specs.IsModule.{IsU32}
 use Rattle.wast_customs.specs.CustomTree.{CustomPlace, Producer, ProducerKind, Subsection}
 use Rattle.wast_customs.specs.Dylink.{subsection_id, payload}
-use Rattle.wast_fields.specs.FieldTree.{Field as ModuleField}
+use Rattle.wast_module_fields.specs.FieldTree.{Field as ModuleField}
 use Rattle.wast_meant.specs.CustomsMeant.{at_place, customs_in, of_kind, producers_field}
 
 -- the custom sections that fields have at a place, in the order of the fields

@@ -8,7 +8,7 @@ ghost use Rattle.wasm_encoder_code.specs.Body.{locals_bytes};
 ghost use Rattle.wasm_encoder_code.specs.Locals.{LocalsFit};
 ghost use Rattle.wasm_encoder_code.specs.Sink.{IsMade};
 ghost use Rattle.wasm_encoder_instr.specs.Instruction.{instr_view, can_encode_instr, fits_instr};
-ghost use Rattle.wast_fields.specs.FieldViews.{local_tree};
+ghost use Rattle.wast_module_fields.specs.FuncViews.{local_tree};
 ghost use Rattle.wast_expressions.specs.Partial.{hint_tree};
 ghost use Rattle.wast_core_instr.specs.InstructionViews.{instruction_operands, instruction_tree};
 ghost use Rattle.wast_core_instr.specs.ExpressionViews.{expression_tree};
@@ -27,7 +27,7 @@ use wasm_encoder_code::Function;
 use wasm_encoder_custom::BranchHint;
 use wast_conversions::{instruction, val_type};
 use wast_core_instr::{Expression, Instruction};
-use wast_fields::Local;
+use wast_module_fields::Local;
 
 /// The hints of a body, at the places of their instructions. A hint of no instruction is at the end.
 pub(crate) fn placed_hints(

@@ -5,7 +5,7 @@ ghost use Rattle.wasm_encoder_base.specs.Encodes.{Encodes};
 ghost use Rattle.wasm_encoder_custom.specs.Custom.{CustomFits};
 ghost use Rattle.wasm_layout.specs.Layout.{Free, piece_bytes};
 ghost use Rattle.wast_customs.specs.CustomViews.{custom_tree, place_tree};
-ghost use Rattle.wast_core.specs.ModuleViews.{field_tree};
+ghost use Rattle.wast_module_fields.specs.ModuleFieldViews.{field_tree};
 ghost use Rattle.wast_meant.specs.CustomsMeant.{at_place};
 ghost use Rattle.wast_custom_sections.specs.Parts.{section_bytes, sections_at, PiecesFit};
 
@@ -15,8 +15,8 @@ use crate::section::put_sections;
 use std::alloc::Global;
 use wasm_encoder::Module;
 use wasm_encoder_base::EncodeError;
-use wast_core::ModuleField;
 use wast_customs::{Custom, CustomPlace};
+use wast_module_fields::ModuleField;
 
 /// Appends to the sections of a module the custom sections that the fields have at a place, in the order of the fields: all or
 /// none.

@@ -2,13 +2,12 @@
 ghost use Rattle.std.specs.Prelude.{◌≡◌, length, map, replicate};
 ghost use Rattle.std.specs.List.{flat_map};
 ghost use Rattle.wast_imports.specs.ImportViews.{extern_tree, items_tree, member_tree};
-ghost use Rattle.wast_core.specs.ModuleViews.{field_tree};
+ghost use Rattle.wast_module_fields.specs.ModuleFieldViews.{field_tree};
 ghost use Rattle.wasm_layout.specs.Present.{has_any};
 ghost use Rattle.wast_meant.specs.NamesMeant.{bodies_in, imported, imported_function};
 
-use wast_core::ModuleField;
-use wast_fields::FuncKind;
 use wast_imports::{ImportGroup1Item, ImportItems, ItemKind};
+use wast_module_fields::{FuncKind, ModuleField};
 
 /// How many functions a field defines or imports.
 pub(crate) fn function_count(field: &ModuleField<'_>) -> usize

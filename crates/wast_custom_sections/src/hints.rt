@@ -7,9 +7,9 @@ ghost use Rattle.wasm_encoder_custom.specs.BranchHints.{function_hints_bytes};
 ghost use Rattle.wasm_encoder_sections.specs.Writes.{Writes};
 ghost use Rattle.wasm_layout.specs.Layout.{if_there, piece_bytes};
 ghost use Rattle.wasm_layout.specs.Present.{has_any};
-ghost use Rattle.wast_fields.specs.FieldViews.{local_tree, func_definition};
+ghost use Rattle.wast_module_fields.specs.FuncViews.{local_tree, func_definition};
 ghost use Rattle.wast_core_instr.specs.ExpressionViews.{expression_tree};
-ghost use Rattle.wast_core.specs.ModuleViews.{field_tree};
+ghost use Rattle.wast_module_fields.specs.ModuleFieldViews.{field_tree};
 ghost use Rattle.wast_meant.specs.NamesMeant.{bodies_in, defined_function};
 ghost use Rattle.wast_custom_sections.specs.Hints.{hint_pieces, HintsFit, BodyReady, DefinedReady, FieldReady};
 ghost use Rattle.wast_custom_sections.specs.Hinted.{AddsHinted, HintedFits, hinted_bytes, hinted_from, with_hints};
@@ -22,9 +22,8 @@ use std::alloc::Global;
 use wasm_encoder::Module;
 use wasm_encoder_base::EncodeError;
 use wasm_encoder_custom::{BranchHint, BranchHints};
-use wast_core::ModuleField;
 use wast_core_instr::Expression;
-use wast_fields::{Func, FuncKind, Local};
+use wast_module_fields::{Func, FuncKind, Local, ModuleField};
 
 /// Appends to the sections of a module that of the branch hints of its functions, `metadata.code.branch_hint`, if a function of the fields has
 /// any: each by how many bytes its instruction begins behind the start of the function's body. It stands before the section of code.

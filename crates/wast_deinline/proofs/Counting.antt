@@ -4,7 +4,7 @@ use Rattle.std.specs.Prelude.{if◌then◌else◌}
 use Rattle.std.specs.List.{count_by}
 use Rattle.std.proofs.lemmas.List.{map-append, take-append-drop, drop_more}
 use Rattle.std.proofs.lemmas.List.Sums.{sum_by-append, sum_by-cons, sum_by_push}
-use Rattle.wast_fields.specs.FieldTree.{Field}
+use Rattle.wast_module_fields.specs.FieldTree.{Field}
 use Rattle.wast_meaning.specs.Written.{by_counter, field_out, takes_name, written_out}
 use Rattle.wast_meaning.proofs.Counter.{counted, counted_out, next}
 

@@ -8,7 +8,7 @@ use Rattle.std.proofs.lemmas.List.Elements.{All-nil, All-cons, All-head, All-tai
 use Rattle.std.proofs.lemmas.List.Folds.{list_any_none}
 use Rattle.wast_grammar.specs.Tokens.{Name}
 use Rattle.wast_grammar.specs.Spelling.{same_name, same_text}
-use Rattle.wast_fields.specs.FieldTree.{Field}
+use Rattle.wast_module_fields.specs.FieldTree.{Field}
 use Rattle.wast_meaning.specs.Written.{takes_name, by_counter}
 use Rattle.wast_meaning.specs.Fresh.{are_distinct, are_new, field_names, is_fresh, taken_from}
 use Rattle.wast_meaning.proofs.Counter.{next}

@@ -2,12 +2,13 @@
 use Rattle.std.specs.Prelude.{ℕ, Bool, true, false, ◌&&◌, not, List, ◌∷◌, ◌++◌, map, option_map}
 use Rattle.wast_grammar.specs.Tokens.{Name}
 use Rattle.wast_parser.specs.Identifiers.{Named, identifier_tree}
-use Rattle.wast_core_types.specs.TypeViews.{name_tree}
+use Rattle.wast_signatures.specs.SignatureViews.{name_tree}
 use Rattle.wast_exports.specs.ExportViews.{inline_export_tree}
-use Rattle.wast_fields.specs.FieldTree as spec
-use Rattle.wast_fields.specs.FieldTree.{Field, Define, Imported}
-use Rattle.wast_fields.specs.FieldViews.{defined_func, defined_global, defined_memory, defined_tag}
-use Rattle.wast_fields.specs.ElemViews.{defined_table}
+use Rattle.wast_module_fields.specs.FieldTree as spec
+use Rattle.wast_module_fields.specs.FieldTree.{Field, Define, Imported}
+use Rattle.wast_module_fields.specs.FuncViews.{defined_func, defined_global, defined_tag}
+use Rattle.wast_module_fields.specs.MemoryViews.{defined_memory}
+use Rattle.wast_module_fields.specs.ElemViews.{defined_table}
 use Rattle.wast_meaning.specs.Written.{field_of, export_of, segment_of, kind_of, is_said}
 use Rattle.wast_deinline.specs.declared.definition.Definition.{Definition}
 use Rattle.wast_deinline.specs.declared.definition.Defined.{Defined}

@@ -3,7 +3,7 @@ use Rattle.std.specs.Prelude.{◌≡◌, ◌≤◌, ℕ, true, List}
 use Rattle.std.specs.List.{flat_map, All}
 use Rattle.wast_grammar.specs.Tokens.{Name}
 use Rattle.wast_grammar.specs.Spelling.{same_name}
-use Rattle.wast_fields.specs.FieldTree.{Field}
+use Rattle.wast_module_fields.specs.FieldTree.{Field}
 use Rattle.wast_meaning.specs.Written.{by_counter, written_out}
 use Rattle.wast_meaning.specs.Fresh.{field_names, is_fresh}
 use Rattle.wast_meaning.specs.Made.{made}

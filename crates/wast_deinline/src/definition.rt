@@ -2,19 +2,19 @@
 ghost use Rattle.std.specs.Prelude.{◌≡◌, ℕ, List, false, [], IfErr, IfOk};
 ghost use Rattle.wast_exports.specs.ExportViews.{inline_export_tree, inline_import_tree, kind_view};
 ghost use Rattle.wast_imports.specs.ImportViews.{extern_tree, head_tree};
-ghost use Rattle.wast_fields.specs.FieldTree.{Define, Imported};
-ghost use Rattle.wast_fields.specs.FieldViews.{func_type_tree};
-ghost use Rattle.wast_core.specs.ModuleViews.{field_tree};
+ghost use Rattle.wast_module_fields.specs.FieldTree.{Define, Imported};
+ghost use Rattle.wast_module_fields.specs.FuncViews.{func_type_tree};
+ghost use Rattle.wast_module_fields.specs.ModuleFieldViews.{field_tree};
 ghost use Rattle.wast_meaning.specs.Written.{field_of, has_segment, is_said, kind_of};
 ghost use Rattle.wast_deinline.specs.Definitions.{defined_view, definition_view, is_definition, is_imported};
 
 use std::alloc::Global;
-use wast_core::{
+use wast_imports::Head;
+use wast_module_fields::{
     ExportKind, Func, FuncKind, FunctionType, Global as GlobalField, GlobalKind, GlobalType,
     Imports, InlineExport, InlineImport, ItemKind, ItemSig, Memory, MemoryKind, ModuleField, Table,
     TableKind, Tag, TagKind, TagType, TypeUse,
 };
-use wast_imports::Head;
 use wast_parser::{Id, NameAnnotation, Span};
 
 /// A field that defines something.
@@ -45,84 +45,61 @@ impl<'a> Definition<'a> {
         ensures other { IfErr result (λ f. (f ≡ field.entry) × (is_definition (field_tree field.entry) ≡ false)) }
     {
         match field {
-            ModuleField::Func(
-                Func {
+            ModuleField::Func(func) => {
+                let (span, id, name, exports, kind, ty) = func.into_parts();
+                let defined = Defined::Func(kind, ty);
+                Ok(Definition {
                     span,
                     id,
                     name,
                     exports,
-                    kind,
-                    ty,
-                },
-            ) => Ok(Definition {
-                span,
-                id,
-                name,
-                exports,
-                defined: Defined::Func(kind, ty),
-            }),
-            ModuleField::Table(
-                Table {
+                    defined,
+                })
+            }
+            ModuleField::Table(table) => {
+                let (span, id, name, exports, kind) = table.into_parts();
+                let defined = Defined::Table(kind);
+                Ok(Definition {
                     span,
                     id,
                     name,
                     exports,
-                    kind,
-                },
-            ) => Ok(Definition {
-                span,
-                id,
-                name,
-                exports,
-                defined: Defined::Table(kind),
-            }),
-            ModuleField::Memory(
-                Memory {
+                    defined,
+                })
+            }
+            ModuleField::Memory(memory) => {
+                let (span, id, name, exports, kind) = memory.into_parts();
+                let defined = Defined::Memory(kind);
+                Ok(Definition {
                     span,
                     id,
                     name,
                     exports,
-                    kind,
-                },
-            ) => Ok(Definition {
-                span,
-                id,
-                name,
-                exports,
-                defined: Defined::Memory(kind),
-            }),
-            ModuleField::Global(
-                GlobalField {
+                    defined,
+                })
+            }
+            ModuleField::Global(global) => {
+                let (span, id, name, exports, ty, kind) = global.into_parts();
+                let defined = Defined::Global(kind, ty);
+                Ok(Definition {
                     span,
                     id,
                     name,
                     exports,
-                    ty,
-                    kind,
-                },
-            ) => Ok(Definition {
-                span,
-                id,
-                name,
-                exports,
-                defined: Defined::Global(kind, ty),
-            }),
-            ModuleField::Tag(
-                Tag {
+                    defined,
+                })
+            }
+            ModuleField::Tag(tag) => {
+                let (span, id, name, ty, exports, kind) = tag.into_parts();
+                let defined = Defined::Tag(kind, ty);
+                Ok(Definition {
                     span,
                     id,
                     name,
-                    ty,
                     exports,
-                    kind,
-                },
-            ) => Ok(Definition {
-                span,
-                id,
-                name,
-                exports,
-                defined: Defined::Tag(kind, ty),
-            }),
+                    defined,
+                })
+            }
             other => Err(other),
         }
     }

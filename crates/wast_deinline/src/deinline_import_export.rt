@@ -4,8 +4,8 @@ ghost use Rattle.std.specs.List.{list_all};
 ghost use Rattle.wast_parser.specs.Identifiers.{identifier_tree};
 ghost use Rattle.wast_exports.specs.ExportViews.{export_name_tree, inline_export_tree, kind_view};
 ghost use Rattle.wast_imports.specs.ImportViews.{head_tree};
-ghost use Rattle.wast_core.specs.ModuleViews.{field_tree};
-ghost use Rattle.wast_fields.specs.FieldTree.{Define};
+ghost use Rattle.wast_module_fields.specs.ModuleFieldViews.{field_tree};
+ghost use Rattle.wast_module_fields.specs.FieldTree.{Define};
 ghost use Rattle.wast_meaning.specs.Written.{by_counter, definition_out, export_of, field_of, field_out, has_segment, takes_name, written_out};
 ghost use Rattle.wast_meaning.specs.Made.{made};
 ghost use Rattle.wast_deinline.specs.Definitions.{defined_view, definition_view, parts_out, stands_alone};
@@ -13,12 +13,12 @@ ghost use Rattle.wast_deinline.specs.Definitions.{defined_view, definition_view,
 use crate::definition::Definition;
 use crate::split::{Split, set_apart};
 use std::alloc::{AllocError, Global};
-use wast_core::{
+use wast_exports::ExportName;
+use wast_imports::Head;
+use wast_module_fields::{
     Export, ExportKind, FuncKind, GlobalKind, InlineExport, MemoryKind, ModuleField, TableKind,
     TagKind,
 };
-use wast_exports::ExportName;
-use wast_imports::Head;
 use wast_parser::{Gensym, Id, Index, Span};
 
 /// The fields, written out: none has exports or a segment inline, and what is imported is an import. The export fields of a definition

@@ -4,12 +4,12 @@ ghost use Rattle.std.specs.List.{sum_by};
 ghost use Rattle.wast_value_types.specs.ValueViews.{limits_tree};
 ghost use Rattle.wast_data.specs.DataTree.{byte_count};
 ghost use Rattle.wast_data.specs.DataViews.{value_tree};
-ghost use Rattle.wast_fields.specs.ElemViews.{elements_tree};
+ghost use Rattle.wast_module_fields.specs.ElemViews.{elements_tree};
 ghost use Rattle.wast_meaning.specs.Written.{elements_len, exactly, pages};
 
 use std::alloc::AllocError;
-use wast_core::{DataVal, ElemPayload};
-use wast_core_types::Limits;
+use wast_module_fields::{DataVal, ElemPayload};
+use wast_value_types::Limits;
 
 /// The power of 2 that a page has in bytes where none is written.
 const PAGE_SIZE_LOG2: u32 = 16;

@@ -5,17 +5,17 @@ ghost use Rattle.wast_parser.specs.Identifiers.{identifier_tree};
 ghost use Rattle.wast_data.specs.DataViews.{value_tree};
 ghost use Rattle.wast_core_instr.specs.ExpressionViews.{expression_tree};
 ghost use Rattle.wast_value_types.specs.ValueTree.{RefType};
-ghost use Rattle.wast_fields.specs.FieldTree.{MemoryOf, TableOf};
-ghost use Rattle.wast_fields.specs.ElemViews.{defined_table, elements_tree};
-ghost use Rattle.wast_fields.specs.FieldViews.{defined_memory};
-ghost use Rattle.wast_core.specs.ModuleViews.{field_tree};
+ghost use Rattle.wast_module_fields.specs.FieldTree.{MemoryOf, TableOf};
+ghost use Rattle.wast_module_fields.specs.ElemViews.{defined_table, elements_tree};
+ghost use Rattle.wast_module_fields.specs.MemoryViews.{defined_memory};
+ghost use Rattle.wast_module_fields.specs.ModuleFieldViews.{field_tree};
 ghost use Rattle.wast_meaning.specs.Written.{alone, segment_of, zero_offset};
 ghost use Rattle.wast_deinline.specs.Definitions.{defined_view};
 
 use crate::definition::Defined;
 use crate::sizes::{elements_len, exactly, pages, total_len};
 use std::alloc::{AllocError, Global};
-use wast_core::{
+use wast_module_fields::{
     Data, DataKind, DataVal, Elem, ElemKind, ElemPayload, Expression, Instruction, MemoryKind,
     MemoryType, ModuleField, TableKind, TableType,
 };

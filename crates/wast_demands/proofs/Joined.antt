@@ -8,7 +8,7 @@ use Rattle.wast_names.specs.Walk.{first_unmet}
 use Rattle.wast_names.specs.Demand.{Demand, is_met, Refuses, Answers}
 use Rattle.wast_names.proofs.Walk.{unmet_after}
 use Rattle.wast_names.proofs.Demands.{refuses_second}
-use Rattle.wast_fields.specs.FieldTree.{Field}
+use Rattle.wast_module_fields.specs.FieldTree.{Field}
 use Rattle.wast_meaning.specs.Mentions.{Part, parts}
 use Rattle.wast_mentions.specs.Judging.{Judged}
 use Rattle.wast_scopes.specs.Views.{Refused}

@@ -5,8 +5,8 @@ use Rattle.std.proofs.lemmas.List.Concat.{flat_map-append}
 use Rattle.wast_grammar.specs.Tokens.{Name}
 use Rattle.wast_grammar.specs.Spelling.{same_name}
 use Rattle.wast_parser.specs.Identifiers.{Named}
-use Rattle.wast_core_types.specs.TypeTree.{Sig}
-use Rattle.wast_fields.specs.FieldTree.{Defined, Imported, Func, Table, TableOf, Memory, MemoryOf, Global, Tag, Field, TypeField, RecField, ImportField, Define, ExportField, StartField, ElemField, DataField, CustomField, field_place}
+use Rattle.wast_signatures.specs.TypeTree.{Sig}
+use Rattle.wast_module_fields.specs.FieldTree.{Defined, Imported, Func, Table, TableOf, Memory, MemoryOf, Global, Tag, Field, TypeField, RecField, ImportField, Define, ExportField, StartField, ElemField, DataField, CustomField, field_place}
 use Rattle.wast_exports.specs.Exports.{ExportKind}
 use Rattle.wast_meaning.specs.Changed.{Changes, field_changed}
 use Rattle.wast_meaning.specs.Implied.{implied, type_taken}
@@ -21,7 +21,7 @@ use Rattle.wast_meant_laws.proofs.AtStops.{in_one_gap}
 use Rattle.wast_meant_laws.proofs.Gaps.{called_same}
 use Rattle.wast_meant.specs.NamesMeant.{given_name}
 use Rattle.wast_meaning.specs.Made.{is_made}
-use Rattle.wast_encode.specs.Parts.{module_of}
+use Rattle.wast_binary.specs.Parts.{module_of}
 
 module _ {N P : Type 0} where
   -- CHANGED INDICES

@@ -12,8 +12,9 @@ use Rattle.wast_parser.specs.Problem.{Problem, is_memory}
 use Rattle.wast_parser.specs.Reading.{out_of_memory}
 use Rattle.wast_names.specs.Demand.{Demand, Tells, Refuses, is_met}
 use Rattle.wast_names.specs.Walk.{first_unmet}
-use Rattle.wast_fields.specs.FieldTree.{Field, Content, Fields, Pieces, Module}
-use Rattle.wast_core.specs.ModuleViews.{field_tree, content_tree}
+use Rattle.wast_module_fields.specs.FieldTree.{Field, Content, Fields, Pieces, Module}
+use Rattle.wast_core.specs.ModuleFieldViews.{field_tree}
+use Rattle.wast_core.specs.ModuleViews.{content_tree}
 use Rattle.wast_core.specs.declared.module.ModuleKind.{ModuleKind}
 use Rattle.wast_core.specs.declared.module.ModuleKind.TheVariants as contents
 use Rattle.wast_meaning.specs.Made.{made, is_made}
@@ -26,10 +27,10 @@ use Rattle.wast_meant.specs.Meaning.{meant}
 use Rattle.wast_meant.specs.NamesMeant.{given_name}
 use Rattle.wast_meant.specs.Plain.{IsPlain}
 use Rattle.wast_resolve.specs.Whole.{counter_after, resolved_by, content_by, module_by, module_demands_by, IsRefused}
-use Rattle.wast_encode.specs.Can.{CanEncode}
+use Rattle.wast_binary.specs.Can.{CanEncode}
 use Rattle.wast_encode.specs.Encoded.{form_in, StandsFor, IsBinaryOf, Deserves, LeavesFor, CountsFor, IsRefusedFor}
 use Rattle.wast_encode.specs.Faults.{as_fault}
-use Rattle.wast_encode.specs.Parts.{module_of}
+use Rattle.wast_binary.specs.Parts.{module_of}
 use Rattle.wast_encode.specs.Resolved.{ContentReady, IsToldBy, IsUnlaid, IsUnresolved, IsContentEncoded, IsContentUnencoded, IsEncoded, IsUnencoded}
 use Rattle.wast_encode.specs.declared.fault.EncodeFault.{EncodeFault}
 use Rattle.wast_encode.specs.declared.fault.EncodeFault.TheVariants as faults

@@ -1,21 +1,3 @@
-mod AtKind
-mod Called
-mod CountPut
-mod Counts
 pub mod Customs
-mod DataCount
 mod Encoded
-mod Few
-mod FewNames
-mod Hinted
-mod Laid
-mod Left
-mod Listed
-mod Lists
-mod NamesPut
-mod Others
-mod PutLists
 mod Ready
-mod SectionSizes
-mod StopByStop
-mod Totals

@@ -5,9 +5,9 @@ use Rattle.wast_grammar.specs.Tokens.{Name}
 use Rattle.wast_grammar.specs.Spelling.{same_name}
 use Rattle.wast_names.specs.Walk.{first_unmet}
 use Rattle.wast_names.specs.Demand.{is_met}
-use Rattle.wast_fields.specs.FieldTree.{Expr, Elements, Indices, Expressions, Defined, Imported, Func, Table, TableOf, Memory, MemoryOf, Global, Tag, ElemMode, PassiveElem, DeclaredElem, ActiveElem, DataMode, PassiveData, ActiveData, Field, TypeField, RecField, ImportField, Define, ExportField, StartField, ElemField, DataField, CustomField}
-use Rattle.wast_core.specs.ModuleViews.{field_tree}
-use Rattle.wast_core.specs.declared.field.ModuleField.{ModuleField}
+use Rattle.wast_module_fields.specs.FieldTree.{Expr, Elements, Indices, Expressions, Defined, Imported, Func, Table, TableOf, Memory, MemoryOf, Global, Tag, ElemMode, PassiveElem, DeclaredElem, ActiveElem, DataMode, PassiveData, ActiveData, Field, TypeField, RecField, ImportField, Define, ExportField, StartField, ElemField, DataField, CustomField}
+use Rattle.wast_core.specs.ModuleFieldViews.{field_tree}
+use Rattle.wast_module_fields.specs.declared.field.ModuleField.{ModuleField}
 use Rattle.wast_meaning.specs.Demands.{all_demands}
 use Rattle.wast_meaning.specs.Numbered.{resolved}
 use Rattle.wast_meaning.specs.WellFormed.{breaches}
@@ -27,7 +27,7 @@ use Rattle.wast_encode_laws.proofs.Hints.{hints_fit}
 use Rattle.wast_encode_laws.proofs.Placed.{functions_placed}
 use Rattle.wast_encode_laws.proofs.Ready.{ready}
 use Rattle.wast_encode_laws.proofs.Trees.{trees_ordered}
-use Rattle.wast_encode.specs.Can.{CanEncode}
+use Rattle.wast_binary.specs.Can.{CanEncode}
 
 module _ {N P : Type 0} where
   expr_ready : (e : Expr N P) → ExprResolved e → IsFormed e → ExprReady e

@@ -6,7 +6,7 @@ use Rattle.wast_grammar.specs.Spelling.{same_name}
 use Rattle.wast_parser.specs.Problem.{Problem, is_memory}
 use Rattle.wast_names.specs.Demand.{Tells, Refuses, is_met}
 use Rattle.wast_names.specs.Walk.{first_unmet}
-use Rattle.wast_fields.specs.FieldTree.{Content, Fields, Pieces, Module}
+use Rattle.wast_module_fields.specs.FieldTree.{Content, Fields, Pieces, Module}
 use Rattle.wast_meaning.specs.Modules.{content_fields}
 use Rattle.wast_meaning.specs.Written.{by_counter}
 use Rattle.wast_meaning.specs.Made.{made, is_made}

@@ -1,10 +1,3 @@
-pub mod Can
-pub mod DataCount
 pub mod Encoded
 pub mod Faults
-pub mod Parts
-pub mod Puts
 pub mod Resolved
-pub mod Sources
-pub mod Views
-pub mod Weight

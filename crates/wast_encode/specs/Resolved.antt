@@ -5,12 +5,12 @@ use Rattle.wast_grammar.specs.Tokens.{Name}
 use Rattle.wast_parser.specs.Problem.{Problem, is_memory}
 use Rattle.wast_names.specs.Demand.{Tells, Refuses, is_met}
 use Rattle.wast_names.specs.Walk.{first_unmet}
-use Rattle.wast_fields.specs.FieldTree.{Content, Fields, Pieces, Module}
+use Rattle.wast_module_fields.specs.FieldTree.{Content, Fields, Pieces, Module}
 use Rattle.wasm_layout.specs.AbstractModule.{AbstractModule}
 use Rattle.wasm_layout.specs.Lays.{Fits, Lays}
 use Rattle.wast_resolve.specs.Whole.{module_demands_by, IsRefused}
-use Rattle.wast_encode.specs.Can.{CanEncode}
-use Rattle.wast_encode.specs.Parts.{module_of}
+use Rattle.wast_binary.specs.Can.{CanEncode}
+use Rattle.wast_binary.specs.Parts.{module_of}
 use Rattle.wast_encode.specs.declared.fault.EncodeFault.{EncodeFault}
 use Rattle.wast_encode.specs.declared.fault.EncodeFault.TheVariants as faults
 

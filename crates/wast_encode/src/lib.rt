@@ -20,23 +20,13 @@
 //! | `Encoded` | what encoding a tree answers, and what it leaves of the tree |
 //!
 //! Which module a tree stands for is said by `Meaning` of `wast_meant`, which bytes are its binary by `Lays` of `wasm_layout`, and what a
-//! tree is resolved to by `Whole` of `wast_resolve`. The other files of `specs/` serve private contracts: `Faults`, `Views` and `Sources`
-//! say what contracts see of errors, of stops and of what is encoded, `Parts` and `Puts` what stands at each stop and what appending it
-//! leaves, `Can` and `Resolved` what is known of fields and modules that are resolved, `DataCount` which instructions refer to data, and
-//! `Weight` how much there is in fields.
+//! tree is resolved to by `Whole` of `wast_resolve`. The other files of `specs/` serve private contracts: `Faults` says what contracts see
+//! of errors, and `Resolved` what is known of modules that are resolved.
 #![tactic(auto)]
 
-mod data_count;
 mod fault;
-mod fields;
-mod names_section;
 mod options;
 mod pieces;
-mod put;
-mod room;
-mod sections;
-mod stop;
-mod stops;
 
 pub use fault::EncodeFault;
 pub use options::EncodeOptions;

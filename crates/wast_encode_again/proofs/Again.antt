@@ -8,8 +8,9 @@ use Rattle.wast_parser.specs.Identifiers.{Named}
 use Rattle.wast_parser.specs.Problem.{Problem}
 use Rattle.wast_names.specs.Demand.{Tells, is_met}
 use Rattle.wast_names.specs.Walk.{first_unmet}
-use Rattle.wast_fields.specs.FieldTree.{Field, Content, Fields, Pieces, Module}
-use Rattle.wast_core.specs.ModuleViews.{field_tree, content_tree}
+use Rattle.wast_field_syntax.specs.FieldTree.{Field, Content, Fields, Pieces, Module}
+use Rattle.wast_core.specs.ModuleFieldViews.{field_tree}
+use Rattle.wast_core.specs.ModuleViews.{content_tree}
 use Rattle.wast_core.specs.declared.module.ModuleKind.{ModuleKind}
 use Rattle.wast_core.specs.declared.module.ModuleKind.TheVariants as contents
 use Rattle.wast_meaning.specs.Made.{made, is_made}

@@ -11,7 +11,7 @@ use Rattle.wast_mnemonics.specs.Heads.{Head, Listed, Unlisted}
 use Rattle.wast_core_instr.specs.InstructionTree.{Operands, Instruction}
 use Rattle.wast_core_instr.specs.InstructionTree as instr
 use Rattle.wast_expressions.specs.Items.{Hint}
-use Rattle.wast_fields.specs.FieldTree.{Expr, Elements, Indices, Expressions, Defined, Imported, Func, Table, TableOf, Memory, MemoryOf, Global, Tag, ElemMode, PassiveElem, DeclaredElem, ActiveElem, DataMode, PassiveData, ActiveData, Field, TypeField, RecField, ImportField, Define, ExportField, StartField, ElemField, DataField, CustomField}
+use Rattle.wast_field_syntax.specs.FieldTree.{Expr, Elements, Indices, Expressions, Defined, Imported, Func, Table, TableOf, Memory, MemoryOf, Global, Tag, ElemMode, PassiveElem, DeclaredElem, ActiveElem, DataMode, PassiveData, ActiveData, Field, TypeField, RecField, ImportField, Define, ExportField, StartField, ElemField, DataField, CustomField}
 use Rattle.wast_meaning.specs.Mentions.{Mention, Refers, Part, Constant, ref_mentions, val_mentions, type_mentions, extern_mentions, import_mentions, refers_if, says, elements_parts, defined_parts, elem_mode_parts, data_mode_parts, parts}
 use Rattle.wast_meaning.specs.Scope.{turn_of_head}
 use Rattle.wast_meaning.specs.WellFormed.{is_power, are_hints, turned_then, is_aligned, is_balanced, is_formed, part_formed}

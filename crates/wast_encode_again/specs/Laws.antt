@@ -4,7 +4,7 @@ use Rattle.wast_grammar.specs.Tokens.{Name}
 use Rattle.wast_grammar.specs.Spelling.{same_name}
 use Rattle.wast_names.specs.Demand.{is_met}
 use Rattle.wast_names.specs.Walk.{first_unmet}
-use Rattle.wast_fields.specs.FieldTree.{Module}
+use Rattle.wast_field_syntax.specs.FieldTree.{Module}
 use Rattle.wast_core.specs.ModuleViews.{module_tree}
 use Rattle.wast_core.specs.declared.module.Module as code
 use Rattle.wast_meaning.specs.Modules.{module_breaches}

@@ -8,14 +8,14 @@ use Rattle.std.proofs.lemmas.Grind.{flat_map-append}
 use Rattle.wasm_encoder_base.specs.Table.{OperandSyntax, Space, Labels, Functions, Types, Tables, Memories, Fields}
 use Rattle.wast_parser.specs.Identifiers.{Named, Reference}
 use Rattle.wast_value_types.specs.ValueTree.{RefType, ValType, Number, Ref, StorageType, Packed, Value}
-use Rattle.wast_core_types.specs.TypeTree.{Local, Sig, InnerType, FuncType, StructType, ArrayType, ContType, StructField, TypeItem, TypeUse}
+use Rattle.wast_signatures.specs.TypeTree.{Local, Sig, InnerType, FuncType, StructType, ArrayType, ContType, StructField, TypeItem, TypeUse}
 use Rattle.wast_operands.specs.OperandTree.{MemArgTarget, Handle, OnLabel, OnSwitch}
 use Rattle.wast_operands.specs.OperandTree as operand
 use Rattle.wast_typed_operands.specs.TypedTree.{Catch, CatchTag, CatchTagRef, CatchAll, CatchAllRef}
 use Rattle.wast_core_instr.specs.InstructionTree.{Operands, Instruction}
 use Rattle.wast_core_instr.specs.InstructionTree as instr
 use Rattle.wast_imports.specs.ImportTree.{ExternType, OfFunc, OfExactFunc, OfTable, OfMemory, OfGlobal, OfTag, Item, ImportItems, Single, Group1, Group2}
-use Rattle.wast_fields.specs.FieldTree.{Expr, Function, Elements, Indices, Expressions, Defined, Imported, Func, Table, TableOf, Memory, MemoryOf, Global, Tag, ElemMode, PassiveElem, DeclaredElem, ActiveElem, DataMode, PassiveData, ActiveData, Field, TypeField, RecField, ImportField, Define, ExportField, StartField, ElemField, DataField, CustomField}
+use Rattle.wast_module_fields.specs.FieldTree.{Expr, Function, Elements, Indices, Expressions, Defined, Imported, Func, Table, TableOf, Memory, MemoryOf, Global, Tag, ElemMode, PassiveElem, DeclaredElem, ActiveElem, DataMode, PassiveData, ActiveData, Field, TypeField, RecField, ImportField, Define, ExportField, StartField, ElemField, DataField, CustomField}
 use Rattle.wast_meaning.specs.Written.{has_any}
 use Rattle.wast_meaning.specs.Mentions.{Mention, Refers, Member, Uses, UsesInBlock, Repeats, Part, Constant, Body, first_space, second_space, syntax_of, second_mention, catch_mentions, handle_mentions, target_mention, operand_mentions, instr_mentions, expr_mentions, val_mentions, ref_mentions, storage_mentions, local_mentions, inner_mentions, type_mentions, refers_if, extern_mentions, import_mentions, says, elements_parts, defined_parts, elem_mode_parts, data_mode_parts, part_mentions, field_mentions}
 use Rattle.wast_meaning.specs.Implied.{is_short, sig_of_use, sig_of_mention}

@@ -10,7 +10,7 @@ use Rattle.wast_mnemonics.specs.Heads.{Head, Listed, Unlisted}
 use Rattle.wast_core_instr.specs.InstructionTree.{Operands, Instruction}
 use Rattle.wast_core_instr.specs.InstructionTree as instr
 use Rattle.wast_expressions.specs.Items.{Hint}
-use Rattle.wast_fields.specs.FieldTree.{Expr, Elements, Indices, Expressions, Defined, Func, Table, TableOf, Global, ElemMode, ActiveElem, DataMode, ActiveData, Field, Define, ElemField, DataField}
+use Rattle.wast_module_fields.specs.FieldTree.{Expr, Elements, Indices, Expressions, Defined, Func, Table, TableOf, Global, ElemMode, ActiveElem, DataMode, ActiveData, Field, Define, ElemField, DataField}
 use Rattle.wast_meaning.specs.Mentions.{Part, Constant, ref_mentions, val_mentions, refers_if, says, elements_parts, defined_parts, elem_mode_parts, data_mode_parts}
 use Rattle.wast_meaning.specs.Scope.{turn_of_head}
 use Rattle.wast_meaning.specs.Numbered.{resolved}

@@ -7,11 +7,11 @@ use Rattle.wasm_encoder_base.specs.Table.{OperandSyntax}
 use Rattle.wasm_encoder_base.specs.Balanced.{Turn, Opens, Closes, Stays}
 use Rattle.wast_parser.specs.Identifiers.{Named}
 use Rattle.wast_exports.specs.Exports.{ExportKind}
-use Rattle.wast_core_types.specs.TypeTree.{Sig}
+use Rattle.wast_signatures.specs.TypeTree.{Sig}
 use Rattle.wast_core_instr.specs.InstructionTree.{Operands, Instruction}
 use Rattle.wast_core_instr.specs.InstructionTree as instr
 use Rattle.wast_expressions.specs.Items.{Hint}
-use Rattle.wast_fields.specs.FieldTree.{Defined, Imported, Func, Table, TableOf, Memory, MemoryOf, Global, Tag, Definition, Field, TypeField, RecField, ImportField, Define, ExportField, StartField, ElemField, DataField, CustomField, is_start, field_place}
+use Rattle.wast_module_fields.specs.FieldTree.{Defined, Imported, Func, Table, TableOf, Memory, MemoryOf, Global, Tag, Definition, Field, TypeField, RecField, ImportField, Define, ExportField, StartField, ElemField, DataField, CustomField, is_start, field_place}
 use Rattle.wast_names.specs.Walk.{walked}
 use Rattle.wast_meaning.specs.Written.{kind_of, field_of, export_of, segment_of, name_or, field_out, written_from, written_out}
 use Rattle.wast_meaning.specs.Mentions.{Mention, Part, Says, Constant, Body, syntax_of, ref_mentions, sig_mentions, says, elements_parts, defined_parts, parts}

@@ -5,13 +5,13 @@ use Rattle.std.specs.List.{flat_map}
 use Rattle.wasm_encoder_base.specs.Table.{OperandSyntax, Types}
 use Rattle.wast_parser_core.proofs.WordSets.{some_map}
 use Rattle.wast_value_types.specs.ValueTree.{HeapType, Abstract, Concrete, Exact, ValType, Number, Ref, StorageType, Packed, Value}
-use Rattle.wast_core_types.specs.TypeTree.{Local, Sig, InnerType, FuncType, StructType, ArrayType, ContType, StructField, TypeItem}
+use Rattle.wast_signatures.specs.TypeTree.{Local, Sig, InnerType, FuncType, StructType, ArrayType, ContType, StructField, TypeItem}
 use Rattle.wast_operands.specs.OperandTree.{MemArgTarget}
 use Rattle.wast_operands.specs.OperandTree as operand
 use Rattle.wast_core_instr.specs.InstructionTree.{Operands, Instruction}
 use Rattle.wast_core_instr.specs.InstructionTree as instr
 use Rattle.wast_imports.specs.ImportTree.{ExternType, OfFunc, OfExactFunc, OfTable, OfMemory, OfGlobal, OfTag, Item, ImportItems, Single, Group1, Group2}
-use Rattle.wast_fields.specs.FieldTree.{Expr, Elements, Indices, Expressions, Defined, Imported, Func, Table, TableOf, Memory, MemoryOf, Global, Tag, ElemMode, PassiveElem, DeclaredElem, ActiveElem, DataMode, PassiveData, ActiveData, Field, TypeField, RecField, ImportField, Define, ExportField, StartField, ElemField, DataField, CustomField}
+use Rattle.wast_module_fields.specs.FieldTree.{Expr, Elements, Indices, Expressions, Defined, Imported, Func, Table, TableOf, Memory, MemoryOf, Global, Tag, ElemMode, PassiveElem, DeclaredElem, ActiveElem, DataMode, PassiveData, ActiveData, Field, TypeField, RecField, ImportField, Define, ExportField, StartField, ElemField, DataField, CustomField}
 use Rattle.wast_meaning.specs.Mentions.{syntax_of}
 use Rattle.wast_meaning.specs.Changed.{Change, Changes, heap_changed, val_changed, storage_changed, field_type_changed, local_changed, sig_changed, inner_changed, type_changed, target_changed, operands_changed, instr_changed, extern_changed, item_changed, imports_changed, instrs_changed, constant_changed, elements_changed, defined_changed, elem_mode_changed, data_mode_changed, field_changed}
 use Rattle.wast_meaning.proofs.Settled.{two}

@@ -7,7 +7,7 @@ use Rattle.std.proofs.lemmas.List.{length-map}
 use Rattle.std.proofs.lemmas.List.Elements.{All-nil, All-cons, All-head, All-tail}
 use Rattle.wast_expressions.specs.Items as items
 use Rattle.wast_imports.specs.ImportTree.{ExternType, OfFunc, OfExactFunc}
-use Rattle.wast_fields.specs.FieldTree.{Function, Defined, Func, Field, ImportField, Define}
+use Rattle.wast_module_fields.specs.FieldTree.{Function, Defined, Func, Field, ImportField, Define}
 use Rattle.wast_names.specs.Walk.{first_unmet}
 use Rattle.wast_names.specs.Demand.{is_met}
 use Rattle.wast_meaning.specs.Demands.{all_demands}

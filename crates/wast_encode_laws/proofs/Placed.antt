@@ -8,7 +8,7 @@ use Rattle.std.proofs.lemmas.List.Sums.{sum_by-cons}
 use Rattle.wasm_encoder_base.specs.Table.{Space}
 use Rattle.wasm_encoder_items.specs.Imports as imports
 use Rattle.wast_imports.specs.ImportTree.{ExternType, OfFunc, OfExactFunc, OfTable, OfMemory, OfGlobal, OfTag, Item, ImportItems, Single, Group1, Group2}
-use Rattle.wast_fields.specs.FieldTree.{Function, Defined, Imported, Func, Field, TypeField, RecField, ImportField, Define, ExportField, StartField, ElemField, DataField, CustomField}
+use Rattle.wast_module_fields.specs.FieldTree.{Function, Defined, Imported, Func, Field, TypeField, RecField, ImportField, Define, ExportField, StartField, ElemField, DataField, CustomField}
 use Rattle.wast_names.specs.Walk.{walked, first_unmet}
 use Rattle.wast_names.specs.Demand.{Demand, is_met}
 use Rattle.wast_meaning.specs.Written.{has_any, space_of_kind, kind_of}

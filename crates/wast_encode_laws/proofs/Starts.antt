@@ -6,8 +6,8 @@ use Rattle.std.proofs.lemmas.List.{length-append, append-nil}
 use Rattle.std.proofs.lemmas.Grind.{flat_map-append}
 use Rattle.wast_parser.specs.Identifiers.{Named}
 use Rattle.wast_exports.specs.Exports.{ExportKind}
-use Rattle.wast_core_types.specs.TypeTree.{Sig}
-use Rattle.wast_fields.specs.FieldTree.{Defined, Imported, Func, Table, TableOf, Memory, MemoryOf, Global, Tag, Definition, Field, TypeField, RecField, ImportField, Define, ExportField, StartField, ElemField, DataField, CustomField, field_place}
+use Rattle.wast_signatures.specs.TypeTree.{Sig}
+use Rattle.wast_module_fields.specs.FieldTree.{Defined, Imported, Func, Table, TableOf, Memory, MemoryOf, Global, Tag, Definition, Field, TypeField, RecField, ImportField, Define, ExportField, StartField, ElemField, DataField, CustomField, field_place}
 use Rattle.wast_meaning.specs.Written.{kind_of, field_of, export_of, segment_of, name_or, field_out, written_from, written_out}
 use Rattle.wast_meaning.specs.Implied.{implied, type_taken}
 use Rattle.wast_meaning.specs.Scope.{Scope, scope_of}

@@ -4,8 +4,8 @@ use Rattle.std.specs.Prelude.{option_map, option_to_list}
 use Rattle.std.specs.List.{list_all}
 use Rattle.std.specs.Cmp.Derive.{both_true}
 use Rattle.wast_grammar.specs.Tokens.{Name}
-use Rattle.wast_core_types.specs.declared.signature.FunctionType.{FunctionType}
-use Rattle.wast_core_types.specs.declared.type_use.TypeUse.{TypeUse}
+use Rattle.wast_signatures.specs.declared.signature.FunctionType.{FunctionType}
+use Rattle.wast_signatures.specs.declared.type_use.TypeUse.{TypeUse}
 use Rattle.wast_imports.specs.declared.item.TagType.{TagType}
 use Rattle.wast_value_types.specs.declared.global_type.GlobalType.{GlobalType}
 use Rattle.wast_core_instr.specs.InstructionTree as spec
@@ -22,28 +22,29 @@ use Rattle.wast_core_instr.specs.declared.vector_arg.VectorArgOp.TheVariants as 
 use Rattle.wast_core_instr.specs.declared.proposal.ProposalOp.{ProposalOp}
 use Rattle.wast_core_instr.specs.declared.proposal.ProposalOp.TheVariants as proposals
 use Rattle.wast_core_instr.specs.declared.expression.Expression.{Expression}
-use Rattle.wast_fields.specs.FieldViews.{defined_tag, defined_global, defined_func, defined_memory, mode_tree}
-use Rattle.wast_fields.specs.ElemViews.{elements_tree, defined_table}
-use Rattle.wast_fields.specs.ElemViews as elems
-use Rattle.wast_fields.specs.declared.func.FuncKind.{FuncKind}
-use Rattle.wast_fields.specs.declared.func.FuncKind.TheVariants as funcs
-use Rattle.wast_fields.specs.declared.global.GlobalKind.{GlobalKind}
-use Rattle.wast_fields.specs.declared.global.GlobalKind.TheVariants as globals
-use Rattle.wast_fields.specs.declared.tag.TagKind.{TagKind}
-use Rattle.wast_fields.specs.declared.tag.TagKind.TheVariants as tags
-use Rattle.wast_fields.specs.declared.memory.MemoryKind.{MemoryKind}
-use Rattle.wast_fields.specs.declared.memory.MemoryKind.TheVariants as memories
-use Rattle.wast_fields.specs.declared.table.TableKind.{TableKind}
-use Rattle.wast_fields.specs.declared.table.TableKind.TheVariants as tables
-use Rattle.wast_fields.specs.declared.data.DataKind.{DataKind}
-use Rattle.wast_fields.specs.declared.data.DataKind.TheVariants as data_modes
-use Rattle.wast_fields.specs.declared.elem.ElemKind.{ElemKind}
-use Rattle.wast_fields.specs.declared.elem.ElemKind.TheVariants as elem_modes
-use Rattle.wast_fields.specs.declared.elem.ElemPayload.{ElemPayload}
-use Rattle.wast_fields.specs.declared.elem.ElemPayload.TheVariants as payloads
-use Rattle.wast_core.specs.ModuleViews.{field_tree}
-use Rattle.wast_core.specs.declared.field.ModuleField.{ModuleField}
-use Rattle.wast_core.specs.declared.field.ModuleField.TheVariants as fields
+use Rattle.wast_module_fields.specs.FuncViews.{defined_tag, defined_global, defined_func}
+use Rattle.wast_module_fields.specs.MemoryViews.{defined_memory, mode_tree}
+use Rattle.wast_module_fields.specs.ElemViews.{elements_tree, defined_table}
+use Rattle.wast_module_fields.specs.ElemViews as elems
+use Rattle.wast_module_fields.specs.FuncKind.{FuncKind}
+use Rattle.wast_module_fields.specs.FuncKind.TheVariants as funcs
+use Rattle.wast_module_fields.specs.GlobalKind.{GlobalKind}
+use Rattle.wast_module_fields.specs.GlobalKind.TheVariants as globals
+use Rattle.wast_module_fields.specs.TagKind.{TagKind}
+use Rattle.wast_module_fields.specs.TagKind.TheVariants as tags
+use Rattle.wast_module_fields.specs.MemoryKind.{MemoryKind}
+use Rattle.wast_module_fields.specs.MemoryKind.TheVariants as memories
+use Rattle.wast_module_fields.specs.TableKind.{TableKind}
+use Rattle.wast_module_fields.specs.TableKind.TheVariants as tables
+use Rattle.wast_module_fields.specs.DataKind.{DataKind}
+use Rattle.wast_module_fields.specs.DataKind.TheVariants as data_modes
+use Rattle.wast_module_fields.specs.ElemKind.{ElemKind}
+use Rattle.wast_module_fields.specs.ElemKind.TheVariants as elem_modes
+use Rattle.wast_module_fields.specs.ElemPayload.{ElemPayload}
+use Rattle.wast_module_fields.specs.ElemPayload.TheVariants as payloads
+use Rattle.wast_module_fields.specs.ModuleFieldViews.{field_tree}
+use Rattle.wast_module_fields.specs.declared.field.ModuleField.{ModuleField}
+use Rattle.wast_module_fields.specs.declared.field.ModuleField.TheVariants as fields
 use Rattle.wast_resolve_laws.proofs.Taking.{both}
 use Rattle.wast_encode_laws.specs.Orderings.{is_ordered, all_instrs, elements_instrs, defined_instrs, elem_mode_instrs, data_mode_instrs, field_instrs, are_ordered}
 

@@ -4,7 +4,7 @@ use Rattle.std.specs.Prelude.{◌≤◌, ◌^◌, Bool, List, length, map, All, 
 use Rattle.std.specs.List.{flat_map}
 use Rattle.wasm_encoder_base.specs.Table as text
 use Rattle.wasm_encoder_custom.specs.Names as binary
-use Rattle.wast_fields.specs.FieldTree.{Function, Field}
+use Rattle.wast_module_fields.specs.FieldTree.{Function, Field}
 use Rattle.wast_meaning.specs.Spaces.{items_in}
 use Rattle.wast_meaning.specs.Implied.{written_types, func_sig}
 use Rattle.wast_meaning.specs.Scope.{scope_of}

@@ -4,7 +4,7 @@ use Rattle.std.specs.Prelude.{ℕ, ◌+◌, ◌<◌, ◌≤◌, List, [], ◌∷
 use Rattle.wasm_encoder_base.specs.Balanced.{IsBalanced}
 use Rattle.wast_expressions.specs.Items.{Hint}
 use Rattle.wast_core_instr.specs.InstructionTree.{Instruction}
-use Rattle.wast_fields.specs.FieldTree.{Expr, Elements, Indices, Expressions, Defined, Func, Table, TableOf, Global, ElemMode, ActiveElem, DataMode, ActiveData, Field, Define, ElemField, DataField}
+use Rattle.wast_module_fields.specs.FieldTree.{Expr, Elements, Indices, Expressions, Defined, Func, Table, TableOf, Global, ElemMode, ActiveElem, DataMode, ActiveData, Field, Define, ElemField, DataField}
 use Rattle.wast_conversions.specs.Operands.{OperandsAligned}
 use Rattle.wast_conversions.specs.Resolved.{IfThere}
 use Rattle.wast_meant.specs.FieldsMeant.{expr_meant}

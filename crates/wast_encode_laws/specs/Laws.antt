@@ -5,9 +5,9 @@ use Rattle.wast_grammar.specs.Tokens.{Name}
 use Rattle.wast_grammar.specs.Spelling.{same_name}
 use Rattle.wast_names.specs.Walk.{first_unmet}
 use Rattle.wast_names.specs.Demand.{is_met}
-use Rattle.wast_fields.specs.FieldTree.{Field}
-use Rattle.wast_core.specs.ModuleViews.{field_tree}
-use Rattle.wast_core.specs.declared.field.ModuleField.{ModuleField}
+use Rattle.wast_module_fields.specs.FieldTree.{Field}
+use Rattle.wast_module_fields.specs.ModuleFieldViews.{field_tree}
+use Rattle.wast_module_fields.specs.declared.field.ModuleField.{ModuleField}
 use Rattle.wast_meaning.specs.Demands.{all_demands}
 use Rattle.wast_meaning.specs.Numbered.{resolved}
 use Rattle.wast_meaning.specs.WellFormed.{breaches}

@@ -2,7 +2,7 @@
 use Rattle.std.specs.Prelude.{Bool, true, false, List, [], ◌++◌, option_to_list}
 use Rattle.std.specs.List.{flat_map, list_all}
 use Rattle.wast_core_instr.specs.InstructionTree.{Operands, NoOperands, One, Two, Optional, Ordered, Instruction}
-use Rattle.wast_fields.specs.FieldTree.{Expr, Elements, Indices, Expressions, Defined, Func, Table, TableOf, Global, ElemMode, ActiveElem, DataMode, ActiveData, Field, Define, ElemField, DataField}
+use Rattle.wast_module_fields.specs.FieldTree.{Expr, Elements, Indices, Expressions, Defined, Func, Table, TableOf, Global, ElemMode, ActiveElem, DataMode, ActiveData, Field, Define, ElemField, DataField}
 
 module _ {N P : Type 0} where
   abbrev pub are_indices : Operands N P → Bool

@@ -2,7 +2,7 @@
 -- short block (WebAssembly 3.0, 6.1.3 and 6.6).
 use Rattle.std.specs.Prelude.{◌≡◌, [], All}
 use Rattle.wast_imports.specs.ImportTree.{ImportItems, Single, Group1, Group2}
-use Rattle.wast_fields.specs.FieldTree.{Expr, Function, Elements, Indices, Expressions, Defined, Imported, Func, Table, TableOf, Memory, MemoryOf, Global, Tag, ElemMode, PassiveElem, DeclaredElem, ActiveElem, DataMode, PassiveData, ActiveData, Field, TypeField, RecField, ImportField, Define, ExportField, StartField, ElemField, DataField, CustomField}
+use Rattle.wast_module_fields.specs.FieldTree.{Expr, Function, Elements, Indices, Expressions, Defined, Imported, Func, Table, TableOf, Memory, MemoryOf, Global, Tag, ElemMode, PassiveElem, DeclaredElem, ActiveElem, DataMode, PassiveData, ActiveData, Field, TypeField, RecField, ImportField, Define, ExportField, StartField, ElemField, DataField, CustomField}
 use Rattle.wast_conversions.specs.Resolved.{IfThere, IsNumber, RefResolved, ValResolved, TypeResolved, UseResolved, ExternResolved, InstrsResolved}
 
 module _ {N P : Type 0} where

@@ -3,13 +3,14 @@ use Rattle.std.proofs.Common.{◌≡◌, ℕ, Bool, true, false, List, [], ◌�
 use Rattle.wast_grammar.specs.Tokens.{Name, Open, Close, Id, Word, Mark, Integer, Float, Text, Reserved, Broken}
 use Rattle.wast_grammar.specs.Significant.{TextToken}
 use Rattle.wast_grammar.specs.Spelling.{◌>>=◌}
-use Rattle.wast_grammar.specs.Look.{On, AClose, AWord, AMark, AFault, Any, This, OneOf, Opening, Look, Test, Texts, first, look, holds, any_fits, at, join, faults, ask, unders}
-use Rattle.wast_grammar.specs.Grammar.{mark, string, only, seq}
+use Rattle.wast_grammar.specs.Look.{On, AWord, AMark, AFault, Any, This, OneOf, Opening, Look, Test, Texts, first, look, holds, any_fits, at, join, faults, ask, unders}
+use Rattle.wast_grammar.specs.Grammar.{mark, maybe, string, only, seq}
 use Rattle.wast_grammar.specs.Lawful.{Lawful, Leads}
 use Rattle.wast_grammar.proofs.Looks.{absurd_of, first_deep, apart_no2, asked, answered, in_join, join_left, join_right}
 use Rattle.wast_grammar.proofs.GrammarLaws.{words_laws, mark_laws, string_laws, only_laws, seq_laws}
 use Rattle.wast_grammar.proofs.LeadLaws.{LooksSpelled, spelled_seen, seen_leads, next_leads, mark_leads, paren_leads}
 use Rattle.wast_parser_core.specs.State.{past}
+use Rattle.wast_parser_core.specs.Openings.{group_here}
 use Rattle.wast_expressions.specs.Expressions.{Heads, hint_mark, hint_tests, hint_body, hint, is_hint, hint_value, ins_tests, group_tests, item_tests}
 use Rattle.wast_expressions.specs.Views.{any_word}
 use Rattle.wast_expressions.proofs.ExpressionLaws.{hint_body_laws}
@@ -92,16 +93,47 @@ open_stands (Text s p ∷ us) e = cc
 open_stands (Reserved w p ∷ us) e = cc
 open_stands (Broken ∷ us) e = cc
 
+-- a group that is no annotation's
+pub group_opens : (ts : List TextToken) → group_here ts ≡ true → ask (Opening ∷ []) ts ≡ Some true
+group_opens [] e = cc
+group_opens (Open p ∷ us) e = rw (first_deep true us) refl
+group_opens (Close p ∷ us) e = cc
+group_opens (Id n p ∷ us) e = cc
+group_opens (Word w p ∷ us) e = cc
+group_opens (Mark w p ∷ us) e = cc
+group_opens (Integer n w p ∷ us) e = cc
+group_opens (Float w p ∷ us) e = cc
+group_opens (Text s p ∷ us) e = cc
+group_opens (Reserved w p ∷ us) e = cc
+group_opens (Broken ∷ us) e = cc
+
+-- bears no hint
+pub group_unhinted : (ts : List TextToken) → group_here ts ≡ true → (maybe hint_tests hint).reads ts ≡ Some (None, ts)
+group_unhinted [] e = cc
+group_unhinted (Open p ∷ []) e = refl
+group_unhinted (Open p ∷ Open q ∷ us) e = refl
+group_unhinted (Open p ∷ Close q ∷ us) e = refl
+group_unhinted (Open p ∷ Id n q ∷ us) e = refl
+group_unhinted (Open p ∷ Word w q ∷ us) e = refl
+group_unhinted (Open p ∷ Mark w q ∷ us) e = cc
+group_unhinted (Open p ∷ Integer n w q ∷ us) e = refl
+group_unhinted (Open p ∷ Float w q ∷ us) e = refl
+group_unhinted (Open p ∷ Text s q ∷ us) e = refl
+group_unhinted (Open p ∷ Reserved w q ∷ us) e = refl
+group_unhinted (Open p ∷ Broken ∷ us) e = cc
+group_unhinted (Close p ∷ us) e = cc
+group_unhinted (Id n p ∷ us) e = cc
+group_unhinted (Word w p ∷ us) e = cc
+group_unhinted (Mark w p ∷ us) e = cc
+group_unhinted (Integer n w p ∷ us) e = cc
+group_unhinted (Float w p ∷ us) e = cc
+group_unhinted (Text s p ∷ us) e = cc
+group_unhinted (Reserved w p ∷ us) e = cc
+group_unhinted (Broken ∷ us) e = cc
+
 -- BEHIND A PARENTHESIS
 pub is_opening : {X : Type 0} (p : ℕ) (us : List TextToken) (b : Option Bool) → ask (Opening ∷ []) (Open p ∷ us) ≡ b → (b ≡ Some true → X) → X
 is_opening p us b e f = f (sym e ∙ rw (first_deep true us) refl)
-
--- a parenthesis that closes
-abbrev pub closing_tests : List Test
-closing_tests = On false AClose Any ∷ []
-
-pub is_closing : {X : Type 0} (p : ℕ) (us : List TextToken) (b : Option Bool) → ask closing_tests (Open p ∷ us) ≡ b → (b ≡ Some false → X) → X
-is_closing p us b e f = f (sym e ∙ rw (first_deep true us) refl)
 
 module _ (t : Texts) where
   abbrev in_front : List Test

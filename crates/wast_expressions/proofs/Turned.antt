@@ -6,7 +6,7 @@ use Rattle.std.proofs.lemmas.List.{map-append}
 use Rattle.wast_grammar.specs.Tokens.{Name, Open, Close, Id, Word, Mark, Integer, Float, Text, Reserved, Broken}
 use Rattle.wast_grammar.specs.Significant.{TextToken}
 use Rattle.wast_grammar.specs.Spelling.{◌>>=◌, that_open, that_close, that_one}
-use Rattle.wast_grammar.specs.Look.{On, AFault, Any, Opening, NotEnd, at, ask}
+use Rattle.wast_grammar.specs.Look.{Opening, NotEnd, at, ask}
 use Rattle.wast_grammar.specs.Grammar.{Syntax, maybe, one_of}
 use Rattle.wast_grammar.specs.Lawful.{LawfulBut}
 use Rattle.wast_grammar.proofs.BehindLaws.{opens_on}
@@ -14,17 +14,18 @@ use Rattle.wast_grammar.proofs.Looks.{absurd_of, first_deep}
 use Rattle.wast_parser_base.specs.Problem.{Problem}
 use Rattle.wast_parser_core.specs.State.{State, ahead, Keeps}
 use Rattle.wast_parser_core.specs.Reading.{Refuses, out_of_memory, ends_here}
+use Rattle.wast_parser_core.specs.Openings.{opens_here, closes_here}
 use Rattle.wast_expressions.specs.Items.{Made, either_hint, expression_of, hint_at, hints_from}
 use Rattle.wast_expressions.specs.Expressions.{Heads, hint_tests, hint, ins_tests, group_tests, item_tests, one_ins}
 use Rattle.wast_expressions.specs.Machine as machine
 use Rattle.wast_expressions.specs.Machine.{Reach, Here, More, step, done, none_open, both_hints, open_group, plain_item, one_item, close_level, close_items, row_turn, then_turn, else_turn, turn}
-use Rattle.wast_expressions.specs.Partial.{Partial, expression}
+use Rattle.wast_expressions.specs.Partial.{Partial, expression, takes_items}
 use Rattle.wast_expressions.specs.declared.stack.Instructions.{Instructions}
 use Rattle.wast_expressions.specs.declared.stack.Level.{Level}
 use Rattle.wast_expressions.specs.declared.stack.Level.TheVariants as levels
 use Rattle.wast_expressions.specs.Views.{here, instructions_tree, level_tree, levels_tree, out_tree, Turns, arm_word}
 use Rattle.wast_expressions.proofs.ReadLaws.{bind_bind}
-use Rattle.wast_expressions.proofs.Peeks.{closing_tests, no_token, fault_stands, open_stands, is_opening, is_closing, item_word, item_other}
+use Rattle.wast_expressions.proofs.Peeks.{no_token, fault_stands, open_stands, is_opening, item_word, item_other}
 
 pub on_ok : {X E P Q : Type 0} (r : Result X E) → (P → Q) → OnOk r P → OnOk r Q
 on_ok (Ok x) f p = f p
@@ -182,7 +183,7 @@ module _ {I T : Type 0} (tree : I → T) (ins : Syntax Name ℕ T) (heads : Head
     behind_row p (Broken ∷ ts) = refl
 
     -- where no group closes: an item, or nothing
-    pub item_row : (ts : List TextToken) → ask closing_tests ts ≡ Some false → one ts ≡ in_row ts
+    pub item_row : (ts : List TextToken) → closes_here ts ≡ false → one ts ≡ in_row ts
     item_row [] e = row_not [] refl refl refl
     item_row (Open p ∷ ts) e = behind_row p ts
     item_row (Close p ∷ ts) e = cc
@@ -193,40 +194,50 @@ module _ {I T : Type 0} (tree : I → T) (ins : Syntax Name ℕ T) (heads : Head
     item_row (Float w p ∷ ts) e = row_not (Float w p ∷ ts) refl refl refl
     item_row (Text s p ∷ ts) e = row_not (Text s p ∷ ts) refl refl refl
     item_row (Reserved w p ∷ ts) e = row_not (Reserved w p ∷ ts) refl refl refl
-    item_row (Broken ∷ ts) e = cc
+    item_row (Broken ∷ ts) e = refl
 
     -- where one opens: an item, or nothing
-    pub opened_row : (ts : List TextToken) → ask (Opening ∷ []) ts ≡ Some true → one ts ≡ in_row ts
-    opened_row ts e = let s = open_stands ts e in rw s.2 (behind_row s.0 s.1)
+    pub opened_row : (ts : List TextToken) → opens_here ts ≡ true → one ts ≡ in_row ts
+    opened_row [] e = cc
+    opened_row (Open p ∷ ts) e = behind_row p ts
+    opened_row (Close p ∷ ts) e = cc
+    opened_row (Id n p ∷ ts) e = cc
+    opened_row (Word w p ∷ ts) e = cc
+    opened_row (Mark w p ∷ ts) e = cc
+    opened_row (Integer n w p ∷ ts) e = cc
+    opened_row (Float w p ∷ ts) e = cc
+    opened_row (Text s p ∷ ts) e = cc
+    opened_row (Reserved w p ∷ ts) e = cc
+    opened_row (Broken ∷ ts) e = cc
 
   -- where no group is open and no parenthesis opens: an instruction, or nothing
-  pub plain_row : LawfulBut (one_ins ins heads) heads.own → (out : List (Option ℕ × T)) (ts : List TextToken) → ask (Opening ∷ []) ts ≡ Some false → plain_item ins heads m None [] out ts ≡ row_turn ins heads m [] out ts
+  pub plain_row : LawfulBut (one_ins ins heads) heads.own → (out : List (Option ℕ × T)) (ts : List TextToken) → opens_here ts ≡ false → plain_item ins heads m None [] out ts ≡ row_turn ins heads m [] out ts
   plain_row li out [] e = none_put li [] out None [] refl
-  plain_row li out (Open p ∷ ts) e = is_opening p ts (Some false) e (λ q. absurd (cc))
+  plain_row li out (Open p ∷ ts) e = cc
   plain_row li out (Close p ∷ ts) e = none_put li [] out None (Close p ∷ ts) refl
   plain_row li out (Id n p ∷ ts) e = none_put li [] out None (Id n p ∷ ts) refl
-  plain_row li out (Word w p ∷ ts) e = plain_led li [] out None (Word w p ∷ ts) e ∙ item_row li [] out (Word w p ∷ ts) refl
+  plain_row li out (Word w p ∷ ts) e = plain_led li [] out None (Word w p ∷ ts) refl ∙ item_row li [] out (Word w p ∷ ts) refl
   plain_row li out (Mark w p ∷ ts) e = none_put li [] out None (Mark w p ∷ ts) refl
   plain_row li out (Integer n w p ∷ ts) e = none_put li [] out None (Integer n w p ∷ ts) refl
   plain_row li out (Float w p ∷ ts) e = none_put li [] out None (Float w p ∷ ts) refl
   plain_row li out (Text s p ∷ ts) e = none_put li [] out None (Text s p ∷ ts) refl
   plain_row li out (Reserved w p ∷ ts) e = none_put li [] out None (Reserved w p ∷ ts) refl
-  plain_row li out (Broken ∷ ts) e = cc
+  plain_row li out (Broken ∷ ts) e = none_put li [] out None (Broken ∷ ts) refl
 
-  pub row_plain : (u : Partial I) (ts : List TextToken) → LawfulBut (one_ins ins heads) heads.own → u.stack ≡ [] → ask (Opening ∷ []) ts ≡ Some false → plain_item ins heads m None (levels_tree tree u.stack) (out_tree tree u.out) ts ≡ row_turn ins heads m (levels_tree tree u.stack) (out_tree tree u.out) ts
+  pub row_plain : (u : Partial I) (ts : List TextToken) → LawfulBut (one_ins ins heads) heads.own → u.stack ≡ [] → opens_here ts ≡ false → plain_item ins heads m None (levels_tree tree u.stack) (out_tree tree u.out) ts ≡ row_turn ins heads m (levels_tree tree u.stack) (out_tree tree u.out) ts
   row_plain u ts li e f =
       ap (λ st. plain_item ins heads m None (levels_tree tree st) (out_tree tree u.out) ts) e
       ∙ plain_row li (out_tree tree u.out) ts f
       ∙ sym (ap (λ st. row_turn ins heads m (levels_tree tree st) (out_tree tree u.out) ts) e)
 
   -- where a group is open: an item
-  pub row_item : (u w : Partial I) (l : Level I) (ts : List TextToken) → LawfulBut (one_ins ins heads) heads.own → w ≡ record u { stack = l ∷ u.stack } → ask closing_tests ts ≡ Some false → one_item ins heads m (levels_tree tree w.stack) (out_tree tree w.out) ts ≡ row_turn ins heads m (level_tree tree l ∷ levels_tree tree u.stack) (out_tree tree u.out) ts
+  pub row_item : (u w : Partial I) (l : Level I) (ts : List TextToken) → LawfulBut (one_ins ins heads) heads.own → w ≡ record u { stack = l ∷ u.stack } → closes_here ts ≡ false → one_item ins heads m (levels_tree tree w.stack) (out_tree tree w.out) ts ≡ row_turn ins heads m (level_tree tree l ∷ levels_tree tree u.stack) (out_tree tree u.out) ts
   row_item u w l ts li e f = ap (λ (z : Partial I). one_item ins heads m (levels_tree tree z.stack) (out_tree tree z.out) ts) e ∙ item_row li (level_tree tree l ∷ levels_tree tree u.stack) (out_tree tree u.out) ts f
 
   -- or its end
-  pub row_close : (l : machine.Level T) (st : List (machine.Level T)) (out : List (Option ℕ × T)) (ts : List TextToken) → ask closing_tests ts ≡ Some true → close_level ins heads m l st out ts ≡ row_turn ins heads m (l ∷ st) out ts
+  pub row_close : (l : machine.Level T) (st : List (machine.Level T)) (out : List (Option ℕ × T)) (ts : List TextToken) → closes_here ts ≡ true → close_level ins heads m l st out ts ≡ row_turn ins heads m (l ∷ st) out ts
   row_close l st out [] e = cc
-  row_close l st out (Open p ∷ ts) e = is_closing p ts (Some true) e (λ q. absurd (cc))
+  row_close l st out (Open p ∷ ts) e = cc
   row_close l st out (Close p ∷ ts) e = refl
   row_close l st out (Id n p ∷ ts) e = cc
   row_close l st out (Word w p ∷ ts) e = cc
@@ -237,15 +248,20 @@ module _ {I T : Type 0} (tree : I → T) (ins : Syntax Name ℕ T) (heads : Head
   row_close l st out (Reserved w p ∷ ts) e = cc
   row_close l st out (Broken ∷ ts) e = cc
 
-  -- where no token can be read no row goes on
-  pub row_fault : (st : List (machine.Level T)) (out : List (Option ℕ × T)) (ts : List TextToken) → at (On false AFault Any ∷ []) ts ≡ true → row_turn ins heads m st out ts ≡ None
-  row_fault st out ts e = let s = fault_stands ts e in rw s.1 refl
-
   -- a turn by what the stack waits for
   pub turn_top : (u v : Partial I) (k l : Level I) (ts : List TextToken) → u ≡ record v { stack = k ∷ v.stack } → k ≡ l → turn ins heads m (level_tree tree l ∷ levels_tree tree v.stack) (out_tree tree v.out) ts ≡ turn ins heads m (levels_tree tree u.stack) (out_tree tree u.out) ts
   turn_top u v k l ts e f =
       ap (λ z. turn ins heads m (level_tree tree z ∷ levels_tree tree v.stack) (out_tree tree v.out) ts) (sym f)
       ∙ sym (ap (λ (z : Partial I). turn ins heads m (levels_tree tree z.stack) (out_tree tree z.out) ts) e)
+
+  pub turn_items : (ls : List (Level I)) (out : List (Option ℕ × T)) (ts : List TextToken) → takes_items ls ≡ true → row_turn ins heads m (levels_tree tree ls) out ts ≡ turn ins heads m (levels_tree tree ls) out ts
+  turn_items [] out ts e = cc
+  turn_items (levels.EndWith h i ∷ ls) out ts e = refl
+  turn_items (levels.BlockEnd ∷ ls) out ts e = refl
+  turn_items (levels.Conditions h i ∷ ls) out ts e = cc
+  turn_items (levels.Arm ∷ ls) out ts e = refl
+  turn_items (levels.AfterThen ∷ ls) out ts e = cc
+  turn_items (levels.AfterElse ∷ ls) out ts e = cc
 
   pub turn_none : (u v : Partial I) (ts : List TextToken) → u.stack ≡ [] → v ≡ u → row_turn ins heads m (levels_tree tree v.stack) (out_tree tree v.out) ts ≡ turn ins heads m (levels_tree tree u.stack) (out_tree tree u.out) ts
   turn_none u v ts e f =

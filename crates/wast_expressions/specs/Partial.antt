@@ -1,7 +1,8 @@
 -- Instructions and groups that are open, as the code holds them.
-use Rattle.std.specs.Prelude.{ℕ, suc, if◌then◌else◌, List, [], ◌∷◌, map, Option, Some, None, nat_eq}
+use Rattle.std.specs.Prelude.{ℕ, suc, Bool, true, false, if◌then◌else◌, List, [], ◌∷◌, map, Option, Some, None, nat_eq}
 use Rattle.wast_expressions.specs.declared.hint.BranchHint.{BranchHint}
 use Rattle.wast_expressions.specs.declared.stack.Level.{Level}
+use Rattle.wast_expressions.specs.declared.stack.Level.TheVariants as levels
 use Rattle.wast_expressions.specs.declared.stack.Instructions.{Instructions}
 use Rattle.wast_expressions.specs.Items.{Hint, Expression}
 
@@ -9,6 +10,13 @@ use Rattle.wast_expressions.specs.Items.{Hint, Expression}
 pub record Partial (I : Type 0) : Type 0 where
   pub stack : List (Level I)
   pub out : List (Option ℕ × I)
+
+-- whether items stand in the innermost group
+abbrev pub takes_items : {I : Type 0} → List (Level I) → Bool
+takes_items (levels.EndWith hint instr ∷ ls) = true
+takes_items (levels.BlockEnd ∷ ls) = true
+takes_items (levels.Arm ∷ ls) = true
+takes_items _ = false
 
 abbrev pub hint_tree : BranchHint → Hint
 hint_tree h = record { index = h.instr_index; value = h.value }

@@ -14,7 +14,7 @@ use wast_parser::{Cursor, Error, Item, Meaning, Parse, Parser, Peek};
 
 /// A hint whether a branch is taken: the index of the instruction that bears it, among those of its expression, and its
 /// value, 0 or 1 where it is read.
-#[derive(Clone, Copy, Debug, PartialEq, Eq, Drop)]
+#[derive(Clone, Copy, PartialEq, Eq, Drop)]
 pub struct BranchHint {
     pub instr_index: u32,
     pub value: u32,

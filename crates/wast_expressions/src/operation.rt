@@ -15,7 +15,7 @@ ghost use Rattle.wast_expressions.specs.Views.{kind_of, made_as, obtained};
 use wast_parser::{Cursor, Error, Parser, Span};
 
 /// What a group is, by the instruction that heads it (6.5.10).
-#[derive(Clone, Copy, Debug, PartialEq, Eq, Drop)]
+#[derive(Clone, Copy, PartialEq, Eq, Drop)]
 pub enum GroupKind {
     /// Its items are operands, which stand before it when they are unfolded.
     Operands,
@@ -60,7 +60,7 @@ pub trait Operation: Sized + Drop {
 }
 
 /// Which instruction a group makes.
-#[derive(Clone, Copy, Debug, PartialEq, Eq, Drop)]
+#[derive(Clone, Copy, PartialEq, Eq, Drop)]
 pub enum MadeKind {
     /// The `else` before the second arm of an `if`.
     Else,
@@ -69,7 +69,7 @@ pub enum MadeKind {
 }
 
 /// Where an instruction comes from.
-#[derive(Clone, Copy, Debug, PartialEq, Eq, Drop)]
+#[derive(Clone, Copy, PartialEq, Eq, Drop)]
 pub enum Origin {
     /// It is written here.
     Written,

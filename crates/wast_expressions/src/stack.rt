@@ -2,7 +2,7 @@
 ghost use Rattle.std.specs.Prelude.{◌≡◌, ◌↔◌, [], ◌∷◌, ◌++◌, MatchOption, OnOk, IfErr, IsTrue};
 ghost use Rattle.wast_parser.specs.Reading.{out_of_memory};
 ghost use Rattle.wast_expressions.specs.Items.{expression_of};
-ghost use Rattle.wast_expressions.specs.Partial.{expression};
+ghost use Rattle.wast_expressions.specs.Partial.{expression, takes_items};
 
 use crate::hint::BranchHint;
 use std::alloc::Global;
@@ -67,6 +67,7 @@ impl<I: Drop> Unfolding<I> {
     }
 
     /// Opens a group.
+    #[inline(always)]
     pub(crate) fn open(&mut self, level: Level<I>) -> Result<(), Error>
         ensures opened { OnOk result (self.new ≡ record self.old { stack = level ∷ self.old.stack }) }
         ensures memory { IfErr result (λ e. e ≡ out_of_memory) }
@@ -78,10 +79,21 @@ impl<I: Drop> Unfolding<I> {
     }
 
     /// The innermost group, which is left.
+    #[inline(always)]
     pub(crate) fn leave(&mut self) -> Option<Level<I>>
         ensures { MatchOption result ((self.old.stack ≡ []) × (self.new ≡ self.old)) (λ l. self.old ≡ record self.new { stack = l ∷ self.new.stack }) }
     {
         self.levels.pop()
+    }
+
+    /// Whether items stand in the innermost group.
+    pub(crate) fn takes_items(&self) -> bool
+        ensures { result ≡ takes_items self.now.stack }
+    {
+        match self.levels.last() {
+            Some(Level::EndWith(_, _) | Level::BlockEnd | Level::Arm) => true,
+            _ => false,
+        }
     }
 
     /// Whether no group is open.
@@ -92,6 +104,7 @@ impl<I: Drop> Unfolding<I> {
     }
 
     /// Appends an instruction, with its hint. An index past 4294967295 is refused as want of memory.
+    #[inline(always)]
     pub(crate) fn push(&mut self, hint: Option<u32>, instr: I) -> Result<(), Error>
         ensures pushed { OnOk result (self.new ≡ record self.old { out = self.old.out ++ (hint, instr) ∷ [] }) }
         ensures memory { IfErr result (λ e. e ≡ out_of_memory) }

@@ -16,7 +16,7 @@ use crate::operation::{
 };
 use crate::stack::{Level, Unfolding};
 use crate::token::{close, open, open_word};
-use wast_parser::{Error, Keyword, LParen, Parser, RParen};
+use wast_parser::{Error, Keyword, LParen, Parser};
 
 /// One turn: an item is read, up to what its head opens, or what is open goes on or closes.
 pub(crate) fn turn<'a, I: ParseOperation<'a>>(
@@ -26,6 +26,27 @@ pub(crate) fn turn<'a, I: ParseOperation<'a>>(
     ensures gives { Turns result (turn I.syntax I.heads I.made (levels_tree I.tree work.old.stack) (out_tree I.tree work.old.out) (ahead parser.old)) (here I.tree work.new (ahead parser.new)) }
     ensures keeps { Keeps parser.old parser.new }
 {
+    if work.is_closed() {
+        items(work, parser)
+    } else {
+        turn_in_group(work, parser)
+    }
+}
+
+/// The same, where a group is open. A function of its own, so that where none is no room is made for one. An item leaves the group
+/// where it is.
+#[inline(never)]
+fn turn_in_group<'a, I: ParseOperation<'a>>(
+    work: &mut Unfolding<I>,
+    parser: &mut Parser<'a>,
+) -> Result<(), Error>
+    ensures gives { Turns result (turn I.syntax I.heads I.made (levels_tree I.tree work.old.stack) (out_tree I.tree work.old.out) (ahead parser.old)) (here I.tree work.new (ahead parser.new)) }
+    ensures keeps { Keeps parser.old parser.new }
+{
+    I::lawful();
+    if work.takes_items() && !parser.closes() {
+        return item(work, parser);
+    }
     match work.leave() {
         None => items(work, parser),
         Some(Level::EndWith(hint, instr)) => {
@@ -40,6 +61,7 @@ pub(crate) fn turn<'a, I: ParseOperation<'a>>(
 }
 
 /// Where no group is open: an item. What begins with no parenthesis is an instruction by itself, or none.
+#[inline(always)]
 fn items<'a, I: ParseOperation<'a>>(
     work: &mut Unfolding<I>,
     parser: &mut Parser<'a>,
@@ -49,14 +71,15 @@ fn items<'a, I: ParseOperation<'a>>(
     ensures keeps { Keeps parser.old parser.new }
 {
     I::lawful();
-    match parser.peek::<LParen>() {
-        Ok(true) => item(work, parser),
-        Ok(false) => plain(None, work, parser),
-        Err(e) => Err(e),
+    if parser.opens() {
+        item(work, parser)
+    } else {
+        plain(None, work, parser)
     }
 }
 
 /// Where a group is open: what closes it, or an item.
+#[inline(always)]
 fn items_within<'a, I: ParseOperation<'a>>(
     level: Level<I>,
     work: &mut Unfolding<I>,
@@ -66,17 +89,17 @@ fn items_within<'a, I: ParseOperation<'a>>(
     ensures keeps { Keeps parser.old parser.new }
 {
     I::lawful();
-    match parser.peek::<RParen>() {
-        Ok(true) => close_level(level, work, parser),
-        Ok(false) => match work.open(level) {
-            Ok(()) => item(work, parser),
-            Err(e) => Err(e),
-        },
+    if parser.closes() {
+        return close_level(level, work, parser);
+    }
+    match work.open(level) {
+        Ok(()) => item(work, parser),
         Err(e) => Err(e),
     }
 }
 
 /// An instruction by itself, or a group up to what its head opens, behind its hint.
+#[inline(always)]
 fn item<'a, I: ParseOperation<'a>>(
     work: &mut Unfolding<I>,
     parser: &mut Parser<'a>,
@@ -85,6 +108,9 @@ fn item<'a, I: ParseOperation<'a>>(
     ensures keeps { Keeps parser.old parser.new }
 {
     I::lawful();
+    if parser.opens_group() {
+        return group(None, work, parser);
+    }
     let hint = match hint(parser) {
         Ok(hint) => hint,
         Err(e) => return Err(e),
@@ -96,6 +122,7 @@ fn item<'a, I: ParseOperation<'a>>(
     }
 }
 
+#[inline(always)]
 fn plain<'a, I: ParseOperation<'a>>(
     hint: Option<u32>,
     work: &mut Unfolding<I>,
@@ -111,6 +138,7 @@ fn plain<'a, I: ParseOperation<'a>>(
 }
 
 /// A group, up to what its head opens.
+#[inline(always)]
 fn group<'a, I: ParseOperation<'a>>(
     hint: Option<u32>,
     work: &mut Unfolding<I>,
@@ -129,6 +157,7 @@ fn group<'a, I: ParseOperation<'a>>(
 }
 
 /// What the head of a group opens.
+#[inline(always)]
 fn head<I: Operation>(
     hint: Option<u32>,
     instr: I,
@@ -150,6 +179,7 @@ fn head<I: Operation>(
 }
 
 /// Where items stand no more: the end of what holds them.
+#[inline(always)]
 pub(crate) fn close_level<'a, I: ParseOperation<'a>>(
     level: Level<I>,
     work: &mut Unfolding<I>,
@@ -173,6 +203,7 @@ pub(crate) fn close_level<'a, I: ParseOperation<'a>>(
 }
 
 /// The end of a block or of an `if`.
+#[inline(always)]
 fn end<'a, I: ParseOperation<'a>>(
     work: &mut Unfolding<I>,
     parser: &mut Parser<'a>,

@@ -1,5 +1,3 @@
-pub mod Elements
-pub mod ExpressionLaws
-pub mod FieldLaws
-pub mod FieldLeads
-pub mod FieldSamples
+pub use Rattle.wast_field_syntax.proofs.ExpressionLaws
+pub use Rattle.wast_field_syntax.proofs.FieldLaws
+pub use Rattle.wast_field_syntax.proofs.FieldSamples

@@ -5,37 +5,12 @@
 //! an `InlineImport` of `wast_exports`, or has its contents inline; nothing is written out: `(memory (data "x"))` stays one field.
 //! [`Elem`] and [`Data`] are segments. Names aren't resolved.
 //!
-//! # What has to be believed
-//!
-//! | File of `specs/` | Says |
-//! |---|---|
-//! | `FieldTree` | all fields, and modules, as trees |
-//! | `DefinitionSyntax` | what fields that define something have in common; the expressions in fields |
-//! | `FuncSyntax`, `TableSyntax`, `ElemSyntax`, `DataSyntax` | the productions |
-//! | `FieldViews`, `ElemViews` | which tree each Rust type is |
+//! The parts: `wast_field_syntax` (trees and productions), `wast_func_fields`, `wast_memory_fields` and `wast_table_fields`.
 #![tactic(auto)]
 
-mod data;
-mod elem;
-mod element;
-mod func;
-mod global;
-pub mod keyword;
-pub mod laws;
-mod list;
-mod local;
-mod look;
-mod memory;
-mod segment;
-mod sizes;
-mod table;
-mod tag;
-
-pub use data::{Data, DataKind};
-pub use elem::{Elem, ElemKind, ElemPayload};
-pub use func::{Func, FuncKind};
-pub use global::{Global, GlobalKind};
-pub use local::{Local, LocalParser};
-pub use memory::{Memory, MemoryKind};
-pub use table::{Table, TableKind};
-pub use tag::{Tag, TagKind};
+pub use wast_field_syntax::keyword;
+pub use wast_func_fields::{
+    Func, FuncKind, Global, GlobalKind, Local, LocalParser, Tag, TagKind, laws,
+};
+pub use wast_memory_fields::{Data, DataKind, Memory, MemoryKind};
+pub use wast_table_fields::{Elem, ElemKind, ElemPayload, Table, TableKind};

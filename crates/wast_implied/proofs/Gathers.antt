@@ -6,8 +6,8 @@ use Rattle.std.specs.Option.{option_or}
 use Rattle.std.proofs.lemmas.List.{append-nil, map-append, length-map, length-append}
 use Rattle.wast_grammar.specs.Tokens.{Name}
 use Rattle.wast_parser.specs.Spelling.{same_name}
-use Rattle.wast_core_types.specs.TypeTree.{Sig, TypeItem}
-use Rattle.wast_fields.specs.FieldTree.{Field}
+use Rattle.wast_signatures.specs.TypeTree.{Sig, TypeItem}
+use Rattle.wast_module_fields.specs.FieldTree.{Field}
 use Rattle.wast_names.specs.Walk.{reached}
 use Rattle.wast_names.specs.Position.{bears}
 use Rattle.wast_names.specs.Space.{Space, empty, grown}

@@ -2,10 +2,10 @@
 use Rattle.std.proofs.Common.{◌≡◌, ℕ, Bool, true, false, List, [], ◌∷◌, Option, Some, None, is_some, refl, sym, ap}
 use Rattle.std.specs.List.{flat_map}
 use Rattle.wast_grammar.specs.Tokens.{Name}
-use Rattle.wast_core_types.specs.TypeTree as types
-use Rattle.wast_core_types.specs.TypeViews.{use_tree}
-use Rattle.wast_core_types.specs.declared.signature.FunctionType.{FunctionType}
-use Rattle.wast_core_types.specs.declared.type_use.TypeUse.{TypeUse}
+use Rattle.wast_signatures.specs.TypeTree as types
+use Rattle.wast_signatures.specs.SignatureViews.{use_tree}
+use Rattle.wast_signatures.specs.declared.signature.FunctionType.{FunctionType}
+use Rattle.wast_signatures.specs.declared.type_use.TypeUse.{TypeUse}
 use Rattle.wast_typed_operands.specs.TypedViews.{try_table_tree}
 use Rattle.wast_core_instr.specs.InstructionViews.{bulk_operands, gc_operands, vector_arg_operands, proposal_operands, instruction_operands, instruction_tree}
 use Rattle.wast_core_instr.specs.declared.instruction.Instruction.{Instruction}
@@ -20,11 +20,12 @@ use Rattle.wast_core_instr.specs.declared.proposal.ProposalOp.{ProposalOp}
 use Rattle.wast_core_instr.specs.declared.proposal.ProposalOp.TheVariants as proposals
 use Rattle.wast_imports.specs.ImportViews.{tag_tree}
 use Rattle.wast_imports.specs.declared.item.TagType.{TagType}
-use Rattle.wast_fields.specs.FieldViews.{defined_memory, defined_tag, func_type_tree}
-use Rattle.wast_fields.specs.declared.memory.MemoryKind.{MemoryKind}
-use Rattle.wast_fields.specs.declared.memory.MemoryKind.TheVariants as memories
-use Rattle.wast_fields.specs.declared.tag.TagKind.{TagKind}
-use Rattle.wast_fields.specs.declared.tag.TagKind.TheVariants as tags
+use Rattle.wast_module_fields.specs.MemoryViews.{defined_memory}
+use Rattle.wast_module_fields.specs.FuncViews.{defined_tag, func_type_tree}
+use Rattle.wast_module_fields.specs.MemoryKind.{MemoryKind}
+use Rattle.wast_module_fields.specs.MemoryKind.TheVariants as memories
+use Rattle.wast_module_fields.specs.TagKind.{TagKind}
+use Rattle.wast_module_fields.specs.TagKind.TheVariants as tags
 use Rattle.wast_meaning.specs.Mentions.{Mention, Uses, UsesInBlock, says, syntax_of, extern_mentions, defined_parts, instr_mentions, part_mentions}
 use Rattle.wast_meaning.specs.Implied.{is_short}
 use Rattle.wast_implied.specs.Shapes.{shape}

@@ -2,10 +2,10 @@
 use Rattle.std.proofs.Common.{◌≡◌, [], refl, ap}
 use Rattle.std.specs.List.{flat_map}
 use Rattle.wast_core_types.specs.TypeViews.{item_tree, rec_tree}
-use Rattle.wast_core.specs.ModuleViews.{field_tree}
-use Rattle.wast_core.specs.declared.field.ModuleField.{ModuleField}
-use Rattle.wast_core.specs.declared.field.ModuleField.TheVariants as fields
-use Rattle.wast_fields.specs.FieldTree.{field_place}
+use Rattle.wast_module_fields.specs.ModuleFieldViews.{field_tree}
+use Rattle.wast_module_fields.specs.declared.field.ModuleField.{ModuleField}
+use Rattle.wast_module_fields.specs.declared.field.ModuleField.TheVariants as fields
+use Rattle.wast_module_fields.specs.FieldTree.{field_place}
 use Rattle.wast_meaning.specs.Mentions.{type_mentions, field_mentions}
 use Rattle.wast_implied.specs.Known.{Known, after_field, after_written_field}
 use Rattle.wast_implied.proofs.Quiet.{used, quiet_type, quiet_types, quiet_said}

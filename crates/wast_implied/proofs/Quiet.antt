@@ -7,13 +7,13 @@ use Rattle.std.proofs.lemmas.List.Concat.{flat_map-append}
 use Rattle.wasm_encoder_base.specs.Table.{OperandSyntax, Space, Fields, Labels, Types}
 use Rattle.wast_parser.specs.Identifiers.{Reference}
 use Rattle.wast_value_types.specs.ValueTree.{HeapType, Abstract, Concrete, Exact, ValType, Number, Ref, StorageType, Packed, Value}
-use Rattle.wast_core_types.specs.TypeTree.{Local, Sig, InnerType, FuncType, StructType, ArrayType, ContType, TypeItem}
+use Rattle.wast_signatures.specs.TypeTree.{Local, Sig, InnerType, FuncType, StructType, ArrayType, ContType, TypeItem}
 use Rattle.wast_operands.specs.OperandTree.{MemArg, MemArgTarget, Handle, OnLabel, OnSwitch}
 use Rattle.wast_operands.specs.OperandTree as operand
 use Rattle.wast_typed_operands.specs.TypedTree.{Catch, CatchTag, CatchTagRef, CatchAll, CatchAllRef}
 use Rattle.wast_core_instr.specs.InstructionTree.{Operands}
 use Rattle.wast_core_instr.specs.InstructionTree as instr
-use Rattle.wast_fields.specs.FieldTree.{Expr, Function}
+use Rattle.wast_module_fields.specs.FieldTree.{Expr, Function}
 use Rattle.wast_meaning.specs.Mentions.{Mention, Refers, Repeats, UsesInBlock, Part, Constant, Body, says, refers_if, heap_mentions, ref_mentions, val_mentions, storage_mentions, local_mentions, inner_mentions, type_mentions, second_space, second_mention, first_space, catch_mentions, handle_mentions, mem_arg_mentions, target_mention, operand_mentions, expr_mentions, part_mentions}
 use Rattle.wast_meaning.specs.Implied.{sig_of_use, sig_of_mention}
 

@@ -7,7 +7,7 @@ use Rattle.wast_grammar.specs.Tokens.{Name}
 use Rattle.wast_parser.specs.Spelling.{same_name}
 use Rattle.wast_parser.specs.Identifiers.{Reference, ByNumber, ByName}
 use Rattle.wast_value_types.specs.ValueTree.{HeapType, Abstract, Concrete, Exact, ValType, Number, Ref}
-use Rattle.wast_core_types.specs.TypeTree.{Local, Sig}
+use Rattle.wast_signatures.specs.TypeTree.{Local, Sig}
 use Rattle.wast_names.proofs.Order.{alike_names}
 use Rattle.wast_meaning.specs.Implied.{same_flag, same_written, same_heap, same_val, same_local, same_sig, unnamed, unnamed_local}
 use Rattle.wast_implied.specs.Shapes.{Unplaced, ValueShape, OfNumber, OfWord, OfIndex, Shape, same_value, same_shape, index_shape, heap_shape, value_shape, shape}

@@ -4,7 +4,7 @@ use Rattle.std.specs.List.{flat_map}
 use Rattle.std.proofs.lemmas.List.{map-append, take_all}
 use Rattle.std.proofs.lemmas.List.Concat.{flat_map-append}
 use Rattle.wast_grammar.specs.Tokens.{Name}
-use Rattle.wast_core_types.specs.TypeTree.{Sig}
+use Rattle.wast_signatures.specs.TypeTree.{Sig}
 use Rattle.wast_names.specs.Walk.{reached}
 use Rattle.wast_names.proofs.Walk.{reached_append, reached_more}
 use Rattle.wast_meaning.specs.Mentions.{Mention}

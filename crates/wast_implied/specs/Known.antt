@@ -2,10 +2,10 @@
 use Rattle.std.specs.Prelude.{ℕ, Bool, List, [], ◌∷◌, ◌++◌, map, Option, Some, None, option_map}
 use Rattle.std.specs.List.{flat_map}
 use Rattle.wast_grammar.specs.Tokens.{Name}
-use Rattle.wast_core_types.specs.TypeTree.{Sig, TypeItem}
+use Rattle.wast_signatures.specs.TypeTree.{Sig, TypeItem}
 use Rattle.wast_names.specs.Walk.{reached}
 use Rattle.wast_names.specs.Space.{Space, empty, grown}
-use Rattle.wast_fields.specs.FieldTree.{Field, field_place}
+use Rattle.wast_module_fields.specs.FieldTree.{Field, field_place}
 use Rattle.wast_meaning.specs.Mentions.{Mention, field_mentions}
 use Rattle.wast_meaning.specs.Implied.{unnamed, plain_sig, written_types, sig_of_mention}
 use Rattle.wast_implied.specs.Shapes.{Shape, same_shape, shape}

@@ -5,7 +5,7 @@ use Rattle.wast_grammar.specs.Tokens.{Name}
 use Rattle.wast_parser.specs.Spelling.{same_name}
 use Rattle.wast_parser.specs.Identifiers.{Reference, ByNumber, ByName}
 use Rattle.wast_value_types.specs.ValueTree.{HeapType, Abstract, Concrete, Exact, ValType, Number, Ref}
-use Rattle.wast_core_types.specs.TypeTree.{Sig}
+use Rattle.wast_signatures.specs.TypeTree.{Sig}
 use Rattle.wast_meaning.specs.Implied.{number_code, word_code, same_flag, same_written}
 use Rattle.wast_implied.specs.declared.key.IndexKey.{IndexKey}
 use Rattle.wast_implied.specs.declared.key.IndexKey.TheVariants as indices

@@ -2,8 +2,8 @@
 use Rattle.std.specs.Prelude.{ℕ, map}
 use Rattle.std.specs.Map.{lookup}
 use Rattle.wast_grammar.specs.Tokens.{Name}
-use Rattle.wast_core_types.specs.TypeTree.{Sig}
-use Rattle.wast_core_types.specs.TypeViews.{sig_tree}
+use Rattle.wast_signatures.specs.TypeTree.{Sig}
+use Rattle.wast_signatures.specs.SignatureViews.{sig_tree}
 use Rattle.wast_implied.specs.Shapes.{same_shape, shape_of_key}
 use Rattle.wast_implied.specs.Known.{Known}
 use Rattle.wast_implied.specs.declared.gathered.ImpliedType.{ImpliedType}

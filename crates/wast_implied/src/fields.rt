@@ -2,9 +2,9 @@
 ghost use Rattle.std.specs.Prelude.{◌≡◌, ℕ, map, IfOk, OnOk};
 ghost use Rattle.wast_grammar.specs.Tokens.{Name};
 ghost use Rattle.wast_parser.specs.Spelling.{same_name};
-ghost use Rattle.wast_core_types.specs.TypeTree.{Sig};
+ghost use Rattle.wast_signatures.specs.TypeTree.{Sig};
 ghost use Rattle.wast_names.specs.Walk.{reached};
-ghost use Rattle.wast_core.specs.ModuleViews.{field_tree};
+ghost use Rattle.wast_module_fields.specs.ModuleFieldViews.{field_tree};
 ghost use Rattle.wast_meaning.specs.Implied.{implied, type_count, type_taken};
 ghost use Rattle.wast_implied.specs.Shapes.{shape};
 ghost use Rattle.wast_implied.specs.Known.{after_field, after_written_field};
@@ -12,7 +12,7 @@ ghost use Rattle.wast_implied.specs.Views.{known};
 
 use crate::gathered::Implied;
 use std::alloc::{AllocError, Global};
-use wast_core::ModuleField;
+use wast_module_fields::ModuleField;
 
 impl<'a> Implied<'a> {
     /// Those of these fields. Fails only where no memory is found, or there are more than 4294967295 types, which is told as that.

@@ -1,6 +1,7 @@
 //! Gathering.
 ghost use Rattle.std.specs.Prelude.{◌≡◌, ◌-◌, ◌^◌, ◌<◌, [], ◌∷◌, true, None, Some, map, option_map, unwrap_or, IfOk, OnOk};
-ghost use Rattle.wast_core_types.specs.TypeViews.{item_tree, param_tree, sig_tree, use_tree};
+ghost use Rattle.wast_signatures.specs.SignatureViews.{param_tree, sig_tree, use_tree};
+ghost use Rattle.wast_core_types.specs.TypeViews.{item_tree};
 ghost use Rattle.wast_names.specs.Walk.{reached};
 ghost use Rattle.wast_meaning.specs.Mentions.{Uses, UsesInBlock};
 ghost use Rattle.wast_names.specs.Space.{grown};
@@ -12,8 +13,9 @@ ghost use Rattle.wast_implied.specs.Views.{implied_tree, known};
 use crate::key::Key;
 use std::alloc::{AllocError, Global};
 use std::collections::BTreeMap;
-use wast_core_types::{FunctionType, InnerTypeKind, Param, TypeItem, TypeUse};
+use wast_core_types::{InnerTypeKind, TypeItem};
 use wast_parser::Span;
+use wast_signatures::{FunctionType, Param, TypeUse};
 use wast_value_types::ValType;
 
 /// A type that no field writes and a use implies.

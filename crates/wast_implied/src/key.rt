@@ -2,13 +2,13 @@
 ghost use Rattle.std.specs.Prelude.{◌≡◌, map, IfOk};
 ghost use Rattle.wast_parser.specs.Identifiers.{index_tree};
 ghost use Rattle.wast_value_types.specs.ValueViews.{heap_word, heap_tree, val_tree};
-ghost use Rattle.wast_core_types.specs.TypeViews.{param_tree, sig_tree};
+ghost use Rattle.wast_signatures.specs.SignatureViews.{param_tree, sig_tree};
 ghost use Rattle.wast_meaning.specs.Implied.{word_code};
 ghost use Rattle.wast_implied.specs.Shapes.{heap_shape, index_of_key, index_shape, shape, shape_of_key, value_of_key, value_shape};
 
 use std::alloc::{AllocError, Global};
-use wast_core_types::{FunctionType, Param};
 use wast_parser::{Id, Index};
+use wast_signatures::{FunctionType, Param};
 use wast_value_types::{AbstractHeapType, HeapType, ValType};
 
 /// An index, wherever it stands.

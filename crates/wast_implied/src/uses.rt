@@ -4,8 +4,9 @@ ghost use Rattle.std.specs.List.{flat_map};
 ghost use Rattle.wast_imports.specs.ImportViews.{extern_tree, imports_tree, member_tree};
 ghost use Rattle.wast_core_instr.specs.InstructionViews.{instruction_tree};
 ghost use Rattle.wast_core_instr.specs.ExpressionViews.{expression_tree};
-ghost use Rattle.wast_fields.specs.FieldViews.{data_tree, func_definition, global_definition, tag_definition};
-ghost use Rattle.wast_fields.specs.ElemViews.{elem_tree, elements_tree, mode_tree, table_definition};
+ghost use Rattle.wast_module_fields.specs.MemoryViews.{data_tree};
+ghost use Rattle.wast_module_fields.specs.FuncViews.{func_definition, global_definition, tag_definition};
+ghost use Rattle.wast_module_fields.specs.ElemViews.{elem_tree, elements_tree, mode_tree, table_definition};
 ghost use Rattle.wast_meaning.specs.Mentions.{Constant, data_mode_parts, defined_parts, elem_mode_parts, elements_parts, expr_mentions, extern_mentions, import_mentions, instr_mentions, part_mentions};
 ghost use Rattle.wast_implied.specs.Known.{after_mentions};
 ghost use Rattle.wast_implied.specs.Views.{known};
@@ -13,11 +14,11 @@ ghost use Rattle.wast_implied.specs.Views.{known};
 use crate::gathered::Implied;
 use std::alloc::AllocError;
 use wast_core_instr::{Expression, Instruction};
-use wast_fields::{
+use wast_imports::{ImportGroup1Item, ImportItems, Imports, ItemKind, TagType};
+use wast_module_fields::{
     Data, DataKind, Elem, ElemKind, ElemPayload, Func, FuncKind, Global, GlobalKind, Table,
     TableKind, Tag,
 };
-use wast_imports::{ImportGroup1Item, ImportItems, Imports, ItemKind, TagType};
 use wast_parser::Span;
 
 impl<'a> Implied<'a> {

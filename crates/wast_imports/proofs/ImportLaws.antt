@@ -1,15 +1,15 @@
 -- The laws of imports, and of what they and exports are of: each mirrors its production.
 use Rattle.std.proofs.Common.{ℕ, true, List, [], Option, Some, None, refl, codes}
-use Rattle.wast_parser.specs.Look.{join}
-use Rattle.wast_parser.specs.Lawful.{Lawful}
-use Rattle.wast_parser.specs.Grammar.{Syntax, among, next, seq, wide}
-use Rattle.wast_parser.specs.Productions.{name}
-use Rattle.wast_parser.proofs.GrammarLaws.{among_laws, word_laws, nothing_laws, next_laws, seq_laws, seen_laws, maybe_laws, many_laws, either_laws, group_laws, paren_laws, bound_laws}
-use Rattle.wast_parser.proofs.IntegerLaws.{name_laws}
-use Rattle.wast_parser.proofs.IdentifierLaws.{identifier_laws, maybe_name_laws}
+use Rattle.wast_signatures.specs.Look.{join}
+use Rattle.wast_signatures.specs.Lawful.{Lawful}
+use Rattle.wast_signatures.specs.Grammar.{Syntax, among, next, seq, wide}
+use Rattle.wast_signatures.specs.Productions.{name}
+use Rattle.wast_signatures.proofs.GrammarLaws.{among_laws, word_laws, nothing_laws, next_laws, seq_laws, seen_laws, maybe_laws, many_laws, either_laws, group_laws, paren_laws, bound_laws}
+use Rattle.wast_signatures.proofs.IntegerLaws.{name_laws}
+use Rattle.wast_signatures.proofs.IdentifierLaws.{identifier_laws, maybe_name_laws}
 use Rattle.wast_value_types.proofs.ValueLaws.{table_type_laws, memory_type_laws, global_type_laws}
-use Rattle.wast_core_types.specs.TypeSyntax.{id_starts}
-use Rattle.wast_core_types.proofs.TypeLaws.{type_use_laws}
+use Rattle.wast_signatures.specs.TypeSyntax.{id_starts}
+use Rattle.wast_signatures.proofs.SignatureLaws.{type_use_laws}
 use Rattle.wast_exports.specs.Exports.{ExportKind, Func, Table, Memory, Global, Tag, export_word, export_kinds}
 use Rattle.wast_imports.specs.ImportTree.{ExternType, Item}
 use Rattle.wast_imports.specs.ImportSyntax.{exact_starts, item_starts, member_starts, name_starts, rest_starts, rest_stops, Head, head, no_head, exact_use, func_type, extern_type, extern_starts, extern_stops, item_body, item, bare_item, member, member_name, first_member, with_rest, import_group, import_items, imports_body, imports, export_type}

@@ -1,7 +1,7 @@
 -- Members of groups, the first before the others.
 use Rattle.std.proofs.Common.{◌≡◌, List, [], ◌∷◌, map, Some, refl, sym, ◌∙◌, ap}
-use Rattle.wast_parser.specs.Tokens.{SignificantToken}
-use Rattle.wast_parser.specs.Grammar.{Reader, map_reads, seq_reads}
+use Rattle.wast_signatures.specs.Tokens.{SignificantToken}
+use Rattle.wast_signatures.specs.Grammar.{Reader, map_reads, seq_reads}
 
 fused : {M I T : Type 0} (tree : I → T) (item : M → I) (ms : List M) → map tree (map item ms) ≡ map (λ m. tree (item m)) ms
 fused tree item [] = refl

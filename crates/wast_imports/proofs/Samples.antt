@@ -1,16 +1,16 @@
 -- Tokens that spell each item, and where items, members of groups and imports begin.
 use Rattle.std.proofs.Common.{false, true, List, [], ◌∷◌, ◌++◌, None, inl, inr, refl, codes}
 use Rattle.std.proofs.lemmas.Str.{is_utf8-from_IsUtf8, IsUtf8-nil}
-use Rattle.wast_parser.specs.Tokens.{SignificantToken, Literal, Open, Close, Word, Integer, Text}
-use Rattle.wast_parser.specs.Look.{join}
-use Rattle.wast_parser.specs.Lawful.{Leads}
-use Rattle.wast_parser.specs.Grammar.{Syntax, among, seq}
-use Rattle.wast_parser.specs.Productions.{name}
-use Rattle.wast_parser.proofs.LeadLaws.{among_leads, seen_leads, next_leads, paren_leads, group_leads}
-use Rattle.wast_parser.proofs.IntegerLaws.{name_laws}
+use Rattle.wast_signatures.specs.Tokens.{SignificantToken, Literal, Open, Close, Word, Integer, Text}
+use Rattle.wast_signatures.specs.Look.{join}
+use Rattle.wast_signatures.specs.Lawful.{Leads}
+use Rattle.wast_signatures.specs.Grammar.{Syntax, among, seq}
+use Rattle.wast_signatures.specs.Productions.{name}
+use Rattle.wast_signatures.proofs.LeadLaws.{among_leads, seen_leads, next_leads, paren_leads, group_leads}
+use Rattle.wast_signatures.proofs.IntegerLaws.{name_laws}
 use Rattle.wast_value_types.specs.ValueTree.{Cont, I32, Number}
 use Rattle.wast_value_types.specs.ValueSyntax.{as_limits, as_table, as_memory, as_global, limits, table_type, memory_type, global_type, nullable}
-use Rattle.wast_core_types.specs.TypeSyntax.{type_use, as_use}
+use Rattle.wast_signatures.specs.TypeSyntax.{type_use, as_use}
 use Rattle.wast_exports.specs.Exports.{ExportKind, Func, Table, Memory, Global, Tag, export_word, export_kinds, kind_starts}
 use Rattle.wast_imports.specs.ImportTree.{OfFunc, OfTable, OfMemory, OfGlobal, OfTag}
 use Rattle.wast_imports.specs.ImportSyntax.{item_starts, member_starts, head, extern_type, extern_starts, extern_stops, as_item, item_body, item, member, member_name}

@@ -1,12 +1,12 @@
 -- The syntax of imports, and of what they and exports are of (WebAssembly 3.0, 6.4.13 and 6.6.9).
 use Rattle.std.specs.Prelude.{ℕ, true, false, List, [], ◌∷◌, map, Option, Some, None, codes}
-use Rattle.wast_parser.specs.Look.{Test, On, OneOf, AString, AWord, Any, this_group, join, faults}
-use Rattle.wast_parser.specs.Grammar.{Syntax, among, word, nothing, next, seq, seen, maybe, many, either, group, paren}
-use Rattle.wast_parser.specs.Productions.{name}
-use Rattle.wast_parser.specs.Identifiers.{Named, identifier}
+use Rattle.wast_signatures.specs.Look.{Test, On, OneOf, AString, AWord, Any, this_group, join, faults}
+use Rattle.wast_signatures.specs.Grammar.{Syntax, among, word, nothing, next, seq, seen, maybe, many, either, group, paren}
+use Rattle.wast_signatures.specs.Productions.{name}
+use Rattle.wast_signatures.specs.Identifiers.{Named, identifier}
 use Rattle.wast_value_types.specs.ValueSyntax.{table_type, memory_type, global_type}
-use Rattle.wast_core_types.specs.TypeTree.{TypeUse}
-use Rattle.wast_core_types.specs.TypeSyntax.{id_starts, given_starts, given_name, type_use}
+use Rattle.wast_signatures.specs.TypeTree.{TypeUse}
+use Rattle.wast_signatures.specs.TypeSyntax.{id_starts, given_starts, given_name, type_use}
 use Rattle.wast_exports.specs.Exports.{ExportKind, Func, Table, Memory, Global, Tag, export_word, export_kinds}
 use Rattle.wast_imports.specs.ImportTree.{ExternType, OfFunc, OfExactFunc, OfTable, OfMemory, OfGlobal, OfTag, Item, ImportItems, Single, Group1, Group2, Imports, ExportType}
 

@@ -1,9 +1,9 @@
 -- Imports, and what they and exports are of, as they are written: abstract syntax trees (WebAssembly 3.0, 6.4.13 and 6.6.9), over
 -- names of type N and places of type P.
 use Rattle.std.specs.Prelude.{ℕ, List, Option}
-use Rattle.wast_parser.specs.Identifiers.{Named}
+use Rattle.wast_signatures.specs.Identifiers.{Named}
 use Rattle.wast_value_types.specs.ValueTree.{TableType, MemoryType, GlobalType}
-use Rattle.wast_core_types.specs.TypeTree.{TypeUse}
+use Rattle.wast_signatures.specs.TypeTree.{TypeUse}
 
 -- external types (6.4.13); that of exactly such functions is that of a proposal
 pub data ExternType (N P : Type 0) : Type 0 where

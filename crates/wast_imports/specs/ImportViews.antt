@@ -4,11 +4,11 @@ use Rattle.std.specs.List.{slice_get}
 use Rattle.std.specs.Global.{Vec}
 use Rattle.std.specs.Vec.{with_item}
 use Rattle.std.specs.Cow.{cow_str_bytes}
-use Rattle.wast_grammar.specs.Tokens.{Name}
-use Rattle.wast_parser.specs.Identifiers.{identifier_tree, index_tree}
+use Rattle.wast_signatures.specs.Tokens.{Name}
+use Rattle.wast_signatures.specs.Identifiers.{identifier_tree, index_tree}
 use Rattle.wast_value_types.specs.ValueViews.{table_tree, memory_tree, global_tree}
-use Rattle.wast_core_types.specs.TypeTree as types
-use Rattle.wast_core_types.specs.TypeViews.{name_tree, use_tree}
+use Rattle.wast_signatures.specs.TypeTree as types
+use Rattle.wast_signatures.specs.SignatureViews.{name_tree, use_tree}
 use Rattle.wast_imports.specs.ImportTree as spec
 use Rattle.wast_imports.specs.ImportSyntax as syntax
 use Rattle.wast_imports.specs.declared.head.Head.{Head}

@@ -1,7 +1,7 @@
 //! What is exported under a name.
 ghost use Rattle.std.specs.Prelude.{◌≡◌, ℕ, List};
-ghost use Rattle.wast_grammar.specs.Tokens.{Name};
-ghost use Rattle.wast_parser.specs.Lawful.{Lawful};
+ghost use Rattle.wast_signatures.specs.Tokens.{Name};
+ghost use Rattle.wast_signatures.specs.Lawful.{Lawful};
 ghost use Rattle.wast_imports.specs.ImportTree as spec;
 ghost use Rattle.wast_imports.specs.ImportSyntax.{export_type};
 ghost use Rattle.wast_imports.specs.ImportViews.{export_type_tree};
@@ -9,8 +9,7 @@ ghost use Rattle.wast_imports.specs.ImportViews.{export_type_tree};
 use crate::item::ItemSig;
 use std::alloc::Global;
 use std::borrow::CowStr;
-use wast_lexer::Span;
-use wast_parser::{Error, LParen, Meaning, Parse, Parser, RParen};
+use wast_signatures::{Error, LParen, Meaning, Parse, Parser, RParen, Span};
 
 /// A name, and what is exported under it: `(export "name" (func))`. No field.
 #[derive(Drop)]

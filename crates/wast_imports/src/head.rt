@@ -1,12 +1,12 @@
 //! What fields and items are called.
 ghost use Rattle.std.specs.Prelude.{◌≡◌, ℕ, List};
-ghost use Rattle.wast_grammar.specs.Tokens.{Name};
-ghost use Rattle.wast_parser.specs.Lawful.{Lawful};
+ghost use Rattle.wast_signatures.specs.Tokens.{Name};
+ghost use Rattle.wast_signatures.specs.Lawful.{Lawful};
 ghost use Rattle.wast_imports.specs.ImportSyntax as spec;
 ghost use Rattle.wast_imports.specs.ImportSyntax.{head};
 ghost use Rattle.wast_imports.specs.ImportViews.{head_tree};
 
-use wast_parser::{Error, Id, Meaning, NameAnnotation, Parse, Parser};
+use wast_signatures::{Error, Id, Meaning, NameAnnotation, Parse, Parser};
 
 /// The identifier of a field or an item, and the name that an annotation gives it, where they are written.
 #[derive(Drop)]

@@ -2,10 +2,10 @@
 ghost use Rattle.std.specs.Prelude.{◌≡◌, ◌<◌, ℕ, List, length, IfOk, map, Option, Some, None, option_map};
 ghost use Rattle.std.specs.Cow.{cow_str_bytes};
 ghost use Rattle.std.specs.List.{slice_get};
-ghost use Rattle.wast_grammar.specs.Tokens.{Name};
-ghost use Rattle.wast_parser.specs.Lawful.{Lawful};
-ghost use Rattle.wast_parser.specs.State.{ahead, Keeps};
-ghost use Rattle.wast_parser.specs.Reading.{Gives};
+ghost use Rattle.wast_signatures.specs.Tokens.{Name};
+ghost use Rattle.wast_signatures.specs.Lawful.{Lawful};
+ghost use Rattle.wast_signatures.specs.State.{ahead, Keeps};
+ghost use Rattle.wast_signatures.specs.Reading.{Gives};
 ghost use Rattle.wast_imports.specs.ImportTree as spec;
 ghost use Rattle.wast_imports.specs.ImportSyntax.{first_member, with_rest, import_group, import_items, imports};
 ghost use Rattle.wast_imports.specs.ImportViews.{item_tree, from_of, items_tree, imports_tree, sigs_of, unique_sigs_of, with_unique_sig};
@@ -16,15 +16,32 @@ use crate::member::{Member, with_more};
 use std::alloc::{AllocError, Global};
 use std::borrow::CowStr;
 use std::mem::replace;
-use wast_lexer::Span;
-use wast_parser::{Error, LParen, Meaning, Parse, Parser, RParen, list_of};
+use wast_signatures::{Error, LParen, Meaning, Parse, Parser, RParen, Span, list_of};
 
 /// What is imported from a module (6.6.9).
-#[derive(Drop)]
+///
+/// It is taken apart by [`Imports::into_parts`] alone.
 pub struct Imports<'a> {
     /// Where the word `import` stands.
     pub span: Span,
     pub items: ImportItems<'a>,
+}
+
+// By hand, so that what drops one is proved here once, and not in each crate that holds one.
+impl Drop for Imports<'_> {
+    fn drop(self) {
+        let Imports { span: _, items: _ } = self;
+    }
+}
+
+impl<'a> Imports<'a> {
+    /// Where they stand, and what is imported.
+    pub fn into_parts(self) -> (Span, ImportItems<'a>)
+        ensures { result ≡ (self.entry.span, self.entry.items) }
+    {
+        let Imports { span, items } = self;
+        (span, items)
+    }
 }
 
 /// One import, or several of one module, which is a proposal's.

@@ -1,30 +1,29 @@
 //! External types, and items.
 ghost use Rattle.std.specs.Prelude.{◌≡◌, ℕ, List, [], ◌∷◌, Option, false, refl};
-ghost use Rattle.wast_grammar.specs.Tokens.{Name};
-ghost use Rattle.wast_parser.specs.Look.{ask};
-ghost use Rattle.wast_parser.specs.Grammar.{among};
-ghost use Rattle.wast_parser.specs.Lawful.{Lawful, Leads};
-ghost use Rattle.wast_parser.specs.State.{ahead, Keeps};
-ghost use Rattle.wast_parser.specs.Reading.{Asks, Gives};
-ghost use Rattle.wast_parser.specs.Cursors.{stands};
-ghost use Rattle.wast_core_types.specs.TypeTree as types;
-ghost use Rattle.wast_core_types.specs.TypeSyntax.{type_use};
+ghost use Rattle.wast_signatures.specs.Tokens.{Name};
+ghost use Rattle.wast_signatures.specs.Look.{ask};
+ghost use Rattle.wast_signatures.specs.Grammar.{among};
+ghost use Rattle.wast_signatures.specs.Lawful.{Lawful, Leads};
+ghost use Rattle.wast_signatures.specs.State.{ahead, Keeps};
+ghost use Rattle.wast_signatures.specs.Reading.{Asks, Gives};
+ghost use Rattle.wast_signatures.specs.Cursors.{stands};
+ghost use Rattle.wast_signatures.specs.TypeTree as types;
+ghost use Rattle.wast_signatures.specs.TypeSyntax.{type_use};
 ghost use Rattle.wast_exports.specs.Exports.{export_word, export_kinds};
 ghost use Rattle.wast_exports.specs.ExportViews.{kind_view};
 ghost use Rattle.wast_imports.specs.ImportTree as spec;
 ghost use Rattle.wast_imports.specs.ImportSyntax.{item_starts, exact_use, func_type, extern_type, item, bare_item};
-ghost use Rattle.wast_core_types.specs.TypeViews.{use_tree};
+ghost use Rattle.wast_signatures.specs.SignatureViews.{use_tree};
 ghost use Rattle.wast_imports.specs.ImportViews.{tag_tree, extern_tree, item_tree};
 
 use crate::head::Head;
-use wast_core_types::{FunctionType, GlobalType, MemoryType, TableType, TypeUse};
 use wast_exports::ExportKind;
-use wast_lexer::Span;
-use wast_parser::{
-    Cursor, Error, Id, Item, LParen, Meaning, NameAnnotation, Parse, Parser, Peek, RParen,
+use wast_signatures::{
+    Cursor, Error, FunctionType, Id, Item, LParen, Meaning, NameAnnotation, Parse, Parser, Peek,
+    RParen, Span, TypeUse,
 };
-use wast_value_types::Group;
 use wast_value_types::keyword::Exact;
+use wast_value_types::{GlobalType, Group, MemoryType, TableType};
 
 /// What is imported or exported (6.4.13), with what it is called: `(func $f (param i32))`.
 #[derive(Drop)]

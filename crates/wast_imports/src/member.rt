@@ -1,11 +1,11 @@
 //! Members of groups of imports.
 ghost use Rattle.std.specs.Prelude.{◌≡◌, ℕ, List, [], ◌∷◌, IfOk, map, false, refl};
-ghost use Rattle.wast_grammar.specs.Tokens.{Name};
-ghost use Rattle.wast_parser.specs.Look.{ask};
-ghost use Rattle.wast_parser.specs.Lawful.{Lawful, Leads};
-ghost use Rattle.wast_parser.specs.State.{ahead};
-ghost use Rattle.wast_parser.specs.Reading.{Asks};
-ghost use Rattle.wast_parser.specs.Cursors.{stands};
+ghost use Rattle.wast_signatures.specs.Tokens.{Name};
+ghost use Rattle.wast_signatures.specs.Look.{ask};
+ghost use Rattle.wast_signatures.specs.Lawful.{Lawful, Leads};
+ghost use Rattle.wast_signatures.specs.State.{ahead};
+ghost use Rattle.wast_signatures.specs.Reading.{Asks};
+ghost use Rattle.wast_signatures.specs.Cursors.{stands};
 ghost use Rattle.wast_imports.specs.ImportTree as spec;
 ghost use Rattle.wast_imports.specs.ImportSyntax.{member_starts, member, member_name};
 ghost use Rattle.wast_imports.specs.ImportViews.{member_tree, member_name_tree};
@@ -13,7 +13,7 @@ ghost use Rattle.wast_imports.specs.ImportViews.{member_tree, member_name_tree};
 use crate::import::{ImportGroup1Item, ImportGroup2Item};
 use crate::item::ItemSig;
 use std::alloc::{AllocError, Global};
-use wast_parser::{Cursor, Error, Item, LParen, Meaning, Parse, Parser, Peek, RParen};
+use wast_signatures::{Cursor, Error, Item, LParen, Meaning, Parse, Parser, Peek, RParen};
 
 /// A member of a group, as it is written.
 #[derive(Drop)]

@@ -14,9 +14,9 @@ use crate::fault::LexFault;
 use crate::span::Span;
 use crate::token::Token;
 use crate::word::is_quote_at;
+use item_lists::Bytes;
 use std::alloc::{AllocError, Global};
 use std::borrow::CowStr;
-use wasm_encoder_base::Bytes;
 use wast_lexer_numbers::{Float, FloatKind, Integer, IntegerKind, float, integer};
 use wast_lexer_strings::{LexError, stands_for, string_value};
 

@@ -48,6 +48,7 @@ impl TokenTable {
     }
 
     /// How many tokens there are.
+    #[inline(always)]
     pub fn len(&self) -> usize
         ensures { result ≡ length self.now.tokens }
     {
@@ -55,6 +56,7 @@ impl TokenTable {
     }
 
     /// What a token is, by its index.
+    #[inline(always)]
     pub fn kind(&self, index: usize) -> Option<TokenKind>
         ensures { result ≡ option_map (λ t. t.kind) (slice_get self.now.tokens index) }
     {
@@ -65,6 +67,7 @@ impl TokenTable {
     }
 
     /// A token by its index.
+    #[inline(always)]
     pub fn get(&self, index: usize) -> Option<Token>
         ensures { result ≡ slice_get self.now.tokens index }
     {

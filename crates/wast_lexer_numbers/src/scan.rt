@@ -59,6 +59,7 @@ fn body(text: &[u8], sign: Option<SignToken>) -> Option<NumberKind>
 }
 
 /// The kind of a number, behind its sign and `0x`.
+#[inline(always)]
 fn magnitude(text: &[u8], hex: bool, sign: Option<SignToken>) -> Option<NumberKind>
     ensures { result ≡ magnitude hex sign text.now }
 {

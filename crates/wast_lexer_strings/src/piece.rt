@@ -29,6 +29,7 @@ pub(crate) fn plain_end(text: &[u8], from: usize) -> usize
 }
 
 /// The part of a string that stands at a place, and where it ends.
+#[inline(always)]
 pub(crate) fn read_piece(text: &[u8], at: usize) -> Result<(Piece, usize), LexError>
     requires inside { at < length text.now }
     requires open { slice_index text.now at ≢ 34 }

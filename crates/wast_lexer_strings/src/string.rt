@@ -11,6 +11,7 @@ use crate::utf8::{Tail, follow_piece, is_closed};
 use std::alloc::{AllocError, Global};
 
 /// Where a string ends whose quote stands before the place.
+#[inline(always)]
 pub fn string_end(text: &[u8], from: usize) -> Result<usize, LexError>
     requires { from ≤ length text.now }
     ensures { FindsRest result text.now from (read Within (drop from text.now)) }

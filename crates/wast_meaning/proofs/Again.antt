@@ -3,7 +3,7 @@ use Rattle.std.proofs.Common.{ℕ, suc, ◌≡◌, List, [], ◌∷◌, ◌++◌
 use Rattle.std.specs.Prelude.{◌+◌}
 use Rattle.wast_parser.specs.Identifiers.{Named}
 use Rattle.wast_exports.specs.Exports.{ExportKind}
-use Rattle.wast_fields.specs.FieldTree.{Defined, Imported, Func, Table, TableOf, Memory, MemoryOf, Global, Tag, Definition, Field, TypeField, RecField, ImportField, Define, ExportField, StartField, ElemField, DataField, CustomField}
+use Rattle.wast_field_syntax.specs.FieldTree.{Defined, Imported, Func, Table, TableOf, Memory, MemoryOf, Global, Tag, Definition, Field, TypeField, RecField, ImportField, Define, ExportField, StartField, ElemField, DataField, CustomField}
 use Rattle.wast_meaning.specs.Written.{field_of, export_of, segment_of, kind_of, name_or, field_out, written_from, written_out}
 
 module _ {N P : Type 0} (naming : ℕ → N) where

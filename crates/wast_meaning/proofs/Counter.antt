@@ -1,6 +1,6 @@
 -- Fields written out one after the other, with a counter for the fresh names.
 use Rattle.std.proofs.Common.{ℕ, suc, ◌+◌, ◌≡◌, List, [], ◌∷◌, ◌++◌, if◌then◌else◌, refl, sym, ap, ◌∙◌}
-use Rattle.wast_fields.specs.FieldTree.{Field}
+use Rattle.wast_field_syntax.specs.FieldTree.{Field}
 use Rattle.wast_meaning.specs.Written.{field_out, written_from, written_out, takes_name, by_counter}
 
 abbrev pub next : {N P : Type 0} → ℕ → Field N P → ℕ

@@ -6,15 +6,15 @@ use Rattle.wasm_encoder_base.specs.Table.{Functions, Datas}
 use Rattle.wast_parser.specs.Identifiers.{Reference, ByNumber, ByName}
 use Rattle.wast_parser.specs.Problem.{Problem}
 use Rattle.wast_names.specs.Demand.{ImportAfter, Duplicate, Unknown, TypeMismatch, LabelMismatch, words, told}
-use Rattle.wast_fields.specs.ValueTree.{Concrete, Packed, I8, Value}
-use Rattle.wast_fields.specs.TypeTree.{FuncType, StructType}
-use Rattle.wast_fields.specs.OperandTree.{SeqCst, OnLabel}
-use Rattle.wast_fields.specs.TypedTree.{CatchTag, CatchAll}
-use Rattle.wast_fields.specs.InstructionTree.{One, Two, Ordered, Resume}
+use Rattle.wast_field_syntax.specs.ValueTree.{Concrete, Packed, I8, Value}
+use Rattle.wast_field_syntax.specs.TypeTree.{FuncType, StructType}
+use Rattle.wast_field_syntax.specs.OperandTree.{SeqCst, OnLabel}
+use Rattle.wast_field_syntax.specs.TypedTree.{CatchTag, CatchAll}
+use Rattle.wast_field_syntax.specs.InstructionTree.{One, Two, Ordered, Resume}
 use Rattle.wast_exports.specs.Exports as exports
 use Rattle.wast_imports.specs.ImportTree.{OfFunc, OfTag, Single, Group1, Group2}
-use Rattle.wast_fields.specs.DataTree.{Text}
-use Rattle.wast_fields.specs.FieldTree.{Global, Field, Indices, Expressions, Imported, Func, Table, TableOf, Memory, MemoryOf, Tag, TypeField, ImportField, Content, Fields, Module}
+use Rattle.wast_field_syntax.specs.DataTree.{Text}
+use Rattle.wast_field_syntax.specs.FieldTree.{Global, Field, Indices, Expressions, Imported, Func, Table, TableOf, Memory, MemoryOf, Tag, TypeField, ImportField, Content, Fields, Module}
 use Rattle.wast_meaning.specs.Written.{pages, exactly, zero_offset, written_out, by_counter}
 use Rattle.wast_meaning.specs.Spaces.{space_word, fields_at, denotes, listed}
 use Rattle.wast_meaning.specs.Scope.{label_space}

@@ -1,7 +1,7 @@
 -- Labels as a stack.
 use Rattle.std.proofs.Common.{◌≡◌, ℕ, zero, suc, List, [], ◌∷◌, drop, refl, sym, ◌∙◌, ap}
 use Rattle.wasm_encoder_base.specs.Balanced.{Turn, Opens, Closes, Stays}
-use Rattle.wast_fields.specs.InstructionTree.{Instruction}
+use Rattle.wast_field_syntax.specs.InstructionTree.{Instruction}
 use Rattle.wast_meaning.specs.Scope.{turn_of_head, own_label, labels_from, open_labels, turned}
 
 drop_more : {A : Type 0} (k : ℕ) (xs : List A) → drop k (drop 1 xs) ≡ drop (suc k) xs

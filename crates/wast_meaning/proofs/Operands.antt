@@ -8,14 +8,14 @@ use Rattle.wast_grammar.specs.Spelling.{same_name}
 use Rattle.wast_parser.specs.Identifiers.{Reference}
 use Rattle.wast_names.specs.Walk.{first_unmet}
 use Rattle.wast_names.specs.Demand.{Demand, Unknown, is_met}
-use Rattle.wast_fields.specs.ValueTree.{RefType, Concrete}
-use Rattle.wast_fields.specs.TypeTree.{StructType, TypeUse}
-use Rattle.wast_fields.specs.OperandTree.{Array, OnLabel, OnSwitch, SeqCst}
-use Rattle.wast_fields.specs.OperandTree as operand
-use Rattle.wast_fields.specs.TypedTree.{CatchTag, CatchTagRef, CatchAll, CatchAllRef}
-use Rattle.wast_fields.specs.InstructionTree as instr
-use Rattle.wast_fields.specs.InstructionTree.{Operands, Instruction}
-use Rattle.wast_fields.specs.FieldTree.{Func, Table, Memory, Tag, Field}
+use Rattle.wast_field_syntax.specs.ValueTree.{RefType, Concrete}
+use Rattle.wast_field_syntax.specs.TypeTree.{StructType, TypeUse}
+use Rattle.wast_field_syntax.specs.OperandTree.{Array, OnLabel, OnSwitch, SeqCst}
+use Rattle.wast_field_syntax.specs.OperandTree as operand
+use Rattle.wast_field_syntax.specs.TypedTree.{CatchTag, CatchTagRef, CatchAll, CatchAllRef}
+use Rattle.wast_field_syntax.specs.InstructionTree as instr
+use Rattle.wast_field_syntax.specs.InstructionTree.{Operands, Instruction}
+use Rattle.wast_field_syntax.specs.FieldTree.{Func, Table, Memory, Tag, Field}
 use Rattle.wast_meaning.specs.Spaces.{space_word}
 use Rattle.wast_meaning.specs.Demands.{all_demands}
 use Rattle.wast_meaning.specs.Numbered.{resolved}

@@ -5,8 +5,8 @@ use Rattle.std.specs.List.{flat_map, list_all}
 use Rattle.std.proofs.lemmas.Bool.{false≢true}
 use Rattle.std.proofs.lemmas.List.{append-nil}
 use Rattle.wast_parser.specs.Identifiers.{Reference, ByNumber}
-use Rattle.wast_fields.specs.TypeTree.{Sig}
-use Rattle.wast_fields.specs.FieldTree.{Field, field_place}
+use Rattle.wast_field_syntax.specs.TypeTree.{Sig}
+use Rattle.wast_field_syntax.specs.FieldTree.{Field, field_place}
 use Rattle.wast_meaning.specs.Written.{written_out}
 use Rattle.wast_meaning.specs.Mentions.{Mention, Refers, Member, Uses, UsesInBlock, Repeats, use_mentions, field_mentions}
 use Rattle.wast_meaning.specs.Implied.{no_sig, is_short, sig_of_mention, used_sigs, written_types, plain_sig, implied, implied_by, type_taken}

@@ -6,14 +6,14 @@ use Rattle.std.proofs.lemmas.Bool.{false≢true}
 use Rattle.std.proofs.lemmas.List.Folds.{list_all-append}
 use Rattle.wasm_encoder_base.specs.Table.{OperandSyntax, Space, Labels, Functions, Types, Tables, Memories, Tags, Fields, Locals, Globals, Datas, Elems}
 use Rattle.wast_parser.specs.Identifiers.{Reference, ByNumber, ByName}
-use Rattle.wast_fields.specs.ValueTree.{HeapType, Abstract, Concrete, Exact, RefType, ValType, Number, Ref, StorageType, Packed, Value, FieldType}
-use Rattle.wast_fields.specs.TypeTree.{Local, Sig, InnerType, FuncType, StructType, ArrayType, ContType, TypeItem, TypeUse}
-use Rattle.wast_fields.specs.OperandTree.{MemArgTarget, MemArg, Handle, OnLabel, OnSwitch}
-use Rattle.wast_fields.specs.OperandTree as operand
-use Rattle.wast_fields.specs.TypedTree as typed
-use Rattle.wast_fields.specs.TypedTree.{Catch, CatchTag, CatchTagRef, CatchAll, CatchAllRef}
-use Rattle.wast_fields.specs.InstructionTree.{Operands, Instruction}
-use Rattle.wast_fields.specs.InstructionTree as instr
+use Rattle.wast_field_syntax.specs.ValueTree.{HeapType, Abstract, Concrete, Exact, RefType, ValType, Number, Ref, StorageType, Packed, Value, FieldType}
+use Rattle.wast_field_syntax.specs.TypeTree.{Local, Sig, InnerType, FuncType, StructType, ArrayType, ContType, TypeItem, TypeUse}
+use Rattle.wast_field_syntax.specs.OperandTree.{MemArgTarget, MemArg, Handle, OnLabel, OnSwitch}
+use Rattle.wast_field_syntax.specs.OperandTree as operand
+use Rattle.wast_field_syntax.specs.TypedTree as typed
+use Rattle.wast_field_syntax.specs.TypedTree.{Catch, CatchTag, CatchTagRef, CatchAll, CatchAllRef}
+use Rattle.wast_field_syntax.specs.InstructionTree.{Operands, Instruction}
+use Rattle.wast_field_syntax.specs.InstructionTree as instr
 use Rattle.wast_meaning.specs.Mentions.{Mention, Refers, Uses, UsesInBlock, first_space, second_space, syntax_of, second_mention, catch_mentions, handle_mentions, target_mention, mem_arg_mentions, operand_mentions, instr_mentions, heap_mentions, ref_mentions, val_mentions, storage_mentions, local_mentions, sig_mentions, inner_mentions, type_mentions, refers_if, use_mentions}
 use Rattle.wast_meaning.specs.Changed.{Change, heap_changed, ref_changed, val_changed, storage_changed, field_type_changed, local_changed, sig_changed, inner_changed, type_changed, use_changed, block_changed, catch_changed, handle_changed, target_changed, mem_arg_changed, second_changed, operands_changed, instr_changed}
 use Rattle.wast_meaning.specs.Settled.{is_number, has_number, block_settled, says_number, is_settled}

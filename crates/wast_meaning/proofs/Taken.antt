@@ -6,8 +6,8 @@ use Rattle.std.specs.List.{cons_option, flat_map, list_any, position_from}
 use Rattle.std.specs.Cmp.Lexicographic.{pointwise}
 use Rattle.std.proofs.lemmas.List.Folds.{list_any-append}
 use Rattle.wast_parser.specs.Identifiers.{Reference}
-use Rattle.wast_fields.specs.TypeTree.{Local, Sig, TypeItem}
-use Rattle.wast_fields.specs.FieldTree.{Field}
+use Rattle.wast_field_syntax.specs.TypeTree.{Local, Sig, TypeItem}
+use Rattle.wast_field_syntax.specs.FieldTree.{Field}
 use Rattle.wast_meaning.specs.Implied.{same_local, same_val, same_sig, same_option, same_written, unnamed_local, unnamed, used_sigs, written_types, plain_sig, implied_by, implied}
 
 -- names of parameters make no difference

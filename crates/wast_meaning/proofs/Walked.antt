@@ -8,7 +8,7 @@ use Rattle.wast_parser.specs.Identifiers.{Named}
 use Rattle.wast_names.specs.Walk.{reached}
 use Rattle.wast_names.specs.Space as names
 use Rattle.wast_names.proofs.Positions.{numbers_of, counts_of}
-use Rattle.wast_fields.specs.FieldTree.{Field}
+use Rattle.wast_field_syntax.specs.FieldTree.{Field}
 use Rattle.wast_meaning.specs.Spaces.{Bound, same_space, space_word, items, items_in, ids_in}
 use Rattle.wast_meaning.specs.Demands.{spaces_after}
 

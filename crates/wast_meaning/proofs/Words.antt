@@ -9,15 +9,15 @@ use Rattle.wast_grammar.specs.Spelling.{same_name}
 use Rattle.wast_parser.specs.Identifiers.{Named, Reference, ByNumber, ByName}
 use Rattle.wast_names.specs.Walk.{first_unmet}
 use Rattle.wast_names.specs.Demand.{Complaint, Demand, is_met}
-use Rattle.wast_fields.specs.ValueTree.{I32, I64, ValType, Number, Ref, RefType, Abstract, Known, Concrete, Value, Limits, TableType, MemoryType}
-use Rattle.wast_fields.specs.TypeTree.{Local, Sig, StructField, InnerType, FuncType, TypeItem, TypeUse}
-use Rattle.wast_fields.specs.TypedTree.{Catch}
+use Rattle.wast_field_syntax.specs.ValueTree.{I32, I64, ValType, Number, Ref, RefType, Abstract, Known, Concrete, Value, Limits, TableType, MemoryType}
+use Rattle.wast_field_syntax.specs.TypeTree.{Local, Sig, StructField, InnerType, FuncType, TypeItem, TypeUse}
+use Rattle.wast_field_syntax.specs.TypedTree.{Catch}
 use Rattle.wast_mnemonics.specs.Heads.{Listed, Unlisted}
-use Rattle.wast_fields.specs.InstructionTree.{Operands, NoOperands, Label, Block, TryTable, One, Two, Indirect, Integer, Memory, Instruction}
+use Rattle.wast_field_syntax.specs.InstructionTree.{Operands, NoOperands, Label, Block, TryTable, One, Two, Indirect, Integer, Memory, Instruction}
 use Rattle.wast_exports.specs.Exports.{ExportKind}
 use Rattle.wast_imports.specs.ImportTree.{ExternType, OfFunc, Item, ImportItems, Single}
-use Rattle.wast_fields.specs.DataTree.{DataVal}
-use Rattle.wast_fields.specs.FieldTree.{Expr, Elements, Indices, Defined, Func, Global, PassiveData, ActiveData, PassiveElem, ActiveElem, Field, TypeField, RecField, ImportField, Define, ExportField, StartField, ElemField, DataField}
+use Rattle.wast_field_syntax.specs.DataTree.{DataVal}
+use Rattle.wast_field_syntax.specs.FieldTree.{Expr, Elements, Indices, Defined, Func, Global, PassiveData, ActiveData, PassiveElem, ActiveElem, Field, TypeField, RecField, ImportField, Define, ExportField, StartField, ElemField, DataField}
 use Rattle.wast_meaning.specs.Written.{written_out}
 use Rattle.wast_meaning.specs.Implied.{implied}
 use Rattle.wast_meaning.specs.Demands.{demands, all_demands}

@@ -3,16 +3,16 @@ use Rattle.std.specs.Prelude.{List, [], ◌∷◌, map, Option, option_map}
 use Rattle.wasm_encoder_base.specs.Table.{OperandSyntax, Space, Labels, Functions, Types, Tables, Memories, Tags, Fields}
 use Rattle.wast_parser.specs.Identifiers.{Reference}
 use Rattle.wast_names.specs.Walk.{threaded}
-use Rattle.wast_fields.specs.ValueTree.{HeapType, Abstract, Concrete, Exact, RefType, ValType, Number, Ref, StorageType, Packed, Value, FieldType, TableType, GlobalType}
-use Rattle.wast_fields.specs.TypeTree.{Local, Sig, InnerType, FuncType, StructType, ArrayType, ContType, TypeItem, TypeUse}
-use Rattle.wast_fields.specs.OperandTree.{MemArgTarget, MemArg, Handle, OnLabel, OnSwitch}
-use Rattle.wast_fields.specs.OperandTree as operand
-use Rattle.wast_fields.specs.TypedTree as typed
-use Rattle.wast_fields.specs.TypedTree.{Catch, CatchTag, CatchTagRef, CatchAll, CatchAllRef}
-use Rattle.wast_fields.specs.InstructionTree.{Operands, Instruction}
-use Rattle.wast_fields.specs.InstructionTree as instr
+use Rattle.wast_field_syntax.specs.ValueTree.{HeapType, Abstract, Concrete, Exact, RefType, ValType, Number, Ref, StorageType, Packed, Value, FieldType, TableType, GlobalType}
+use Rattle.wast_field_syntax.specs.TypeTree.{Local, Sig, InnerType, FuncType, StructType, ArrayType, ContType, TypeItem, TypeUse}
+use Rattle.wast_field_syntax.specs.OperandTree.{MemArgTarget, MemArg, Handle, OnLabel, OnSwitch}
+use Rattle.wast_field_syntax.specs.OperandTree as operand
+use Rattle.wast_field_syntax.specs.TypedTree as typed
+use Rattle.wast_field_syntax.specs.TypedTree.{Catch, CatchTag, CatchTagRef, CatchAll, CatchAllRef}
+use Rattle.wast_field_syntax.specs.InstructionTree.{Operands, Instruction}
+use Rattle.wast_field_syntax.specs.InstructionTree as instr
 use Rattle.wast_imports.specs.ImportTree.{ExternType, OfFunc, OfExactFunc, OfTable, OfMemory, OfGlobal, OfTag, Item, ImportItems, Single, Group1, Group2}
-use Rattle.wast_fields.specs.FieldTree.{Expr, Function, Elements, Indices, Expressions, Defined, Imported, Func, Table, TableOf, Global, Tag, ElemMode, ActiveElem, DataMode, ActiveData, Field, TypeField, RecField, ImportField, Define, ExportField, StartField, ElemField, DataField}
+use Rattle.wast_field_syntax.specs.FieldTree.{Expr, Function, Elements, Indices, Expressions, Defined, Imported, Func, Table, TableOf, Global, Tag, ElemMode, ActiveElem, DataMode, ActiveData, Field, TypeField, RecField, ImportField, Define, ExportField, StartField, ElemField, DataField}
 use Rattle.wast_meaning.specs.Written.{space_of_kind}
 use Rattle.wast_meaning.specs.Mentions.{first_space, second_space, syntax_of}
 

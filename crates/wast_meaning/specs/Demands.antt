@@ -9,9 +9,9 @@ use Rattle.wast_names.specs.Walk.{walked}
 use Rattle.wast_names.specs.Demand.{Demand, ImportAfter, TypeMismatch, LabelMismatch}
 use Rattle.wast_names.specs.Space as names
 use Rattle.wast_names.specs.Space.{name_in, number_of, known}
-use Rattle.wast_fields.specs.TypeTree.{Sig, TypeUse}
-use Rattle.wast_fields.specs.InstructionTree.{Instruction}
-use Rattle.wast_fields.specs.FieldTree.{Function, Defined, Imported, Field, ImportField, Define}
+use Rattle.wast_field_syntax.specs.TypeTree.{Sig, TypeUse}
+use Rattle.wast_field_syntax.specs.InstructionTree.{Instruction}
+use Rattle.wast_field_syntax.specs.FieldTree.{Function, Defined, Imported, Field, ImportField, Define}
 use Rattle.wast_meaning.specs.Written.{space_of_kind, kind_of, written_out}
 use Rattle.wast_meaning.specs.Mentions.{Mention, Refers, Member, Uses, UsesInBlock, Repeats, Part, Says, Constant, Body, use_mentions, local_mentions, instr_mentions, parts}
 use Rattle.wast_meaning.specs.Spaces.{Bound, same_space, space_word, items}

@@ -4,9 +4,9 @@ use Rattle.std.specs.List.{flat_map, list_any, position_from}
 use Rattle.std.specs.Cmp.Lexicographic.{pointwise}
 use Rattle.wasm_encoder_base.specs.Types.{abstract_heap_byte}
 use Rattle.wast_parser.specs.Identifiers.{Reference, ByNumber, ByName}
-use Rattle.wast_fields.specs.ValueTree.{NumberType, I32, I64, F32, F64, V128, HeapWord, Known, Cont, NoCont, HeapType, Abstract, Concrete, Exact, ValType, Number, Ref}
-use Rattle.wast_fields.specs.TypeTree.{Local, Sig, InnerType, FuncType, TypeItem, TypeUse}
-use Rattle.wast_fields.specs.FieldTree.{Field, TypeField, RecField, field_place}
+use Rattle.wast_field_syntax.specs.ValueTree.{NumberType, I32, I64, F32, F64, V128, HeapWord, Known, Cont, NoCont, HeapType, Abstract, Concrete, Exact, ValType, Number, Ref}
+use Rattle.wast_field_syntax.specs.TypeTree.{Local, Sig, InnerType, FuncType, TypeItem, TypeUse}
+use Rattle.wast_field_syntax.specs.FieldTree.{Field, TypeField, RecField, field_place}
 use Rattle.wast_meaning.specs.Mentions.{Mention, Uses, UsesInBlock, field_mentions}
 
 -- EQUAL TYPES, given a test of the indices in them

@@ -6,16 +6,16 @@ use Rattle.wasm_encoder_base.specs.OperandSyntax as syntax
 use Rattle.wasm_encoder_base.specs.Uncovered.{Uncovered, UncoveredSyntax, uncovered}
 use Rattle.wasm_encoder_base.specs.Uncovered as refused
 use Rattle.wast_parser.specs.Identifiers.{Named, Reference}
-use Rattle.wast_fields.specs.ValueTree.{HeapType, Abstract, Concrete, Exact, RefType, ValType, Number, Ref, StorageType, Packed, Value}
-use Rattle.wast_fields.specs.TypeTree.{Local, Sig, InnerType, FuncType, StructType, ArrayType, ContType, TypeItem, TypeUse}
-use Rattle.wast_fields.specs.OperandTree.{MemArgTarget, MemArg, Handle, OnLabel, OnSwitch}
-use Rattle.wast_fields.specs.OperandTree as operand
-use Rattle.wast_fields.specs.TypedTree.{Catch, CatchTag, CatchTagRef, CatchAll, CatchAllRef}
+use Rattle.wast_field_syntax.specs.ValueTree.{HeapType, Abstract, Concrete, Exact, RefType, ValType, Number, Ref, StorageType, Packed, Value}
+use Rattle.wast_field_syntax.specs.TypeTree.{Local, Sig, InnerType, FuncType, StructType, ArrayType, ContType, TypeItem, TypeUse}
+use Rattle.wast_field_syntax.specs.OperandTree.{MemArgTarget, MemArg, Handle, OnLabel, OnSwitch}
+use Rattle.wast_field_syntax.specs.OperandTree as operand
+use Rattle.wast_field_syntax.specs.TypedTree.{Catch, CatchTag, CatchTagRef, CatchAll, CatchAllRef}
 use Rattle.wast_mnemonics.specs.Heads.{Head, Listed, Unlisted}
-use Rattle.wast_fields.specs.InstructionTree.{Operands, Instruction}
-use Rattle.wast_fields.specs.InstructionTree as instr
+use Rattle.wast_field_syntax.specs.InstructionTree.{Operands, Instruction}
+use Rattle.wast_field_syntax.specs.InstructionTree as instr
 use Rattle.wast_imports.specs.ImportTree.{ExternType, OfFunc, OfExactFunc, OfTable, OfMemory, OfGlobal, OfTag, ImportItems, Single, Group1, Group2}
-use Rattle.wast_fields.specs.FieldTree.{Expr, Function, Elements, Indices, Expressions, Defined, Imported, Func, Table, TableOf, Memory, MemoryOf, Global, Tag, ElemMode, ActiveElem, DataMode, ActiveData, Field, TypeField, RecField, ImportField, Define, ExportField, StartField, ElemField, DataField, CustomField}
+use Rattle.wast_field_syntax.specs.FieldTree.{Expr, Function, Elements, Indices, Expressions, Defined, Imported, Func, Table, TableOf, Memory, MemoryOf, Global, Tag, ElemMode, ActiveElem, DataMode, ActiveData, Field, TypeField, RecField, ImportField, Define, ExportField, StartField, ElemField, DataField, CustomField}
 use Rattle.wast_meaning.specs.Written.{space_of_kind}
 
 pub data Mention (N P : Type 0) : Type 0 where

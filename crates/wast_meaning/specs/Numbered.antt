@@ -3,8 +3,8 @@ use Rattle.std.specs.Prelude.{ℕ, Bool, true, false, if◌then◌else◌, List,
 use Rattle.wasm_encoder_base.specs.Table.{Types}
 use Rattle.wast_parser.specs.Identifiers.{Reference, ByNumber}
 use Rattle.wast_names.specs.Space as names
-use Rattle.wast_fields.specs.TypeTree.{Sig, FuncType, TypeUse}
-use Rattle.wast_fields.specs.FieldTree.{Field, TypeField, field_place}
+use Rattle.wast_field_syntax.specs.TypeTree.{Sig, FuncType, TypeUse}
+use Rattle.wast_field_syntax.specs.FieldTree.{Field, TypeField, field_place}
 use Rattle.wast_meaning.specs.Written.{written_out}
 use Rattle.wast_meaning.specs.Implied.{no_sig, is_short, implied, type_taken}
 use Rattle.wast_meaning.specs.Scope.{Scope, scope_of, with_locals, scope_at, members, locals_of}

@@ -5,10 +5,10 @@ use Rattle.wasm_encoder_base.specs.Balanced.{Turn, Opens, Closes, Stays, turn_of
 use Rattle.wast_parser.specs.Identifiers.{Named, Reference}
 use Rattle.wast_names.specs.Space as names
 use Rattle.wast_names.specs.Space.{number_of}
-use Rattle.wast_fields.specs.TypeTree.{Sig, TypeUse}
+use Rattle.wast_field_syntax.specs.TypeTree.{Sig, TypeUse}
 use Rattle.wast_mnemonics.specs.Heads.{Head, Listed, Unlisted}
-use Rattle.wast_fields.specs.InstructionTree.{Operands, Instruction, Block, TryTable}
-use Rattle.wast_fields.specs.FieldTree.{Function, Field}
+use Rattle.wast_field_syntax.specs.InstructionTree.{Operands, Instruction, Block, TryTable}
+use Rattle.wast_field_syntax.specs.FieldTree.{Function, Field}
 use Rattle.wast_meaning.specs.Spaces.{items_in, fields_at, denotes, listed}
 use Rattle.wast_meaning.specs.Implied.{no_sig, sig_at, type_count}
 

@@ -2,8 +2,8 @@
 use Rattle.std.specs.Prelude.{Bool, true, false, not, is_some, ◌&&◌, ◌||◌, List, Option, Some, None, unwrap_or}
 use Rattle.std.specs.List.{list_all}
 use Rattle.wast_parser.specs.Identifiers.{Reference, ByNumber, ByName}
-use Rattle.wast_fields.specs.TypeTree.{TypeUse}
-use Rattle.wast_fields.specs.FieldTree.{Field}
+use Rattle.wast_field_syntax.specs.TypeTree.{TypeUse}
+use Rattle.wast_field_syntax.specs.FieldTree.{Field}
 use Rattle.wast_meaning.specs.Mentions.{Mention, Refers, Member, Uses, UsesInBlock, use_mentions, field_mentions}
 use Rattle.wast_meaning.specs.Implied.{no_sig, is_short}
 

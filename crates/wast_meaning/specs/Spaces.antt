@@ -6,9 +6,9 @@ use Rattle.wast_parser.specs.Identifiers.{Named}
 use Rattle.wast_names.specs.Position.{position}
 use Rattle.wast_names.specs.Space as names
 use Rattle.wast_names.specs.Space.{name_in, denoted}
-use Rattle.wast_fields.specs.TypeTree.{InnerType, StructType, TypeItem}
+use Rattle.wast_field_syntax.specs.TypeTree.{InnerType, StructType, TypeItem}
 use Rattle.wast_imports.specs.ImportTree.{Item, ImportItems, Single, Group1, Group2}
-use Rattle.wast_fields.specs.FieldTree.{Defined, TableOf, MemoryOf, Field, TypeField, RecField, ImportField, Define, ElemField, DataField}
+use Rattle.wast_field_syntax.specs.FieldTree.{Defined, TableOf, MemoryOf, Field, TypeField, RecField, ImportField, Define, ElemField, DataField}
 use Rattle.wast_meaning.specs.Written.{space_of_kind, kind_of_type, kind_of}
 
 -- spaces are told apart by numbers

@@ -6,8 +6,8 @@ use Rattle.wasm_encoder_base.specs.Balanced.{Turn, Opens, Closes, Stays}
 use Rattle.wast_names.specs.Walk.{walked}
 use Rattle.wast_names.specs.Demand.{Complaint, Unknown, Demand}
 use Rattle.wast_expressions.specs.Items.{Hint}
-use Rattle.wast_fields.specs.InstructionTree.{Operands, Memory, MemoryLane, Instruction}
-use Rattle.wast_fields.specs.FieldTree.{Expr, Defined, MemoryOf, Field, Define, is_start, field_place}
+use Rattle.wast_field_syntax.specs.InstructionTree.{Operands, Memory, MemoryLane, Instruction}
+use Rattle.wast_field_syntax.specs.FieldTree.{Expr, Defined, MemoryOf, Field, Define, is_start, field_place}
 use Rattle.wast_meaning.specs.Mentions.{Part, Says, Constant, Body, parts}
 use Rattle.wast_meaning.specs.Scope.{Scope, turn_of_head, scope_of}
 use Rattle.wast_meaning.specs.Demands.{field_demands}

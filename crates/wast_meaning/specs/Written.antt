@@ -3,13 +3,13 @@ use Rattle.std.specs.Prelude.{ℕ, zero, suc, pos, ◌+◌, ◌-◌, ◌/◌, �
 use Rattle.std.specs.List.{sum_by}
 use Rattle.wasm_encoder_base.specs.Table.{entry, Space, Functions, Tables, Memories, Globals, Tags, I32, I64}
 use Rattle.wast_parser.specs.Identifiers.{Named, ByName}
-use Rattle.wast_fields.specs.ValueTree.{Limits}
+use Rattle.wast_field_syntax.specs.ValueTree.{Limits}
 use Rattle.wast_mnemonics.specs.Heads.{Listed}
-use Rattle.wast_fields.specs.InstructionTree.{Integer}
+use Rattle.wast_field_syntax.specs.InstructionTree.{Integer}
 use Rattle.wast_exports.specs.Exports as exports
 use Rattle.wast_imports.specs.ImportTree.{ExternType, OfFunc, OfExactFunc, OfTable, OfMemory, OfGlobal, OfTag, Single}
-use Rattle.wast_fields.specs.DataTree.{byte_count}
-use Rattle.wast_fields.specs.FieldTree.{Expr, Elements, Indices, Expressions, Defined, Imported, Func, Table, TableOf, Memory, MemoryOf, Global, Tag, Definition, ActiveElem, ActiveData, Field, ImportField, Define, ExportField, ElemField, DataField}
+use Rattle.wast_field_syntax.specs.DataTree.{byte_count}
+use Rattle.wast_field_syntax.specs.FieldTree.{Expr, Elements, Indices, Expressions, Defined, Imported, Func, Table, TableOf, Memory, MemoryOf, Global, Tag, Definition, ActiveElem, ActiveData, Field, ImportField, Define, ExportField, ElemField, DataField}
 
 abbrev pub space_of_kind : exports.ExportKind → Space
 space_of_kind exports.Func = Functions

@@ -11,7 +11,7 @@ use wast_exports::ExportKind;
 use wast_imports::ItemKind;
 
 /// An index space (6.6.1).
-#[derive(Clone, Copy, Debug, PartialEq, Eq)]
+#[derive(Clone, Copy, PartialEq, Eq)]
 pub enum Space {
     Labels,
     Locals,

@@ -2,7 +2,7 @@
 use Rattle.std.proofs.Common.{ℕ, ◌≡◌, Bool, List, Option, sym, ap, ◌∙◌, subst, flat_map}
 use Rattle.wast_grammar.specs.Tokens.{Name}
 use Rattle.wast_grammar.specs.Spelling.{same_name}
-use Rattle.wast_fields.specs.FieldTree.{Content, Fields, Pieces, Module}
+use Rattle.wast_field_syntax.specs.FieldTree.{Content, Fields, Pieces, Module}
 use Rattle.wasm_layout.specs.AbstractModule.{AbstractModule}
 use Rattle.wast_meant.specs.NamesMeant.{GivenName, given_name}
 use Rattle.wast_meant.specs.Meaning.{ContentMeans, Meaning}

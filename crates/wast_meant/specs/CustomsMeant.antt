@@ -11,7 +11,7 @@ use Rattle.wasm_encoder_custom.specs.Producers.{field_bytes, producers_section}
 use Rattle.wast_customs.specs.CustomTree.{Anchor, TypeItem, Import, Func, Table, Memory, Global, Export, Start, Elem, Code, Data, Tag, CustomPlace, BeforeFirst, Before, After, AfterLast, ProducerKind, Producer, Custom, Raw, ProducersField, DylinkField, place_of, name_of}
 use Rattle.wast_customs.specs.CustomSyntax.{anchor_word, producer_word, producer_kinds}
 use Rattle.wast_customs.specs.Dylink.{subsection_id, payload}
-use Rattle.wast_fields.specs.FieldTree.{Field, CustomField}
+use Rattle.wast_field_syntax.specs.FieldTree.{Field, CustomField}
 use Rattle.wasm_layout.specs.Section.{SectionKind, Types, Imports, Functions, Tables, Memories, Tags, Globals, Exports, Starts, Elements, DataCount, Hints, Codes, Datas, Names}
 use Rattle.wasm_layout.specs.Present.{has_any}
 use Rattle.wasm_layout.specs.Layout.{if_there}

@@ -10,13 +10,13 @@ use Rattle.wast_grammar.specs.Tokens.{Name}
 use Rattle.wast_grammar.specs.Spelling.{same_name}
 use Rattle.wast_parser.specs.Identifiers.{Named, Reference, ByNumber, ByName}
 use Rattle.wast_value_types.specs.ValueTree.{Known, Abstract, Concrete, RefType, I32, I64, ValType, Number, Ref, MemoryType, TableType}
-use Rattle.wast_core_types.specs.TypeTree.{Local, Sig, InnerType, TypeDef, TypeItem, TypeUse}
+use Rattle.wast_signatures.specs.TypeTree.{Local, Sig, InnerType, TypeDef, TypeItem, TypeUse}
 use Rattle.wast_expressions.specs.Items.{Hint}
 use Rattle.wast_mnemonics.specs.Heads.{Listed}
 use Rattle.wast_core_instr.specs.InstructionTree.{Operands, NoOperands, Label, Block, Integer, Instruction}
 use Rattle.wast_customs.specs.CustomTree.{CustomPlace, Raw}
 use Rattle.wast_imports.specs.ImportTree.{ExternType, Item, Single}
-use Rattle.wast_fields.specs.FieldTree.{Expr, Defined, Func, Field, ImportField, Define, CustomField}
+use Rattle.wast_field_syntax.specs.FieldTree.{Expr, Defined, Func, Field, ImportField, Define, CustomField}
 use Rattle.wast_names.specs.Walk.{first_unmet}
 use Rattle.wast_names.specs.Demand.{is_met}
 use Rattle.wast_meaning.specs.Demands.{all_demands}

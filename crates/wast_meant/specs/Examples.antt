@@ -2,7 +2,7 @@
 use Rattle.std.specs.Prelude.{ℕ, pos, negsuc, true, false, List, [], ◌∷◌, ◌++◌, Some, None, codes}
 use Rattle.wasm_encoder_base.specs.OperandSyntax as rows
 use Rattle.wast_value_types.specs.ValueTree.{Cont, Abstract, Exact, Ref}
-use Rattle.wast_core_types.specs.TypeTree.{FuncType, StructType}
+use Rattle.wast_signatures.specs.TypeTree.{FuncType, StructType}
 use Rattle.wast_typed_operands.specs.TypedTree.{CatchTag}
 use Rattle.wast_mnemonics.specs.Heads.{Unlisted}
 use Rattle.wast_core_instr.specs.InstructionTree.{NoOperands, TryTable, One, Float, Memory}
@@ -10,8 +10,8 @@ use Rattle.wast_customs.specs.CustomTree.{Func as FuncAnchor, Elem as ElemAnchor
 use Rattle.wast_imports.specs.ImportTree.{OfFunc, OfGlobal, Group1, Group2}
 use Rattle.wast_exports.specs.Exports as exports
 use Rattle.wast_data.specs.DataTree.{Text}
-use Rattle.wast_fields.specs.FieldTree as fields
-use Rattle.wast_fields.specs.FieldTree.{Indices, TableOf, MemoryOf, Tag, Table, ActiveElem, PassiveData, ActiveData, TypeField, RecField, ImportField, Define, ExportField, ElemField, DataField, CustomField}
+use Rattle.wast_field_syntax.specs.FieldTree as fields
+use Rattle.wast_field_syntax.specs.FieldTree.{Indices, TableOf, MemoryOf, Tag, Table, ActiveElem, PassiveData, ActiveData, TypeField, RecField, ImportField, Define, ExportField, ElemField, DataField, CustomField}
 use Rattle.wast_grammar.specs.Spelling.{same_name}
 use Rattle.wast_meaning.specs.Numbered.{resolved}
 use Rattle.wasm_layout.specs.IsModule.{IsModule}

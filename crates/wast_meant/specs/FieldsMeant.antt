@@ -10,7 +10,7 @@ use Rattle.wasm_encoder_items.specs.TypeEntries.{TypeEntry}
 use Rattle.wast_parser.specs.Identifiers.{Reference}
 use Rattle.wast_imports.specs.ImportTree.{ImportItems, Single, Group1, Group2}
 use Rattle.wast_data.specs.DataTree.{DataVal, bytes_of}
-use Rattle.wast_fields.specs.FieldTree.{Expr, Function, Elements, Indices, Expressions, Defined, Func, Table, Memory, Global, Tag, ElemMode, PassiveElem, DeclaredElem, ActiveElem, DataMode, PassiveData, ActiveData, Field, TypeField, RecField, ImportField, Define, ExportField, StartField, ElemField, DataField}
+use Rattle.wast_field_syntax.specs.FieldTree.{Expr, Function, Elements, Indices, Expressions, Defined, Func, Table, Memory, Global, Tag, ElemMode, PassiveElem, DeclaredElem, ActiveElem, DataMode, PassiveData, ActiveData, Field, TypeField, RecField, ImportField, Define, ExportField, StartField, ElemField, DataField}
 use Rattle.wasm_layout.specs.AbstractModule as abstract
 use Rattle.wast_conversions.specs.Types.{number_of, ref_meant, val_meant, type_meant, rec_meant, use_meant, memory_meant, table_meant, global_meant, extern_meant, export_kind_meant}
 use Rattle.wast_conversions.specs.Operands.{optional_meant}

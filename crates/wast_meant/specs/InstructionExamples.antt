@@ -4,15 +4,15 @@ use Rattle.std.specs.Int.{w64}
 use Rattle.wasm_encoder_base.specs.Types as binary
 use Rattle.wasm_encoder_base.specs.OperandSyntax as rows
 use Rattle.wast_value_types.specs.ValueTree.{Known, Cont, Abstract, Concrete, Value, HeapType}
-use Rattle.wast_core_types.specs.TypeTree.{FuncType, StructType}
+use Rattle.wast_signatures.specs.TypeTree.{FuncType, StructType}
 use Rattle.wast_vector_operands.specs.VectorTree.{Integers, Floats}
 use Rattle.wast_operands.specs.OperandTree.{AcqRel, SeqCst}
 use Rattle.wast_operands.specs.OperandTree as target
 use Rattle.wast_core_instr.specs.InstructionTree.{One, Two, LabelTable, Indirect, OptionalTwo, OptionalThen, Heap, Ref, Cast, Lanes, Types, Memory, Fence}
 use Rattle.wast_grammar.specs.Tokens.{Name}
 use Rattle.wast_data.specs.DataTree.{Text}
-use Rattle.wast_fields.specs.FieldTree as fields
-use Rattle.wast_fields.specs.FieldTree.{Indices, Table, PassiveElem, PassiveData, TypeField, ElemField, DataField}
+use Rattle.wast_field_syntax.specs.FieldTree as fields
+use Rattle.wast_field_syntax.specs.FieldTree.{Indices, Table, PassiveElem, PassiveData, TypeField, ElemField, DataField}
 use Rattle.wast_meant.specs.ExampleTrees.{id, says, num, i32, i64, local, sig, no_use, with_sig, type_item, one_page, one_funcref, ins, plain, end, block, define, func_of, func, Assembles, IsUncovered}
 use Rattle.wast_meant.specs.Examples.{one_function, names}
 

@@ -2,7 +2,7 @@
 use Rattle.std.specs.Prelude.{ℕ, ◌≡◌, List}
 use Rattle.wast_grammar.specs.Tokens.{Name}
 use Rattle.wast_grammar.specs.Spelling.{same_name}
-use Rattle.wast_fields.specs.FieldTree.{Module}
+use Rattle.wast_field_syntax.specs.FieldTree.{Module}
 use Rattle.wasm_layout.specs.AbstractModule.{AbstractModule}
 use Rattle.wast_meant.specs.NamesMeant.{GivenName}
 use Rattle.wast_meant.specs.Meaning.{Meaning}

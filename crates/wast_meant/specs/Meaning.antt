@@ -4,7 +4,7 @@ use Rattle.std.specs.Prelude.{ℕ, ◌≡◌, Bool, List, [], ◌∷◌, map, sl
 use Rattle.std.specs.List.{flat_map}
 use Rattle.wast_names.specs.Walk.{first_unmet}
 use Rattle.wast_names.specs.Demand.{is_met}
-use Rattle.wast_fields.specs.FieldTree.{Field, Content, Fields, Pieces, Module}
+use Rattle.wast_field_syntax.specs.FieldTree.{Field, Content, Fields, Pieces, Module}
 use Rattle.wast_meaning.specs.Demands.{all_demands}
 use Rattle.wast_meaning.specs.Numbered.{resolved}
 use Rattle.wast_meaning.specs.WellFormed.{breaches}

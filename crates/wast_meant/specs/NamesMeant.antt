@@ -6,9 +6,9 @@ use Rattle.wasm_encoder_base.specs.Table.{Space}
 use Rattle.wasm_encoder_base.specs.Table as text
 use Rattle.wasm_encoder_custom.specs.Names as binary
 use Rattle.wast_parser.specs.Identifiers.{Named}
-use Rattle.wast_core_types.specs.TypeTree.{Local, Sig, TypeUse}
+use Rattle.wast_signatures.specs.TypeTree.{Local, Sig, TypeUse}
 use Rattle.wast_imports.specs.ImportTree.{ExternType, OfFunc, OfExactFunc, OfTag, ImportItems, Single, Group1, Group2}
-use Rattle.wast_fields.specs.FieldTree.{Function, Defined, Func, Tag, Field, ImportField, Define}
+use Rattle.wast_field_syntax.specs.FieldTree.{Function, Defined, Func, Tag, Field, ImportField, Define}
 use Rattle.wast_meaning.specs.Spaces.{items_in}
 use Rattle.wast_meaning.specs.Implied.{no_sig, written_types, func_sig}
 use Rattle.wast_meaning.specs.Scope.{Scope, scope_of, params_of, turn_of_head, own_label}

@@ -1,7 +1,7 @@
 -- Trees that are no pieces of a binary, and in which no custom field has the name of a section that is written by itself.
 use Rattle.std.specs.Prelude.{◌≡◌, false, List, [], ◌∷◌, map, codes}
 use Rattle.std.specs.List.{flat_map}
-use Rattle.wast_fields.specs.FieldTree.{Field, Content, Fields, Pieces, Module}
+use Rattle.wast_field_syntax.specs.FieldTree.{Field, Content, Fields, Pieces, Module}
 use Rattle.wasm_layout.specs.Present.{is_called}
 use Rattle.wast_meant.specs.CustomsMeant.{custom_of, customs_in}
 

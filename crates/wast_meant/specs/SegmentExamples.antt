@@ -5,7 +5,7 @@ use Rattle.wasm_encoder_base.specs.OperandSyntax as rows
 use Rattle.wast_grammar.specs.Tokens.{Name}
 use Rattle.wast_value_types.specs.ValueTree.{Known, Abstract, RefType}
 use Rattle.wast_core_instr.specs.InstructionTree.{One}
-use Rattle.wast_fields.specs.FieldTree.{Expr, Elements, Indices, Expressions, ElemMode, PassiveElem, DeclaredElem, ActiveElem, Table, ElemField}
+use Rattle.wast_field_syntax.specs.FieldTree.{Expr, Elements, Indices, Expressions, ElemMode, PassiveElem, DeclaredElem, ActiveElem, Table, ElemField}
 use Rattle.wast_meant.specs.ExampleTrees.{Tree, num, funcref, one_funcref, ins, const, expr, define, func, Assembles}
 use Rattle.wast_meant.specs.Examples.{one_function, empty_code}
 

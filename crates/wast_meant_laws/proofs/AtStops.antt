@@ -4,7 +4,7 @@ use Rattle.std.specs.List.{flat_map}
 use std.Path.{fun_ext}
 use Rattle.wast_grammar.specs.Tokens.{Name}
 use Rattle.wast_customs.specs.CustomTree.{Custom}
-use Rattle.wast_fields.specs.FieldTree.{Field}
+use Rattle.wast_field_syntax.specs.FieldTree.{Field}
 use Rattle.wasm_layout.specs.AbstractModule.{AbstractModule}
 use Rattle.wasm_layout.specs.Section.{SectionKind, Types, Imports, Functions, Tables, Memories, Tags, Globals, Exports, Starts, Elements, DataCount, Hints, Codes, Datas, Names, order}
 use Rattle.wasm_layout.specs.Present.{has_names, is_present}

@@ -7,7 +7,7 @@ use std.Path.{fun_ext}
 use Rattle.wast_grammar.specs.Tokens.{Name}
 use Rattle.wasm_encoder_custom.specs.Custom as binary
 use Rattle.wast_customs.specs.CustomTree.{CustomPlace, AfterLast}
-use Rattle.wast_fields.specs.FieldTree.{Field}
+use Rattle.wast_field_syntax.specs.FieldTree.{Field}
 use Rattle.wasm_layout.specs.AbstractModule.{AbstractModule}
 use Rattle.wasm_layout.specs.Section.{SectionKind, Types, Imports, Functions, Tables, Memories, Tags, Globals, Exports, Starts, Elements, DataCount, Hints, Codes, Datas, Names}
 use Rattle.wasm_layout.specs.Present.{is_present}

@@ -4,7 +4,7 @@ use std.Equiv.{Iso}
 use Rattle.wast_grammar.specs.Tokens.{Name}
 use Rattle.wast_grammar.specs.Spelling.{same_name}
 use Rattle.wast_grammar.specs.Alike.{Keeps}
-use Rattle.wast_fields.specs.FieldTree.{Field}
+use Rattle.wast_field_syntax.specs.FieldTree.{Field}
 use Rattle.wast_meaning.specs.WellFormed.{breaches}
 use Rattle.wasm_layout.specs.AbstractModule.{Naming, InnerNaming, NameMaps, AbstractModule}
 use Rattle.wasm_layout.specs.Lays.{bare}

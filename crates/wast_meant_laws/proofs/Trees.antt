@@ -4,7 +4,7 @@ use std.Path.{fun_ext, transport, transport⁻¹, transport-transport⁻¹}
 use std.Univalence.{iso_to_path}
 use Rattle.wast_grammar.specs.Tokens.{Name}
 use Rattle.wast_grammar.specs.Spelling.{same_name}
-use Rattle.wast_fields.specs.FieldTree.{Content, Module}
+use Rattle.wast_field_syntax.specs.FieldTree.{Content, Module}
 use Rattle.wast_meaning.specs.Made.{made, is_made}
 use Rattle.wast_meaning.specs.Modules.{content_fields}
 use Rattle.wast_meaning.specs.Written.{by_counter}

@@ -5,7 +5,7 @@ use Rattle.std.proofs.lemmas.List.Elements.{filter-append}
 use std.Path.{fun_ext}
 use Rattle.wast_grammar.specs.Tokens.{Name}
 use Rattle.wasm_encoder_custom.specs.Custom.{Custom}
-use Rattle.wast_fields.specs.FieldTree.{Field}
+use Rattle.wast_field_syntax.specs.FieldTree.{Field}
 use Rattle.wasm_layout.specs.AbstractModule.{AbstractModule}
 use Rattle.wasm_layout.specs.Section.{SectionKind, Types, Imports, Functions, Tables, Memories, Tags, Globals, Exports, Starts, Elements, DataCount, Hints, Codes, Datas, Names, same_section}
 use Rattle.wasm_layout.specs.Present.{is_present}

@@ -5,7 +5,7 @@ use std.Equiv.{Iso}
 use Rattle.wast_grammar.specs.Tokens.{Name}
 use Rattle.wast_grammar.specs.Spelling.{same_name}
 use Rattle.wast_grammar.specs.Alike.{Matched, Carries}
-use Rattle.wast_fields.specs.FieldTree.{Field, Module}
+use Rattle.wast_field_syntax.specs.FieldTree.{Field, Module}
 use Rattle.wast_meaning.specs.WellFormed.{breaches}
 use Rattle.wast_meaning.specs.Modules.{content_fields}
 use Rattle.wasm_layout.specs.AbstractModule.{AbstractModule}

@@ -2,7 +2,7 @@
 use Rattle.std.specs.Prelude.{◌≡◌, ℕ, List, [], ◌∷◌}
 use std.Equiv.{Iso}
 use Rattle.wast_grammar.specs.Tokens.{Name}
-use Rattle.wast_fields.specs.FieldTree.{Field, Module}
+use Rattle.wast_field_syntax.specs.FieldTree.{Field, Module}
 use Rattle.wast_meaning.specs.Made.{made, is_made}
 use Rattle.wast_resolve_laws.specs.Renamed.{renamed, fields_renamed}
 use Rattle.wast_conversions.specs.Covered.{Form}

@@ -2,7 +2,7 @@
 use Rattle.std.specs.Prelude.{ℕ}
 use Rattle.wast_grammar.specs.Tokens.{Name}
 use Rattle.wast_parser.specs.Identifiers.{identifier_tree, index_tree}
-use Rattle.wast_core_types.specs.TypeViews.{use_tree}
+use Rattle.wast_signatures.specs.SignatureViews.{use_tree}
 use Rattle.wast_meaning.specs.Mentions as spec
 use Rattle.wast_meaning.specs.Views.{space_view}
 use Rattle.wast_mentions.specs.declared.mention.Mention.{Mention}

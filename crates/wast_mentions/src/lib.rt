@@ -22,7 +22,7 @@
 //!
 //! What each tree says is the definitions' own, those of `wast_meaning`'s file `Mentions`.
 //!
-//! [`TypeUse`]: wast_core_types::TypeUse
+//! [`TypeUse`]: wast_signatures::TypeUse
 #![tactic(auto)]
 
 mod imports;

@@ -1,7 +1,7 @@
 //! What trees say of names.
-use wast_core_types::{FunctionType, TypeUse};
 use wast_meaning::Space;
 use wast_parser::{Id, Index};
+use wast_signatures::{FunctionType, TypeUse};
 
 /// What a tree says of names at one place, borrowed from it.
 pub enum Mention<'t, 'a> {

@@ -1,12 +1,14 @@
 //! What types say of names (6.4).
 ghost use Rattle.wast_value_types.specs.ValueViews.{heap_tree, ref_tree, storage_tree, val_tree};
-ghost use Rattle.wast_core_types.specs.TypeViews.{inner_tree, item_tree, param_tree, sig_tree, struct_field_tree, use_tree};
+ghost use Rattle.wast_signatures.specs.SignatureViews.{param_tree, sig_tree, use_tree, struct_field_tree};
+ghost use Rattle.wast_core_types.specs.TypeViews.{inner_tree, item_tree};
 ghost use Rattle.wast_meaning.specs.Mentions as spec;
 
 use crate::judge::{Judge, Judgement};
 use crate::tell::{Mentions, Tell, tell_each, tell_index, tell_index_if};
-use wast_core_types::{FunctionType, InnerTypeKind, Param, StructField, TypeItem, TypeUse};
+use wast_core_types::{InnerTypeKind, TypeItem};
 use wast_meaning::Space;
+use wast_signatures::{FunctionType, Param, StructField, TypeUse};
 use wast_value_types::{HeapType, RefType, StorageType, ValType};
 
 impl Mentions for HeapType<'_> {

@@ -1,5 +1,6 @@
 -- The rows and the text's table.
-use Rattle.std.proofs.Common.{slice_get, take, ◌∷◌, Bool, ◌≡◌, ℕ, suc, ◌+◌, ◌-◌, ◌<◌, true, false, List, [], map, length, get_or, Option, Some, None, IfSome, IfNone, option_map, refl, sym, ap, ◌∙◌, subst, subst₂, nat_eq, nat_cmp, nat_le, not, cond, ◌&&◌, is_lt, arith, add-one, is_some}
+use Rattle.std.proofs.Common.{slice_get, take, ◌∷◌, Bool, ◌≡◌, ℕ, true, false, List, [], map, length, Option, Some, None, option_map, refl, sym, ap, ◌∙◌, subst, nat_eq, nat_le, cond, ◌&&◌, is_some}
+use Rattle.std.proofs.lemmas.Bool.{and_parts}
 use Rattle.std.proofs.lemmas.Bool.Decides.{Decides-eqb}
 use Rattle.std.proofs.lemmas.Option.{slice_get-map}
 use Rattle.std.specs.Cmp.Lexicographic.{bytes_decides}
@@ -10,8 +11,6 @@ use Rattle.wast_grammar.specs.Spelling.{find_by, any_is, same_text}
 use Rattle.wast_grammar.proofs.GrammarLaws.{any_found}
 use Rattle.wast_grammar.proofs.Looks.{some_one}
 use Rattle.wast_mnemonics.specs.Laws.{EveryWord}
-use Rattle.wast_mnemonics.specs.declared.word.Word.{Word}
-use Rattle.wast_mnemonics.specs.declared.word.Word.TheVariants as words
 use Rattle.wast_mnemonics.specs.declared.table.TheConstants.{LONGEST, WORDS}
 use Rattle.wast_mnemonics.specs.TextTable.{TextEntry, text_table}
 use Rattle.wast_mnemonics.specs.Mnemonics.{word_mnemonic}
@@ -64,14 +63,10 @@ not_found t e = none_of (find_by mnemonic t text_table) (sym (any_found mnemonic
 agree_at : {A B : Type 0} (f g : A → B) (es : List A) (n : ℕ) (e : A) → map f es ≡ map g es → slice_get es n ≡ Some e → f e ≡ g e
 agree_at f g es n e h k = some_one _ _ (sym (ap (option_map f) k) ∙ sym (slice_get-map f es n) ∙ ap (λ l. slice_get l n) h ∙ slice_get-map g es n ∙ ap (option_map g) k)
 
-both : (a b : Bool) → (a && b) ≡ true → (a ≡ true) × (b ≡ true)
-both true b h = (refl, h)
-both false b h = absurd cc
-
 text_is : (t : List ℕ) (r : Row) → has_text t r ≡ true → text_of r ≡ t
 text_is t r h =
-    let has = both (nat_eq r.1 (length t) && nat_le (length t) LONGEST) (same_text (take (length t) r.0) t) h in
-    let long : r.1 ≡ length t = (Decides-eqb r.1 (length t)).0 (both (nat_eq r.1 (length t)) (nat_le (length t) LONGEST) has.0).0 in
+    let has = and_parts (nat_eq r.1 (length t) && nat_le (length t) LONGEST) (same_text (take (length t) r.0) t) h in
+    let long : r.1 ≡ length t = (Decides-eqb r.1 (length t)).0 (and_parts (nat_eq r.1 (length t)) (nat_le (length t) LONGEST) has.0).0 in
     ap (λ n. take n r.0) long ∙ (bytes_decides (take (length t) r.0) t).0 has.1
 
 -- a row that is found has the word of its text

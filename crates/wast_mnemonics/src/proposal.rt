@@ -1,7 +1,7 @@
 //! The words of proposals, whose instructions are refused as uncovered.
 
 /// A word of a proposal: a variant for each way to write operands.
-#[derive(Clone, Copy, Debug)]
+#[derive(Clone, Copy)]
 pub enum ProposalWord {
     Plain(PlainProposal),
     Index(IndexProposal),
@@ -17,14 +17,14 @@ pub enum ProposalWord {
 }
 
 /// Words with nothing after them.
-#[derive(Clone, Copy, Debug)]
+#[derive(Clone, Copy)]
 pub enum PlainProposal {
     Pause,
     RefI31Shared,
 }
 
 /// Words with an index after them.
-#[derive(Clone, Copy, Debug)]
+#[derive(Clone, Copy)]
 pub enum IndexProposal {
     ContNew,
     Suspend,
@@ -34,28 +34,28 @@ pub enum IndexProposal {
 }
 
 /// Words with two indices after them.
-#[derive(Clone, Copy, Debug)]
+#[derive(Clone, Copy)]
 pub enum IndicesProposal {
     ContBind,
     Switch,
 }
 
 /// Words with a label and two reference types after them.
-#[derive(Clone, Copy, Debug)]
+#[derive(Clone, Copy)]
 pub enum CastProposal {
     BrOnCastDescEq,
     BrOnCastDescEqFail,
 }
 
 /// Words with a type's index and handlers after them.
-#[derive(Clone, Copy, Debug)]
+#[derive(Clone, Copy)]
 pub enum ResumeProposal {
     Resume,
     ResumeThrowRef,
 }
 
 /// Words with an ordering where given and an index after them.
-#[derive(Clone, Copy, Debug)]
+#[derive(Clone, Copy)]
 pub enum OrderedIndexProposal {
     GlobalAtomicGet,
     GlobalAtomicSet,
@@ -80,7 +80,7 @@ pub enum OrderedIndexProposal {
 }
 
 /// Words with an ordering and an index after them, each where given.
-#[derive(Clone, Copy, Debug)]
+#[derive(Clone, Copy)]
 pub enum OrderedOptionalIndexProposal {
     TableAtomicGet,
     TableAtomicSet,
@@ -89,7 +89,7 @@ pub enum OrderedOptionalIndexProposal {
 }
 
 /// Words with an ordering where given and two indices after them.
-#[derive(Clone, Copy, Debug)]
+#[derive(Clone, Copy)]
 pub enum OrderedIndicesProposal {
     StructAtomicGet,
     StructAtomicGetS,

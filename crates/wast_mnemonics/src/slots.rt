@@ -5,6 +5,7 @@ ghost use Rattle.std.specs.Prelude.{◌≡◌};
 ghost use Rattle.wast_mnemonics.specs.Rows.{hash, row_number};
 
 /// The number of the only row that may have this text.
+#[inline(always)]
 pub fn row_number(text: &[u8]) -> usize
     ensures { result ≡ row_number text.now }
 {
@@ -12,6 +13,7 @@ pub fn row_number(text: &[u8]) -> usize
     SLOTS[(hash / 256 + SHIFTS[hash % 256] as usize) % 1024] as usize
 }
 
+#[inline(always)]
 fn hash(text: &[u8]) -> usize
     ensures { result ≡ hash text.now }
 {

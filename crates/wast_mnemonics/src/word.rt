@@ -6,7 +6,7 @@ use wasm_encoder_opcodes::{
 };
 
 /// A word that an instruction begins with (6.5): a variant for each way to write operands.
-#[derive(Clone, Copy, Debug)]
+#[derive(Clone, Copy)]
 pub enum Word {
     Plain(PlainWord),
     Name(NameWord),
@@ -38,7 +38,7 @@ pub enum Word {
 }
 
 /// Words with nothing after them.
-#[derive(Clone, Copy, Debug)]
+#[derive(Clone, Copy)]
 pub enum PlainWord {
     Unreachable,
     Nop,
@@ -65,14 +65,14 @@ pub enum PlainWord {
 }
 
 /// Words with a label's name after them where given.
-#[derive(Clone, Copy, Debug)]
+#[derive(Clone, Copy)]
 pub enum NameWord {
     Else,
     End,
 }
 
 /// Words with a label's name where given and a type use after them.
-#[derive(Clone, Copy, Debug)]
+#[derive(Clone, Copy)]
 pub enum BlockWord {
     Block,
     Loop,
@@ -81,7 +81,7 @@ pub enum BlockWord {
 }
 
 /// Words with an index after them.
-#[derive(Clone, Copy, Debug)]
+#[derive(Clone, Copy)]
 pub enum IndexWord {
     Catch,
     Throw,
@@ -115,7 +115,7 @@ pub enum IndexWord {
 }
 
 /// Words with two indices after them.
-#[derive(Clone, Copy, Debug)]
+#[derive(Clone, Copy)]
 pub enum IndicesWord {
     StructGet,
     StructGetS,
@@ -129,14 +129,14 @@ pub enum IndicesWord {
 }
 
 /// Words with a table's index where given and a type use after them.
-#[derive(Clone, Copy, Debug)]
+#[derive(Clone, Copy)]
 pub enum IndirectWord {
     CallIndirect,
     ReturnCallIndirect,
 }
 
 /// Words with an index after them where given.
-#[derive(Clone, Copy, Debug)]
+#[derive(Clone, Copy)]
 pub enum OptionalIndexWord {
     TableGet,
     TableSet,
@@ -149,35 +149,35 @@ pub enum OptionalIndexWord {
 }
 
 /// Words with two indices after them where given: where to, where from.
-#[derive(Clone, Copy, Debug)]
+#[derive(Clone, Copy)]
 pub enum CopyWord {
     MemoryCopy,
     TableCopy,
 }
 
 /// Words with an index where given, of a memory or a table, and a segment's index after them.
-#[derive(Clone, Copy, Debug)]
+#[derive(Clone, Copy)]
 pub enum InitWord {
     MemoryInit,
     TableInit,
 }
 
 /// Words with a reference type after them.
-#[derive(Clone, Copy, Debug)]
+#[derive(Clone, Copy)]
 pub enum RefWord {
     RefTest,
     RefCast,
 }
 
 /// Words with a label and two reference types after them.
-#[derive(Clone, Copy, Debug)]
+#[derive(Clone, Copy)]
 pub enum CastWord {
     BrOnCast,
     BrOnCastFail,
 }
 
 /// Words with the number of a lane after them.
-#[derive(Clone, Copy, Debug)]
+#[derive(Clone, Copy)]
 pub enum LaneWord {
     I8x16ExtractLaneS,
     I8x16ExtractLaneU,
@@ -196,7 +196,7 @@ pub enum LaneWord {
 }
 
 /// Vector loads and stores.
-#[derive(Clone, Copy, Debug)]
+#[derive(Clone, Copy)]
 pub enum VectorMemoryWord {
     V128Load,
     V128Load8x8S,
@@ -215,7 +215,7 @@ pub enum VectorMemoryWord {
 }
 
 /// Words with a memory argument after them.
-#[derive(Clone, Copy, Debug)]
+#[derive(Clone, Copy)]
 pub enum MemoryWord {
     Access(AccessOp),
     Atomic(AtomicOp),
@@ -224,7 +224,7 @@ pub enum MemoryWord {
 }
 
 /// Words with a memory argument and the number of a lane after them.
-#[derive(Clone, Copy, Debug)]
+#[derive(Clone, Copy)]
 pub enum MemoryLaneWord {
     V128Load8Lane,
     V128Load16Lane,

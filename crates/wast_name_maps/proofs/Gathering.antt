@@ -15,10 +15,11 @@ use Rattle.wast_value_types.specs.declared.global_type.GlobalType.{GlobalType}
 use Rattle.wast_parser_base.specs.Identifier.{Identifier}
 use Rattle.wast_parser_base.specs.declared.index.NameAnnotation.{NameAnnotation}
 use Rattle.wast_value_types.specs.declared.val_type.ValType.{ValType}
-use Rattle.wast_core_types.specs.TypeViews.{inner_tree, name_tree, struct_field_tree, item_tree as type_tree}
+use Rattle.wast_signatures.specs.SignatureViews.{name_tree, struct_field_tree}
+use Rattle.wast_core_types.specs.TypeViews.{inner_tree, item_tree as type_tree}
 use Rattle.wast_core_types.specs.declared.composite.InnerTypeKind.{InnerTypeKind}
 use Rattle.wast_core_types.specs.declared.composite.InnerTypeKind.TheVariants as kinds
-use Rattle.wast_core_types.specs.declared.composite.StructField.{StructField}
+use Rattle.wast_signatures.specs.declared.struct_field.StructField.{StructField}
 use Rattle.wast_core_types.specs.declared.definition.TypeItem.{TypeItem}
 use Rattle.wast_core_instr.specs.InstructionViews.{instruction_tree}
 use Rattle.wast_core_instr.specs.declared.instruction.Instruction.{Instruction}
@@ -26,18 +27,19 @@ use Rattle.wast_imports.specs.ImportViews.{extern_tree, item_tree, member_tree, 
 use Rattle.wast_imports.specs.declared.item.ItemSig.{ItemSig}
 use Rattle.wast_imports.specs.declared.import.ImportGroup1Item.{ImportGroup1Item}
 use Rattle.wast_imports.specs.declared.import.ImportGroup2Item.{ImportGroup2Item}
-use Rattle.wast_fields.specs.ElemViews.{defined_table}
-use Rattle.wast_fields.specs.FieldViews.{defined_global, defined_memory}
-use Rattle.wast_fields.specs.declared.local.Local.{Local}
-use Rattle.wast_fields.specs.declared.global.GlobalKind.{GlobalKind}
-use Rattle.wast_fields.specs.declared.global.GlobalKind.TheVariants as globals
-use Rattle.wast_fields.specs.declared.table.TableKind.{TableKind}
-use Rattle.wast_fields.specs.declared.table.TableKind.TheVariants as tables
-use Rattle.wast_fields.specs.declared.memory.MemoryKind.{MemoryKind}
-use Rattle.wast_fields.specs.declared.memory.MemoryKind.TheVariants as memories
-use Rattle.wast_core.specs.ModuleViews.{field_tree}
-use Rattle.wast_core.specs.declared.field.ModuleField.{ModuleField}
-use Rattle.wast_core.specs.declared.field.ModuleField.TheVariants as fields
+use Rattle.wast_module_fields.specs.ElemViews.{defined_table}
+use Rattle.wast_module_fields.specs.FuncViews.{defined_global}
+use Rattle.wast_module_fields.specs.MemoryViews.{defined_memory}
+use Rattle.wast_module_fields.specs.Local.{Local}
+use Rattle.wast_module_fields.specs.GlobalKind.{GlobalKind}
+use Rattle.wast_module_fields.specs.GlobalKind.TheVariants as globals
+use Rattle.wast_module_fields.specs.TableKind.{TableKind}
+use Rattle.wast_module_fields.specs.TableKind.TheVariants as tables
+use Rattle.wast_module_fields.specs.MemoryKind.{MemoryKind}
+use Rattle.wast_module_fields.specs.MemoryKind.TheVariants as memories
+use Rattle.wast_module_fields.specs.ModuleFieldViews.{field_tree}
+use Rattle.wast_module_fields.specs.declared.field.ModuleField.{ModuleField}
+use Rattle.wast_module_fields.specs.declared.field.ModuleField.TheVariants as fields
 use Rattle.wast_meaning.specs.Implied.{func_sig}
 use Rattle.wast_meaning.specs.Spaces.{Bound, bound_import, bound_type, fields_of, items, space_number, same_space}
 use Rattle.wast_meaning.specs.Views.{space_view}

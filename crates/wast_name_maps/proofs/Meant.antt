@@ -11,11 +11,11 @@ use Rattle.wasm_encoder_custom.specs.Names as binary
 use Rattle.wast_grammar.specs.Tokens.{Name}
 use Rattle.wast_grammar.specs.Spelling.{same_name}
 use Rattle.wast_parser.specs.Identifiers.{Named, Reference, ByNumber, ByName}
-use Rattle.wast_core_types.specs.TypeTree.{InnerType, FuncType, Local, Sig, TypeUse, TypeItem}
+use Rattle.wast_signatures.specs.TypeTree.{InnerType, FuncType, Local, Sig, TypeUse, TypeItem}
 use Rattle.wast_imports.specs.ImportTree.{ExternType, OfFunc, OfExactFunc, OfTable, OfMemory, OfGlobal, OfTag, ImportItems, Single, Group1, Group2}
 use Rattle.wast_exports.specs.Exports as exports
 use Rattle.wast_core_instr.specs.InstructionTree.{Instruction}
-use Rattle.wast_fields.specs.FieldTree.{Function, Defined, Imported, Func, Table, TableOf, Memory, MemoryOf, Global, Tag, Field, TypeField, RecField, ImportField, Define, ExportField, StartField, ElemField, DataField, CustomField}
+use Rattle.wast_module_fields.specs.FieldTree.{Function, Defined, Imported, Func, Table, TableOf, Memory, MemoryOf, Global, Tag, Field, TypeField, RecField, ImportField, Define, ExportField, StartField, ElemField, DataField, CustomField}
 use Rattle.wast_meaning.specs.Implied.{no_sig, func_sig, written_types}
 use Rattle.wast_meaning.specs.Mentions.{Uses, local_mentions, expr_mentions, field_mentions}
 use Rattle.wast_meaning.specs.Scope.{Scope, scope_of, params_of, turn_of_head, own_label}

@@ -6,10 +6,10 @@ use Rattle.wasm_encoder_base.specs.Table.{Space}
 use Rattle.wasm_encoder_custom.specs.Names.{InnerSpace, Locals, Labels, Fields, Parameters, TagParameters}
 use Rattle.wast_grammar.specs.Tokens.{Name}
 use Rattle.wast_parser.specs.Identifiers.{Named}
-use Rattle.wast_core_types.specs.TypeTree.{TypeItem, TypeUse}
+use Rattle.wast_signatures.specs.TypeTree.{TypeItem, TypeUse}
 use Rattle.wast_core_instr.specs.InstructionTree.{Instruction}
 use Rattle.wast_imports.specs.ImportTree.{ExternType, OfFunc, OfExactFunc, OfTag}
-use Rattle.wast_fields.specs.FieldTree.{Function, Defined, Func, Tag, Field, TypeField, RecField, ImportField, Define}
+use Rattle.wast_module_fields.specs.FieldTree.{Function, Defined, Func, Tag, Field, TypeField, RecField, ImportField, Define}
 use Rattle.wast_meaning.specs.Implied.{func_sig}
 use Rattle.wast_meaning.specs.Scope.{turn_of_head, own_label}
 use Rattle.wast_meaning.specs.Spaces.{Bound, same_space, fields_of}

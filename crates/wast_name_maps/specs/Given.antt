@@ -2,7 +2,7 @@
 use Rattle.std.specs.Prelude.{ℕ, List, map, Option, option_map, unwrap_or}
 use Rattle.wast_grammar.specs.Tokens.{Name}
 use Rattle.wast_parser.specs.Identifiers.{Named}
-use Rattle.wast_core_types.specs.TypeTree.{Local, Sig}
+use Rattle.wast_signatures.specs.TypeTree.{Local, Sig}
 use Rattle.wast_meaning.specs.Implied.{no_sig}
 use Rattle.wast_meant.specs.Binary.{bytes_of}
 use Rattle.wast_meaning.specs.Made.{is_made}

@@ -6,9 +6,9 @@ use Rattle.wasm_layout.specs.Present as present
 use Rattle.wast_parser_base.specs.Identifier.{Identifier}
 use Rattle.wast_parser_base.specs.declared.index.NameAnnotation.{NameAnnotation}
 use Rattle.wast_parser.specs.Identifiers.{identifier_tree}
-use Rattle.wast_core_types.specs.TypeViews.{name_tree}
-use Rattle.wast_core.specs.ModuleViews.{field_tree}
-use Rattle.wast_core.specs.declared.field.ModuleField.{ModuleField}
+use Rattle.wast_signatures.specs.SignatureViews.{name_tree}
+use Rattle.wast_module_fields.specs.ModuleFieldViews.{field_tree}
+use Rattle.wast_module_fields.specs.declared.field.ModuleField.{ModuleField}
 use Rattle.wast_name_maps.specs.declared.kinds.Items.{Items}
 use Rattle.wast_name_maps.specs.declared.kinds.Items.TheVariants as items
 use Rattle.wast_name_maps.specs.declared.kinds.Inside.{Inside}

@@ -2,8 +2,8 @@
 use Rattle.std.specs.Prelude.{ℕ, Bool, List, [], ◌++◌, length, replicate, slice_get, Option, Some, None, unwrap_or}
 use Rattle.wast_grammar.specs.Tokens.{Name}
 use Rattle.wast_parser.specs.Identifiers.{Reference, ByNumber}
-use Rattle.wast_core_types.specs.TypeTree.{InnerType, FuncType, TypeUse, TypeItem}
-use Rattle.wast_fields.specs.FieldTree.{Function}
+use Rattle.wast_signatures.specs.TypeTree.{InnerType, FuncType, TypeUse, TypeItem}
+use Rattle.wast_module_fields.specs.FieldTree.{Function}
 use Rattle.wast_name_maps.specs.Given.{local_names}
 
 -- one that is no function type has none

@@ -1,7 +1,7 @@
 //! The names that annotations and identifiers give.
 ghost use Rattle.std.specs.Prelude.{◌≡◌, ◌∷◌, [], not, Some, option_map};
 ghost use Rattle.wast_parser.specs.Identifiers.{identifier_tree};
-ghost use Rattle.wast_core_types.specs.TypeViews.{name_tree};
+ghost use Rattle.wast_signatures.specs.SignatureViews.{name_tree};
 ghost use Rattle.wast_meaning.specs.Made.{is_made};
 ghost use Rattle.wast_name_maps.specs.Given.{given, identified};
 ghost use Rattle.wast_name_maps.specs.Numbered.{NamesJoin};

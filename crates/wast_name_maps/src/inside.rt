@@ -1,11 +1,12 @@
 //! The names inside of items.
 ghost use Rattle.std.specs.Prelude.{◌≡◌, ◌∷◌, [], ℕ, List, map};
 ghost use Rattle.std.specs.List.{flat_map};
-ghost use Rattle.wast_core_types.specs.TypeViews.{inner_tree, item_tree, use_tree};
+ghost use Rattle.wast_signatures.specs.SignatureViews.{use_tree};
+ghost use Rattle.wast_core_types.specs.TypeViews.{inner_tree, item_tree};
 ghost use Rattle.wast_core_instr.specs.ExpressionViews.{expression_tree};
 ghost use Rattle.wast_imports.specs.ImportViews.{extern_tree, items_tree, member_name_tree, member_tree, tag_tree};
-ghost use Rattle.wast_fields.specs.FieldViews.{defined_func, defined_tag, local_tree};
-ghost use Rattle.wast_core.specs.ModuleViews.{field_tree};
+ghost use Rattle.wast_module_fields.specs.FuncViews.{defined_func, defined_tag, local_tree};
+ghost use Rattle.wast_module_fields.specs.ModuleFieldViews.{field_tree};
 ghost use Rattle.wast_meaning.specs.Implied.{written_types};
 ghost use Rattle.wast_meant.specs.NamesMeant.{imported};
 ghost use Rattle.wast_name_maps.specs.Gathered.{defined_groups, field_groups, function_groups, import_groups, label_names, nameless_groups, tag_groups, type_groups};
@@ -21,7 +22,7 @@ use crate::params::param_counts;
 use crate::types::{names_of_fields, names_of_params, names_of_tag_params};
 use std::alloc::Global;
 use wasm_encoder_base::EncodeError;
-use wast_core::{
+use wast_module_fields::{
     Expression, Func, FuncKind, FunctionType, ImportGroup1Item, ImportGroup2Item, ImportItems,
     Imports, ItemKind, ItemSig, Local, ModuleField, Tag, TagKind, TagType, TypeItem, TypeUse,
 };

@@ -2,13 +2,14 @@
 ghost use Rattle.std.specs.Prelude.{◌≡◌, ◌∷◌, [], None, map, option_map};
 ghost use Rattle.std.specs.List.{flat_map};
 ghost use Rattle.wast_parser.specs.Identifiers.{identifier_tree};
-ghost use Rattle.wast_core_types.specs.TypeViews.{name_tree, item_tree};
+ghost use Rattle.wast_signatures.specs.SignatureViews.{name_tree};
+ghost use Rattle.wast_core_types.specs.TypeViews.{item_tree};
 ghost use Rattle.wast_imports.specs.ImportViews.{items_tree, member_name_tree, member_tree};
 ghost use Rattle.wast_imports.specs.ImportViews.{item_tree as imported_tree};
-ghost use Rattle.wast_fields.specs.ElemViews.{table_definition};
-ghost use Rattle.wast_fields.specs.FieldTree.{Define};
-ghost use Rattle.wast_fields.specs.FieldViews.{memory_definition};
-ghost use Rattle.wast_core.specs.ModuleViews.{field_tree};
+ghost use Rattle.wast_module_fields.specs.ElemViews.{table_definition};
+ghost use Rattle.wast_module_fields.specs.FieldTree.{Define};
+ghost use Rattle.wast_module_fields.specs.MemoryViews.{memory_definition};
+ghost use Rattle.wast_module_fields.specs.ModuleFieldViews.{field_tree};
 ghost use Rattle.wast_meaning.specs.Spaces.{bound, bound_import, bound_imports, bound_type, items, same_space};
 ghost use Rattle.wast_meaning.specs.Views.{space_view};
 ghost use Rattle.wast_name_maps.specs.Gathered.{bound_names};
@@ -18,11 +19,11 @@ use crate::given::add_given;
 use crate::names::Names;
 use std::alloc::Global;
 use wasm_encoder_base::EncodeError;
-use wast_core::{
+use wast_meaning::Space;
+use wast_module_fields::{
     ImportGroup1Item, ImportGroup2Item, ImportItems, Imports, ItemSig, Memory, MemoryKind,
     ModuleField, Table, TableKind, TypeItem,
 };
-use wast_meaning::Space;
 use wast_parser::{Id, NameAnnotation};
 
 /// The names of the items of a space, in order.

@@ -7,7 +7,7 @@ ghost use Rattle.wast_name_maps.specs.Kinds.{items_view};
 use wast_meaning::Space;
 
 /// A name map (appendix, Name Section).
-#[derive(Clone, Copy, Debug)]
+#[derive(Clone, Copy)]
 pub(crate) enum Map {
     /// The name of the module.
     Module,
@@ -18,7 +18,7 @@ pub(crate) enum Map {
 }
 
 /// The index spaces whose items have a map.
-#[derive(Clone, Copy, Debug)]
+#[derive(Clone, Copy)]
 pub(crate) enum Items {
     Functions,
     Types,
@@ -32,7 +32,7 @@ pub(crate) enum Items {
 
 /// What is inside of items and has a map: locals and labels of functions, fields of structure types, parameters of function types
 /// and of tags.
-#[derive(Clone, Copy, Debug)]
+#[derive(Clone, Copy)]
 pub(crate) enum Inside {
     Locals,
     Labels,

@@ -9,7 +9,7 @@ use crate::given::add_identified;
 use crate::names::Names;
 use std::alloc::Global;
 use wasm_encoder_base::EncodeError;
-use wast_core::Instruction;
+use wast_module_fields::Instruction;
 
 /// The names of the labels of a body, by the instructions that open blocks, in their order.
 pub(crate) fn names_of_labels(

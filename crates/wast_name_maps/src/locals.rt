@@ -1,7 +1,7 @@
 //! The names of locals.
 ghost use Rattle.std.specs.Prelude.{◌++◌, map};
-ghost use Rattle.wast_core_types.specs.TypeViews.{use_tree};
-ghost use Rattle.wast_fields.specs.FieldViews.{local_tree};
+ghost use Rattle.wast_signatures.specs.SignatureViews.{use_tree};
+ghost use Rattle.wast_module_fields.specs.FuncViews.{local_tree};
 ghost use Rattle.wast_name_maps.specs.Given.{local_names};
 ghost use Rattle.wast_name_maps.specs.Locals.{params_by};
 ghost use Rattle.wast_name_maps.specs.Numbered.{BuildsNames, NamesJoin};
@@ -12,7 +12,7 @@ use crate::params::count_by;
 use crate::types::add_params;
 use std::alloc::Global;
 use wasm_encoder_base::EncodeError;
-use wast_core::{FunctionType, Local, TypeUse};
+use wast_module_fields::{FunctionType, Local, TypeUse};
 
 /// The names of the locals of a function (6.6.4): of the parameters, and then of its own. A use without a signature has the parameters of
 /// its type, by these counts, without names.

@@ -3,13 +3,13 @@ ghost use Rattle.std.specs.Prelude.{◌≡◌, [], ◌∷◌, ◌++◌, true, If
 ghost use Rattle.std.specs.List.{flat_map};
 ghost use Rattle.wast_parser.specs.Identifiers.{index_tree};
 ghost use Rattle.wast_core_types.specs.TypeViews.{inner_tree, item_tree};
-ghost use Rattle.wast_core.specs.ModuleViews.{field_tree};
+ghost use Rattle.wast_module_fields.specs.ModuleFieldViews.{field_tree};
 ghost use Rattle.wast_meaning.specs.Implied.{written_types};
 ghost use Rattle.wast_name_maps.specs.Locals.{count_by, inner_count, param_count};
 
 use std::alloc::{AllocError, Global};
-use wast_core::{ModuleField, TypeItem};
 use wast_core_types::InnerTypeKind;
+use wast_module_fields::{ModuleField, TypeItem};
 use wast_parser::Index;
 
 /// Those of the types that fields write, in order; one that is no function type has none. Fails only for want of memory.

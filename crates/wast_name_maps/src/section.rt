@@ -6,8 +6,8 @@ ghost use Rattle.wasm_layout.specs.IsModule.{IsMap, AreInner, AreNames};
 ghost use Rattle.wasm_layout.specs.Layout.{name_bytes, subsection_of};
 ghost use Rattle.wasm_layout.specs.Present.{OfItems, Inner};
 ghost use Rattle.wast_parser.specs.Identifiers.{identifier_tree};
-ghost use Rattle.wast_core_types.specs.TypeViews.{name_tree};
-ghost use Rattle.wast_core.specs.ModuleViews.{field_tree};
+ghost use Rattle.wast_signatures.specs.SignatureViews.{name_tree};
+ghost use Rattle.wast_module_fields.specs.ModuleFieldViews.{field_tree};
 ghost use Rattle.wast_meaning.specs.Settled.{are_settled};
 ghost use Rattle.wast_name_maps.specs.Fits.{NamesFit};
 ghost use Rattle.wast_name_maps.specs.Kinds.{items_view, inside_view, map_view, maps_of};
@@ -22,7 +22,7 @@ use crate::subsections::{add_groups, add_module_name, add_names, if_any};
 use std::alloc::Global;
 use wasm_encoder_base::EncodeError;
 use wasm_encoder_custom::NameSection;
-use wast_core::ModuleField;
+use wast_module_fields::ModuleField;
 use wast_parser::{Id, NameAnnotation};
 
 /// The custom section `name` of a module of these fields, which has this identifier and this `@name` (appendix, Name Section); none where

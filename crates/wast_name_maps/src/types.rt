@@ -1,6 +1,7 @@
 //! The names of fields and parameters.
 ghost use Rattle.std.specs.Prelude.{map};
-ghost use Rattle.wast_core_types.specs.TypeViews.{inner_tree, param_tree, struct_field_tree};
+ghost use Rattle.wast_signatures.specs.SignatureViews.{param_tree, struct_field_tree};
+ghost use Rattle.wast_core_types.specs.TypeViews.{inner_tree};
 ghost use Rattle.wast_imports.specs.ImportViews.{tag_tree};
 ghost use Rattle.wast_meaning.specs.Implied.{func_sig};
 ghost use Rattle.wast_meaning.specs.Spaces.{fields_of};
@@ -11,8 +12,9 @@ use crate::given::{add_given, add_identified};
 use crate::names::Names;
 use std::alloc::Global;
 use wasm_encoder_base::EncodeError;
-use wast_core::TagType;
-use wast_core_types::{InnerTypeKind, Param, StructField};
+use wast_core_types::InnerTypeKind;
+use wast_module_fields::TagType;
+use wast_signatures::{Param, StructField};
 
 /// The names of the fields of a type; one that is no structure has no fields.
 pub(crate) fn names_of_fields(alloc: Global, kind: &InnerTypeKind<'_>) -> Result<Names, EncodeError>

@@ -3,8 +3,8 @@ use Rattle.std.proofs.Common.{◌≡◌, ◌≢◌, ℕ, ◌+◌, ◌<◌, Bool,
 use Rattle.std.specs.Prelude.{◌==◌, Some, codes}
 use Rattle.std.proofs.Math.Seq.{drop-cons}
 use Rattle.std.proofs.lemmas.Bool.{cases_Bool, eqb-true, eq-eqb}
-use Rattle.wast_lexer.specs.Numbers.{is_base}
-use Rattle.wast_parser.specs.Spelling.{after}
+use Rattle.wast_vector_operands.specs.Numbers.{is_base}
+use Rattle.wast_vector_operands.specs.Spelling.{after}
 use Rattle.wast_operands.specs.OperandSyntax.{are_digits, digits_number, u64_number}
 
 -- what is left of digits, behind a digit or not

@@ -1,16 +1,16 @@
 -- The laws of the syntax of operands: each mirrors its production.
 use Rattle.std.proofs.Common.{◌≡◌, ℕ, Bool, true, false, [], ◌∷◌, Some, None, inr, refl}
 use Rattle.std.specs.Prelude.{◌-◌, ◌^◌, codes}
-use Rattle.wast_parser.specs.Tokens.{Id, Word}
-use Rattle.wast_parser.specs.Look.{apart, join, faults}
-use Rattle.wast_parser.specs.Grammar.{Syntax, led, wide, seq}
-use Rattle.wast_parser.specs.Identifiers.{ByName}
-use Rattle.wast_parser.specs.Integers.{unsigned}
-use Rattle.wast_grammar.proofs.Looks.{sub_law}
-use Rattle.wast_parser.proofs.GrammarLaws.{Lawful, Leads, led_laws, word_laws, among_laws, begun_laws, nothing_laws, seen_laws, only_laws, seq_laws, next_laws, maybe_laws, many_laws, either_laws, group_laws, bound_laws, wide_laws}
-use Rattle.wast_parser.proofs.LeadLaws.{seen_leads, among_leads, group_leads}
-use Rattle.wast_parser.proofs.IdentifierLaws.{identifier_laws, index_laws, item_ref_laws}
-use Rattle.wast_parser.proofs.IntegerLaws.{number_laws}
+use Rattle.wast_vector_operands.specs.Tokens.{Id, Word}
+use Rattle.wast_vector_operands.specs.Look.{apart, join, faults}
+use Rattle.wast_vector_operands.specs.Grammar.{Syntax, led, wide, seq}
+use Rattle.wast_vector_operands.specs.Identifiers.{ByName}
+use Rattle.wast_vector_operands.specs.Integers.{unsigned}
+use Rattle.wast_vector_operands.proofs.Looks.{sub_law}
+use Rattle.wast_vector_operands.proofs.GrammarLaws.{Lawful, Leads, led_laws, word_laws, among_laws, begun_laws, nothing_laws, seen_laws, only_laws, seq_laws, next_laws, maybe_laws, many_laws, either_laws, group_laws, bound_laws, wide_laws}
+use Rattle.wast_vector_operands.proofs.LeadLaws.{seen_leads, among_leads, group_leads}
+use Rattle.wast_vector_operands.proofs.IdentifierLaws.{identifier_laws, index_laws, item_ref_laws}
+use Rattle.wast_vector_operands.proofs.IntegerLaws.{number_laws}
 use Rattle.wast_operands.specs.OperandTree.{Modifiers, OnSwitch}
 use Rattle.wast_vector_operands.specs.VectorSyntax.{integer_starts, lane}
 use Rattle.wast_vector_operands.proofs.VectorLaws.{lane_laws}

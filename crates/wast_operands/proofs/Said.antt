@@ -1,8 +1,8 @@
 -- What words that begin so say.
 use Rattle.std.proofs.Common.{◌≡◌, ℕ, List, [], ◌∷◌, Option, Some, None, refl, sym, ◌∙◌, ap}
-use Rattle.wast_parser.specs.Tokens.{SignificantToken, Word}
-use Rattle.wast_parser.specs.Spelling.{◌>>=◌, after}
-use Rattle.wast_parser.specs.Grammar.{begun, seen, Reader}
+use Rattle.wast_vector_operands.specs.Tokens.{SignificantToken, Word}
+use Rattle.wast_vector_operands.specs.Spelling.{◌>>=◌, after}
+use Rattle.wast_vector_operands.specs.Grammar.{begun, seen, Reader}
 
 chain : {A B : Type 0} (f : List ℕ → Option A) (g : A → Option B) (o : Option (List ℕ)) → (o >>= λ w. f w >>= g) ≡ ((o >>= f) >>= g)
 chain f g None = refl

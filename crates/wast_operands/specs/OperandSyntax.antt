@@ -1,13 +1,13 @@
 -- The syntax of operands in which no type stands (WebAssembly 3.0, 6.5).
 use Rattle.std.specs.Prelude.{ℕ, ◌-◌, ◌^◌, ◌==◌, ◌&&◌, nat_lt, Bool, true, false, if◌then◌else◌, List, [], ◌∷◌, map, Option, Some, None, is_none, unwrap_or, codes}
 use Rattle.std.specs.Int.{is_power_of_two}
-use Rattle.wast_lexer.specs.Numbers.{is_base}
-use Rattle.wast_parser.specs.Tokens.{number, base_of}
-use Rattle.wast_parser.specs.Spelling.{◌>>=◌, after}
-use Rattle.wast_parser.specs.Look.{Test, On, OneOf, Begun, Any, AnId, AnInteger, AWord, this_group, join, faults}
-use Rattle.wast_parser.specs.Grammar.{Syntax, among, begun, word, nothing, next, seq, seen, only, maybe, many, either, group}
-use Rattle.wast_parser.specs.Integers.{number_in, unsigned}
-use Rattle.wast_parser.specs.Identifiers.{Reference, ByNumber, ByName, identifier, index, item_ref}
+use Rattle.wast_vector_operands.specs.Numbers.{is_base}
+use Rattle.wast_vector_operands.specs.Tokens.{number, base_of}
+use Rattle.wast_vector_operands.specs.Spelling.{◌>>=◌, after}
+use Rattle.wast_vector_operands.specs.Look.{Test, On, OneOf, Begun, Any, AnId, AnInteger, AWord, this_group, join, faults}
+use Rattle.wast_vector_operands.specs.Grammar.{Syntax, among, begun, word, nothing, next, seq, seen, only, maybe, many, either, group}
+use Rattle.wast_vector_operands.specs.Integers.{number_in, unsigned}
+use Rattle.wast_vector_operands.specs.Identifiers.{Reference, ByNumber, ByName, identifier, index, item_ref}
 use Rattle.wast_vector_operands.specs.VectorSyntax.{integer_starts, lane}
 use Rattle.wast_operands.specs.OperandTree.{Ordering, AcqRel, SeqCst, MemArgTarget, Memory, Array, Modifiers, MemArg, Handle, OnLabel, OnSwitch}
 

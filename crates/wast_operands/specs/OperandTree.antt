@@ -1,7 +1,7 @@
 -- Operands of instructions in which no type stands, as they are written: abstract syntax trees (WebAssembly 3.0, 6.5), over
 -- names of type N and places of type P. An index that may be left out and is means index 0.
 use Rattle.std.specs.Prelude.{ℕ, Option}
-use Rattle.wast_parser.specs.Identifiers.{Reference}
+use Rattle.wast_vector_operands.specs.Identifiers.{Reference}
 
 -- orderings of atomic instructions
 pub data Ordering : Type 0 where

@@ -1,8 +1,8 @@
 -- What the grammar sees of the code's operands.
 use Rattle.std.specs.Prelude.{ℕ, List, map, Option, Some, None, option_map}
-use Rattle.wast_grammar.specs.Tokens.{Name}
+use Rattle.wast_vector_operands.specs.Tokens.{Name}
 use Rattle.wast_parser_base.specs.declared.index.Index.{Index}
-use Rattle.wast_parser.specs.Identifiers.{Reference, index_tree}
+use Rattle.wast_vector_operands.specs.Identifiers.{Reference, index_tree}
 use Rattle.wast_operands.specs.OperandTree as spec
 use Rattle.wast_operands.specs.declared.index.BrTableIndices.{BrTableIndices}
 use Rattle.wast_operands.specs.declared.index.TableArg.{TableArg}

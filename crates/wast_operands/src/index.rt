@@ -1,18 +1,18 @@
 //! Operands that are indices.
 ghost use Rattle.std.specs.Prelude.{◌≡◌, ℕ, List, map, Option, IfOk, option_map};
-ghost use Rattle.wast_grammar.specs.Tokens.{Name};
-ghost use Rattle.wast_parser.specs.Lawful.{Lawful};
-ghost use Rattle.wast_parser.specs.Identifiers.{Reference, index, index_tree};
+ghost use Rattle.wast_vector_operands.specs.Tokens.{Name};
+ghost use Rattle.wast_vector_operands.specs.Lawful.{Lawful};
+ghost use Rattle.wast_vector_operands.specs.Identifiers.{Reference, index, index_tree};
 ghost use Rattle.wast_operands.specs.OperandSyntax.{but_last, label_table, optional_index, optional_indices, one_or_two, two_indices, index_count};
 ghost use Rattle.wast_operands.specs.OperandViews.{pair_tree, label_table_tree, table_arg_tree, memory_arg_tree, table_copy_tree, memory_copy_tree, table_init_tree, memory_init_tree, struct_access_tree, array_copy_tree, array_init_tree, array_new_data_tree, array_new_elem_tree, array_new_fixed_tree};
-ghost use Rattle.wast_parser.specs.State.{ahead, Keeps};
-ghost use Rattle.wast_parser.specs.Reading.{Gives};
+ghost use Rattle.wast_vector_operands.specs.State.{ahead, Keeps};
+ghost use Rattle.wast_vector_operands.specs.Reading.{Gives};
 
 use std::alloc::AllocError;
-use wast_parser::{Error, Index, Meaning, Parse, Parser, list_of};
+use wast_vector_operands::{Error, Index, Meaning, Parse, Parser, list_of};
 
 /// The labels of `br_table`, of which the last written is the default.
-#[derive(Debug, Drop)]
+#[derive(Drop)]
 pub struct BrTableIndices<'a> {
     pub labels: Vec<Index<'a>>,
     pub default: Index<'a>,
@@ -56,7 +56,7 @@ fn last_apart<'a>(first: Index<'a>, more: Vec<Index<'a>>) -> Result<BrTableIndic
 }
 
 /// The table of an instruction; absent it is table 0.
-#[derive(Debug, Drop)]
+#[derive(Drop)]
 pub struct TableArg<'a> {
     pub dst: Option<Index<'a>>,
 }
@@ -81,7 +81,7 @@ impl<'a> Parse<'a> for TableArg<'a> {
 }
 
 /// The memory of an instruction; absent it is memory 0.
-#[derive(Debug, Drop)]
+#[derive(Drop)]
 pub struct MemoryArg<'a> {
     pub mem: Option<Index<'a>>,
 }
@@ -106,7 +106,7 @@ impl<'a> Parse<'a> for MemoryArg<'a> {
 }
 
 /// The table that `table.copy` copies to, and the one that it copies from; absent both are table 0.
-#[derive(Debug, Drop)]
+#[derive(Drop)]
 pub struct TableCopy<'a> {
     pub tables: Option<Box<(Index<'a>, Index<'a>)>>,
 }
@@ -131,7 +131,7 @@ impl<'a> Parse<'a> for TableCopy<'a> {
 }
 
 /// The memory that `memory.copy` copies to, and the one that it copies from; absent both are memory 0.
-#[derive(Debug, Drop)]
+#[derive(Drop)]
 pub struct MemoryCopy<'a> {
     pub memories: Option<Box<(Index<'a>, Index<'a>)>>,
 }
@@ -156,7 +156,7 @@ impl<'a> Parse<'a> for MemoryCopy<'a> {
 }
 
 /// A table, absent table 0, and a segment of elements.
-#[derive(Debug, Drop)]
+#[derive(Drop)]
 pub struct TableInit<'a> {
     pub table: Option<Index<'a>>,
     pub elem: Index<'a>,
@@ -182,7 +182,7 @@ impl<'a> Parse<'a> for TableInit<'a> {
 }
 
 /// A memory, absent memory 0, and a segment of data.
-#[derive(Debug, Drop)]
+#[derive(Drop)]
 pub struct MemoryInit<'a> {
     pub mem: Option<Index<'a>>,
     pub data: Index<'a>,
@@ -208,7 +208,7 @@ impl<'a> Parse<'a> for MemoryInit<'a> {
 }
 
 /// A struct type, and a field of it.
-#[derive(Debug, Drop)]
+#[derive(Drop)]
 pub struct StructAccess<'a> {
     pub struct_type: Index<'a>,
     pub field: Index<'a>,
@@ -235,7 +235,7 @@ impl<'a> Parse<'a> for StructAccess<'a> {
 }
 
 /// An array type.
-#[derive(Debug, Drop)]
+#[derive(Drop)]
 pub struct ArrayFill<'a> {
     pub array: Index<'a>,
 }
@@ -260,7 +260,7 @@ impl<'a> Parse<'a> for ArrayFill<'a> {
 }
 
 /// The array type that `array.copy` copies to, and the one that it copies from.
-#[derive(Debug, Drop)]
+#[derive(Drop)]
 pub struct ArrayCopy<'a> {
     pub dest_array: Index<'a>,
     pub src_array: Index<'a>,
@@ -290,7 +290,7 @@ impl<'a> Parse<'a> for ArrayCopy<'a> {
 }
 
 /// An array type, and a segment of data or elements.
-#[derive(Debug, Drop)]
+#[derive(Drop)]
 pub struct ArrayInit<'a> {
     pub array: Index<'a>,
     pub segment: Index<'a>,
@@ -317,7 +317,7 @@ impl<'a> Parse<'a> for ArrayInit<'a> {
 }
 
 /// An array type, and how many operands are its elements.
-#[derive(Debug, Drop)]
+#[derive(Drop)]
 pub struct ArrayNewFixed<'a> {
     pub array: Index<'a>,
     pub length: u32,
@@ -344,7 +344,7 @@ impl<'a> Parse<'a> for ArrayNewFixed<'a> {
 }
 
 /// An array type, and a segment of data.
-#[derive(Debug, Drop)]
+#[derive(Drop)]
 pub struct ArrayNewData<'a> {
     pub array: Index<'a>,
     pub data_idx: Index<'a>,
@@ -371,7 +371,7 @@ impl<'a> Parse<'a> for ArrayNewData<'a> {
 }
 
 /// An array type, and a segment of elements.
-#[derive(Debug, Drop)]
+#[derive(Drop)]
 pub struct ArrayNewElem<'a> {
     pub array: Index<'a>,
     pub elem_idx: Index<'a>,

@@ -1,20 +1,21 @@
 //! Memory arguments.
 ghost use Rattle.std.specs.Prelude.{◌≡◌, ℕ, List, codes, option_map};
-ghost use Rattle.wast_parser.specs.Grammar.{begun, seen};
-ghost use Rattle.wast_parser.specs.State.{ahead, Keeps};
-ghost use Rattle.wast_parser.specs.Look.{ask, join};
-ghost use Rattle.wast_parser.specs.Reading.{Asks, Gives};
+ghost use Rattle.wast_vector_operands.specs.Grammar.{begun, seen};
+ghost use Rattle.wast_vector_operands.specs.State.{ahead, Keeps};
+ghost use Rattle.wast_vector_operands.specs.Look.{ask, join};
+ghost use Rattle.wast_vector_operands.specs.Reading.{Asks, Gives};
 ghost use Rattle.wast_vector_operands.specs.VectorSyntax.{integer_starts};
 ghost use Rattle.wast_operands.specs.OperandSyntax.{offset_starts, align_starts, lane_starts, u64_number, alignment, target, one_or_two_orderings, offset, align, modifiers, is_bare, as_mem_arg, mem_arg, modified_lane, behind_integer, integer_first, untargeted_lane, mem_arg_lane};
 ghost use Rattle.wast_operands.specs.OperandViews.{target_tree, mem_arg_ordering_tree, modifiers_tree, mem_arg_tree, lane_access_tree};
 
 use crate::number::u64_number;
 use crate::ordering::Ordering;
-use wast_parser::{Error, Id, Index, ItemRef, Keyword, KeywordName, Parse, Parser, Span};
-use wast_vector_operands::LaneArg;
+use wast_vector_operands::{
+    Error, Id, Index, ItemRef, Keyword, KeywordName, LaneArg, Parse, Parser, Span,
+};
 
 /// What a memory argument is of.
-#[derive(Debug, Drop)]
+#[derive(Drop)]
 pub enum MemArgTarget<'a> {
     /// A memory.
     Memory(Index<'a>),
@@ -23,7 +24,7 @@ pub enum MemArgTarget<'a> {
 }
 
 /// The ordering of an access: one for what only reads or writes, or that of reading and that of writing.
-#[derive(Clone, Copy, Debug, PartialEq, Eq, Hash)]
+#[derive(Clone, Copy, PartialEq, Eq, Hash)]
 pub enum MemArgOrdering {
     Op(Ordering),
     Rmw(Ordering, Ordering),
@@ -31,7 +32,7 @@ pub enum MemArgOrdering {
 
 /// A memory argument (6.5.6). The alignment is in bytes; an absent target is memory 0. Few have a target: it stands in a box, so
 /// that the others take no room for it.
-#[derive(Debug, Drop)]
+#[derive(Drop)]
 pub struct MemArg<'a> {
     pub align: u64,
     pub offset: u64,
@@ -52,7 +53,7 @@ impl<'a> MemArg<'a> {
 }
 
 /// A memory argument, and the number of a lane.
-#[derive(Debug, Drop)]
+#[derive(Drop)]
 pub struct LoadOrStoreLane<'a> {
     pub memarg: MemArg<'a>,
     pub lane: LaneArg,

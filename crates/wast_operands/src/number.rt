@@ -1,9 +1,9 @@
 //! Numbers in words, as in `offset=8`.
 ghost use Rattle.std.specs.Prelude.{◌≡◌};
-ghost use Rattle.wast_lexer.specs.Numbers.{is_base};
+ghost use Rattle.wast_vector_operands.specs.Numbers.{is_base};
 ghost use Rattle.wast_operands.specs.OperandSyntax.{are_digits, digits_number, u64_number};
 
-use wast_parser::magnitude;
+use wast_vector_operands::magnitude;
 
 /// The number that the text of a u64 says: decimal digits, or hexadecimal ones behind `0x`. None for another text, and past
 /// 64 bits.

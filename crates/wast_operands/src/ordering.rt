@@ -1,20 +1,20 @@
 //! Orderings of atomic instructions.
 ghost use Rattle.std.specs.Prelude.{◌≡◌, ℕ, List, [], true, refl};
-ghost use Rattle.wast_grammar.specs.Tokens.{Name};
-ghost use Rattle.wast_parser.specs.Look.{ask, apart};
-ghost use Rattle.wast_parser.specs.Lawful.{Lawful, Leads};
-ghost use Rattle.wast_parser.specs.State.{ahead};
-ghost use Rattle.wast_parser.specs.Reading.{Asks};
-ghost use Rattle.wast_parser.specs.Cursors.{stands};
+ghost use Rattle.wast_vector_operands.specs.Tokens.{Name};
+ghost use Rattle.wast_vector_operands.specs.Look.{ask, apart};
+ghost use Rattle.wast_vector_operands.specs.Lawful.{Lawful, Leads};
+ghost use Rattle.wast_vector_operands.specs.State.{ahead};
+ghost use Rattle.wast_vector_operands.specs.Reading.{Asks};
+ghost use Rattle.wast_vector_operands.specs.Cursors.{stands};
 ghost use Rattle.wast_operands.specs.OperandTree as spec;
 ghost use Rattle.wast_operands.specs.OperandSyntax.{ordering_word, orderings, ordering_starts, ordering, optional_ordering, ordered};
 ghost use Rattle.wast_operands.specs.OperandViews.{ordering_tree};
 
 use crate::index::{StructAccess, TableArg};
-use wast_parser::{Cursor, Error, Index, Item, Meaning, Parse, Parser, Peek, WordSet};
+use wast_vector_operands::{Cursor, Error, Index, Item, Meaning, Parse, Parser, Peek, WordSet};
 
 /// How an atomic instruction is ordered with others.
-#[derive(Clone, Copy, Debug, PartialEq, Eq, Hash)]
+#[derive(Clone, Copy, PartialEq, Eq, Hash)]
 pub enum Ordering {
     AcqRel,
     SeqCst,
@@ -109,7 +109,7 @@ impl<'a> Unordered for StructAccess<'a> {
 }
 
 /// An operand behind an ordering, which is `seq_cst` where it isn't written.
-#[derive(Debug, Drop)]
+#[derive(Drop)]
 pub struct Ordered<T> {
     pub ordering: Ordering,
     pub inner: T,

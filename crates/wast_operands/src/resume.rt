@@ -1,21 +1,21 @@
 //! Operands of instructions on continuations.
 ghost use Rattle.std.specs.Prelude.{◌≡◌, ℕ, List, [], ◌∷◌, Option, option_map, codes, refl};
-ghost use Rattle.wast_grammar.specs.Tokens.{Name};
-ghost use Rattle.wast_parser.specs.Grammar.{led};
-ghost use Rattle.wast_parser.specs.Look.{ask};
-ghost use Rattle.wast_parser.specs.Lawful.{Lawful, Leads};
-ghost use Rattle.wast_parser.specs.State.{ahead, Keeps};
-ghost use Rattle.wast_parser.specs.Reading.{Asks, Gives};
-ghost use Rattle.wast_parser.specs.Cursors.{stands};
-ghost use Rattle.wast_parser.specs.Identifiers.{Reference, index_tree};
+ghost use Rattle.wast_vector_operands.specs.Tokens.{Name};
+ghost use Rattle.wast_vector_operands.specs.Grammar.{led};
+ghost use Rattle.wast_vector_operands.specs.Look.{ask};
+ghost use Rattle.wast_vector_operands.specs.Lawful.{Lawful, Leads};
+ghost use Rattle.wast_vector_operands.specs.State.{ahead, Keeps};
+ghost use Rattle.wast_vector_operands.specs.Reading.{Asks, Gives};
+ghost use Rattle.wast_vector_operands.specs.Cursors.{stands};
+ghost use Rattle.wast_vector_operands.specs.Identifiers.{Reference, index_tree};
 ghost use Rattle.wast_operands.specs.OperandTree as spec;
 ghost use Rattle.wast_operands.specs.OperandSyntax.{two_indices, handled, handle_body, handle, handle_starts, handlers, resume, resume_throw};
 ghost use Rattle.wast_operands.specs.OperandViews.{handle_tree, handlers_tree, resume_tree, resume_throw_tree, resume_throw_ref_tree, switch_tree, cont_bind_tree};
 
-use wast_parser::{Cursor, Error, Index, Item, Meaning, Parse, Parser, Peek, list_of};
+use wast_vector_operands::{Cursor, Error, Index, Item, Meaning, Parse, Parser, Peek, list_of};
 
 /// What handles a tag of a continuation that is resumed.
-#[derive(Debug, Drop)]
+#[derive(Drop)]
 pub enum Handle<'a> {
     /// `(on tag label)`
     OnLabel { tag: Index<'a>, label: Index<'a> },
@@ -113,7 +113,7 @@ fn label<'a>(parser: &mut Parser<'a>) -> Result<Option<Index<'a>>, Error>
 }
 
 /// The handlers of a continuation that is resumed.
-#[derive(Debug, Drop)]
+#[derive(Drop)]
 pub struct ResumeTable<'a> {
     pub handlers: Vec<Handle<'a>>,
 }
@@ -138,7 +138,7 @@ impl<'a> Parse<'a> for ResumeTable<'a> {
 }
 
 /// The type of the continuation that is resumed, and its handlers.
-#[derive(Debug, Drop)]
+#[derive(Drop)]
 pub struct Resume<'a> {
     pub type_index: Index<'a>,
     pub table: ResumeTable<'a>,
@@ -165,7 +165,7 @@ impl<'a> Parse<'a> for Resume<'a> {
 }
 
 /// The type of the continuation that is resumed, the tag that is thrown in it, and its handlers.
-#[derive(Debug, Drop)]
+#[derive(Drop)]
 pub struct ResumeThrow<'a> {
     pub type_index: Index<'a>,
     pub tag_index: Index<'a>,
@@ -198,7 +198,7 @@ impl<'a> Parse<'a> for ResumeThrow<'a> {
 }
 
 /// The type of the continuation in which an exception is thrown, and its handlers.
-#[derive(Debug, Drop)]
+#[derive(Drop)]
 pub struct ResumeThrowRef<'a> {
     pub type_index: Index<'a>,
     pub table: ResumeTable<'a>,
@@ -225,7 +225,7 @@ impl<'a> Parse<'a> for ResumeThrowRef<'a> {
 }
 
 /// The type of the continuation that is switched to, and the tag.
-#[derive(Debug, Drop)]
+#[derive(Drop)]
 pub struct Switch<'a> {
     pub type_index: Index<'a>,
     pub tag_index: Index<'a>,
@@ -255,7 +255,7 @@ impl<'a> Parse<'a> for Switch<'a> {
 }
 
 /// The types of a continuation before and after some of its arguments are bound.
-#[derive(Debug, Drop)]
+#[derive(Drop)]
 pub struct ContBind<'a> {
     pub argument_index: Index<'a>,
     pub result_index: Index<'a>,

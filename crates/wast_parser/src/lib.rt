@@ -11,19 +11,14 @@
 //! refuses `-0`. These are rows of the program `wast_rows`.
 //!
 //! The parts: `wast_lexer`, `wast_grammar` (the language in which the syntax is written, and its laws), `wast_parser_base`
-//! (errors, identifiers, spellings in bytes) and `wast_parser_core`.
+//! (errors, identifiers), `wast_byte_spellings` and `wast_parser_core`.
 #![tactic(auto)]
 
-pub use wast_lexer::{
-    Float, FloatKind, Integer, IntegerKind, LexError, LexFault, Lexer, SignToken, Span, Token,
-    TokenKind, TokenTable, Tokens,
-};
-pub use wast_parser_base::{
-    Encode, EncodeError, Error, Exhausted, Gensym, Id, Index, ItemRef, NameAnnotation,
-    lexical_text, push_place,
-};
+pub use wast_byte_spellings::{Encode, EncodeError};
 pub use wast_parser_core::{
-    Cursor, FixedInteger, Item, Keyword, KeywordName, LParen, Lookahead1, Meaning, Parse,
-    ParseBuffer, Parser, Peek, RParen, Spelled, WordSet, find_among, laws, list_of, magnitude,
-    parse,
+    Cursor, Error, Exhausted, FixedInteger, Float, FloatKind, Gensym, Id, Index, Integer,
+    IntegerKind, Item, ItemRef, Keyword, KeywordName, LParen, LexError, LexFault, Lexer,
+    Lookahead1, Meaning, NameAnnotation, Parse, ParseBuffer, Parser, Peek, RParen, SignToken, Span,
+    Spelled, Token, TokenKind, TokenTable, Tokens, WordSet, find_among, laws, lexical_text,
+    list_of, magnitude, parse, push_place,
 };

@@ -2,7 +2,7 @@
 //!
 //! [`Error`] says what is wrong with a text, and where; given the text, it shows the place as [`push_place`] does. [`Id`] and
 //! [`Index`] are names and indices as they are written: equal ones hash alike, wherever they stand. [`Gensym`] makes names where
-//! none was written. [`Encode`] spells values in bytes, with the LEB128 of `wasm_encoder_base`.
+//! none was written.
 //!
 //! ```
 //! let mut error = Error::new(Span::from_offset(1), String::from_str(alloc, "expected `(`")?);
@@ -23,7 +23,6 @@
 //! names differ from each other and from each that was read ([`laws::made_names_differ`]).
 #![tactic(auto)]
 
-mod encode;
 mod error;
 mod gensym;
 mod id;
@@ -32,11 +31,9 @@ pub mod laws;
 mod reason;
 mod snippet;
 
-pub use encode::Encode;
 pub use error::Error;
 pub use gensym::{Exhausted, Gensym};
 pub use id::Id;
 pub use index::{Index, ItemRef, NameAnnotation};
 pub use reason::lexical_text;
 pub use snippet::push_place;
-pub use wasm_encoder_base::EncodeError;

@@ -1,5 +1,5 @@
 -- What a parser has before it, token by token and group by group.
-use Rattle.std.proofs.Common.{◌≡◌, ℕ, suc, ◌+◌, ◌<◌, Bool, true, false, ◌&&◌, cond, List, [], ◌∷◌, ◌++◌, Option, Some, None, length, map, take, drop, refl, sym, ◌∙◌, ap, add-one, arith, inl, inr}
+use Rattle.std.proofs.Common.{◌≡◌, ℕ, suc, ◌+◌, ◌<◌, true, false, cond, List, [], ◌∷◌, ◌++◌, Option, Some, None, length, map, take, drop, refl, sym, ◌∙◌, ap, add-one, arith, inl, inr}
 use Rattle.std.specs.Prelude.{slice_get, is_some}
 use Rattle.std.proofs.Math.Seq.{drop-cons}
 use Rattle.std.proofs.lemmas.List.{drop_all, drop-map, drop-drop, take-append-drop, length-take-le, length-append, length-map}
@@ -127,14 +127,6 @@ ahead_trivia s i t got is =
 -- no token
 pub ahead_end : (s : State) (i : ℕ) → slice_get s.source.tokens i ≡ None → ahead (record s { at = i }) ≡ at_end (is_some s.source.fault)
 ahead_end s i none = ap (λ y. shown s.names (is_some s.source.fault) 0 (map (lexeme_of s.source.text) y)) (past_end s.source.tokens i none)
-
-pub not_both : (a b : Bool) → b ≡ false → a && b ≡ false
-not_both true b h = h
-not_both false b h = refl
-
-pub not_first : (a b : Bool) → a ≡ false → a && b ≡ false
-not_first true b h = absurd (cc)
-not_first false b h = refl
 
 pub end_broken : (f : Option LexFault) → is_some f ≡ true → at_end (is_some f) ≡ Broken ∷ []
 end_broken f h = ap at_end h

@@ -6,6 +6,7 @@ pub mod Names
 pub mod Texts
 pub mod Literals
 pub mod Places
+pub mod Shown
 pub mod States
 pub mod Parens
 pub mod IdentifierLaws
@@ -16,3 +17,11 @@ pub mod Wants
 pub mod WordSets
 pub mod Comments
 pub mod Beginnings
+pub use Rattle.wast_grammar.proofs.BehindLaws
+pub use Rattle.wast_grammar.proofs.GrammarLaws
+pub use Rattle.wast_grammar.proofs.LeadLaws
+pub use Rattle.wast_grammar.proofs.Looks
+pub use Rattle.wast_grammar.proofs.NestedLaws
+pub use Rattle.wast_grammar.proofs.RecursionLaws
+pub use Rattle.wast_grammar.proofs.TokenLaws
+pub use Rattle.wast_grammar.proofs.Repeats

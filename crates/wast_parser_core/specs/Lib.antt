@@ -1,6 +1,7 @@
 pub mod Standing
 pub mod State
 pub mod Reading
+pub mod Openings
 pub mod Kinds
 pub mod Literals
 pub mod Cursors
@@ -10,3 +11,19 @@ pub mod Identifiers
 pub mod Marks
 pub mod Comments
 pub mod Laws
+pub use Rattle.wast_lexer.specs.Table
+pub use Rattle.wast_grammar.specs.Behind
+pub use Rattle.wast_grammar.specs.Grammar
+pub use Rattle.wast_grammar.specs.Lawful
+pub use Rattle.wast_grammar.specs.Look
+pub use Rattle.wast_grammar.specs.Nested
+pub use Rattle.wast_grammar.specs.Recursion
+pub use Rattle.wast_grammar.specs.Significant
+pub use Rattle.wast_grammar.specs.Spelling
+pub use Rattle.wast_grammar.specs.Tokens
+pub use Rattle.wast_grammar.specs.Twins
+pub use Rattle.wast_parser_base.specs.Faults
+pub use Rattle.wast_parser_base.specs.Identifier
+pub use Rattle.wast_parser_base.specs.Indices
+pub use Rattle.wast_parser_base.specs.Problem
+pub use Rattle.wast_lexer.specs.Numbers

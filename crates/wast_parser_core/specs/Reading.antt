@@ -1,6 +1,8 @@
 -- What a parser's calls answer.
-use Rattle.std.specs.Prelude.{◌≡◌, ◌≢◌, ◌≤◌, ◌⊎◌, ℕ, ◌+◌, Bool, true, false, List, [], ◌∷◌, Option, Some, None, Result, Ok, Err}
+use Rattle.std.specs.Prelude.{◌≡◌, ◌≢◌, ◌≤◌, ◌⊎◌, ℕ, ◌+◌, Bool, true, false, List, [], ◌∷◌, Option, Some, None, Result, Ok, Err, slice_get}
 use Rattle.wast_lexer.specs.declared.token.Token.{Token}
+use Rattle.wast_parser_core.specs.declared.parser.Front.{Front}
+use Rattle.wast_parser_core.specs.declared.parser.Front.TheVariants as fronts
 use Rattle.wast_grammar.specs.Tokens.{Name, Broken, Open, Close}
 use Rattle.wast_grammar.specs.Spelling.{that_close}
 use Rattle.wast_grammar.specs.Significant.{TextToken}
@@ -74,6 +76,13 @@ Leaves after new = (place : ℕ) × (ahead after ≡ Close place ∷ ahead new)
 abbrev pub IsRefusedWithin : {T : Type 0} → Problem → Result T Problem → State → Type 0
 IsRefusedWithin p (Ok value) after = one_of that_close (ahead after) ≡ None
 IsRefusedWithin p (Err q) after = p ≡ q
+
+-- What stands before a state: its next significant token, by index and kind, which is passed with all before it; none; or none
+-- that can be told.
+abbrev pub IsFront : Front → State → Type 0
+IsFront (fronts.Token index kind) s = (t : Token) × (slice_get s.source.tokens index ≡ Some t) × (t.kind ≡ kind) × IsNext s t (index + 1)
+IsFront fronts.End s = ahead s ≡ []
+IsFront fronts.Stuck s = ahead s ≡ Broken ∷ []
 
 -- no token can be read here
 abbrev pub is_stuck : List TextToken → Bool

@@ -1,19 +1,19 @@
 //! Annotations that are registered by name; the groups of all others are passed.
-ghost use Rattle.std.specs.Prelude.{◌≡◌, ◌≢◌, ◌+◌, ◌-◌, ◌<◌, ◌≤◌, ◌++◌, ℕ, List, [], ◌∷◌, IfOk, IfErr, OnOk, length, take, drop, map, true};
+ghost use Rattle.std.specs.Prelude.{◌&&◌, ◌^◌, ◌≡◌, ◌≢◌, ◌+◌, ◌-◌, ◌<◌, ◌≤◌, ◌++◌, ℕ, List, [], ◌∷◌, IfOk, IfErr, OnOk, length, take, drop, map, true};
 ghost use Rattle.wast_lexer.specs.Lexeme.{lexeme_of};
 ghost use Rattle.wast_lexer.specs.TokenText.{IsOf, text_of};
 ghost use Rattle.wast_lexer.specs.declared.token.TokenKind.TheVariants as kinds;
 ghost use Rattle.wast_grammar.specs.Spelling.{any_is, same_text};
 ghost use Rattle.wast_grammar.specs.Tokens.{marked_value};
-ghost use Rattle.wast_grammar.specs.Significant.{begins_unknown};
+ghost use Rattle.wast_grammar.specs.Significant.{begins_unknown, is_lparen};
 ghost use Rattle.wast_parser_core.specs.State.{State, ahead, knowing, also, slack, Moves, KeepsWith};
 ghost use Rattle.wast_parser_core.specs.Reading.{out_of_memory, Gives};
 
-use crate::kind::is_annotation;
+use crate::kind::{is_annotation, is_lparen};
 use crate::meaning::Parse;
 use crate::parser::Parser;
 use std::mem;
-use wast_lexer::Token;
+use wast_lexer::{Token, TokenKind};
 use wast_parser_base::Error;
 
 impl<'a> Parser<'a> {
@@ -68,7 +68,17 @@ impl<'a> Parser<'a> {
         result
     }
 
+    /// Whether a token of this kind, at this index, opens a group that is passed.
+    #[inline(always)]
+    pub(crate) fn opens_dropped(&self, kind: TokenKind, at: usize) -> bool
+        requires { at + 1 < 2 ^ 64 }
+        ensures { result ≡ (is_lparen kind && begins_unknown self.now.names (map (lexeme_of self.now.source.text) (drop (at + 1) self.now.source.tokens))) }
+    {
+        is_lparen(kind) && self.drops(at + 1)
+    }
+
     /// Whether an annotation stands there whose name isn't registered.
+    #[inline(always)]
     pub(crate) fn drops(&self, at: usize) -> bool
         ensures { result ≡ begins_unknown self.now.names (map (lexeme_of self.now.source.text) (drop at self.now.source.tokens)) }
     {
@@ -84,6 +94,8 @@ impl<'a> Parser<'a> {
 }
 
 /// Whether the name of an annotation is one of these.
+#[cold]
+#[inline(never)]
 fn is_registered(text: &str, token: Token, names: &[&str]) -> bool
     requires own { IsOf text.now token }
     requires kind { token.kind ≡ kinds.Annotation }

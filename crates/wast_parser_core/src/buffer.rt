@@ -1,5 +1,6 @@
 //! A text and its tokens.
 ghost use Rattle.std.specs.Prelude.{◌≡◌, ◌+◌, ◌<◌, ◌^◌, ℕ, length, false, IfSome, IfOk, IfErr, MatchOption, option_map, slice_get, true};
+ghost use Rattle.std.specs.List.{All};
 ghost use Rattle.wast_lexer.specs.Groups.{parens, IsGroupAt};
 ghost use Rattle.wast_lexer.specs.Source.{source, allows};
 ghost use Rattle.wast_lexer.specs.Table.{IsTable};
@@ -78,8 +79,10 @@ impl<'a> ParseBuffer<'a> {
     }
 
     /// What a token is, by its index.
+    #[inline(always)]
     pub(crate) fn kind(&self, index: usize) -> Option<TokenKind>
         ensures kind { result ≡ option_map (λ t. t.kind) (slice_get self.now.tokens index) }
+        ensures own { All (IsOf self.now.text) self.now.tokens }
         ensures small { IfSome result (λ _. index + 1 < 2 ^ 64) }
     {
         let _count = self.table.len();
@@ -87,6 +90,7 @@ impl<'a> ParseBuffer<'a> {
     }
 
     /// A token by its index.
+    #[inline(always)]
     pub(crate) fn get(&self, index: usize) -> Option<Token>
         ensures token { result ≡ slice_get self.now.tokens index }
         ensures own { IfSome result (IsOf self.now.text) }

@@ -11,9 +11,9 @@ ghost use Rattle.wast_grammar.specs.Spelling.{that_open, that_close};
 
 use crate::kind::{Wanted, is_keyword, is_lparen, is_rparen, is_wanted};
 use crate::parser::Parser;
+use item_lists::Bytes;
 use std::alloc::Global;
 use std::borrow::CowStr;
-use wasm_encoder_base::Bytes;
 use wast_lexer::{Float, Integer, Span, Token, TokenKind};
 use wast_parser_base::Error;
 
@@ -26,6 +26,7 @@ pub struct Cursor<'b, 'a> {
 
 impl<'b, 'a> Cursor<'b, 'a> {
     /// The next significant token, and the cursor behind it.
+    #[inline(always)]
     pub(crate) fn token(self) -> Result<Option<(Token, Cursor<'b, 'a>)>, Error>
         ensures { GivesToken result self.entry }
     {
@@ -42,6 +43,7 @@ impl<'b, 'a> Cursor<'b, 'a> {
     }
 
     /// Whether a parenthesis opens here.
+    #[inline(always)]
     pub fn peek_lparen(self) -> Result<bool, Error>
         ensures { Asks result (stands self.entry).source (ask (Opening ∷ []) (ahead (stands self.entry))) }
     {
@@ -52,6 +54,7 @@ impl<'b, 'a> Cursor<'b, 'a> {
     }
 
     /// Whether a parenthesis closes here.
+    #[inline(always)]
     pub fn peek_rparen(self) -> Result<bool, Error>
         ensures { Asks result (stands self.entry).source (ask (On false AClose Any ∷ []) (ahead (stands self.entry))) }
     {
@@ -62,6 +65,7 @@ impl<'b, 'a> Cursor<'b, 'a> {
     }
 
     /// Whether this word stands here.
+    #[inline(always)]
     pub fn peek_word(self, text: &str) -> Result<bool, Error>
         ensures { Asks result (stands self.entry).source (ask (this_word text.now ∷ []) (ahead (stands self.entry))) }
     {
@@ -72,6 +76,7 @@ impl<'b, 'a> Cursor<'b, 'a> {
     }
 
     /// Whether a parenthesis opens here and this word stands behind it.
+    #[inline(always)]
     pub fn peek_group(self, text: &str) -> Result<bool, Error>
         ensures { Asks result (stands self.entry).source (ask (this_group text.now ∷ []) (ahead (stands self.entry))) }
     {
@@ -89,6 +94,8 @@ impl<'b, 'a> Cursor<'b, 'a> {
     }
 
     /// An error with this message where the next token stands, or want of memory for it.
+    #[cold]
+    #[inline(never)]
     pub fn error(self, message: &str) -> Error
         ensures { SaysAt message.now (place_ahead (stands self.entry)) result }
     {
@@ -96,6 +103,7 @@ impl<'b, 'a> Cursor<'b, 'a> {
     }
 
     /// The next token where it is of this kind, and the cursor behind it.
+    #[inline(always)]
     fn take(self, want: Wanted) -> Result<Option<(Token, Cursor<'b, 'a>)>, Error>
         ensures { FindsKind (wanted want) self.entry result }
     {
@@ -106,6 +114,7 @@ impl<'b, 'a> Cursor<'b, 'a> {
     }
 
     /// Whether the next token is of this kind.
+    #[inline(always)]
     fn peek_kind(self, want: Wanted) -> Result<bool, Error>
         ensures { Asks result (stands self.entry).source (ask (On false (wanted want) Any ∷ []) (ahead (stands self.entry))) }
     {

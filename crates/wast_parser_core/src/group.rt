@@ -87,6 +87,7 @@ impl<'a> Parser<'a> {
     }
 
     /// Takes a parenthesis that opens.
+    #[inline(always)]
     pub(crate) fn open(&mut self) -> Result<Span, Error>
         ensures read { Gives (λ s. s) result self.new (one_of that_open (ahead self.old)) }
         ensures ok { OnOk result (self.new ≡ record self.old { at = self.new.at; depth = self.old.depth + 1 }) }
@@ -106,6 +107,7 @@ impl<'a> Parser<'a> {
     }
 
     /// Takes a parenthesis that closes.
+    #[inline(always)]
     pub(crate) fn close(&mut self) -> Result<Span, Error>
         ensures read { Gives (λ s. s) result self.new (one_of that_close (ahead self.old)) }
         ensures keeps { Keeps self.old self.new }

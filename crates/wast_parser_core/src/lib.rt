@@ -16,6 +16,8 @@
 //! comes next is seen by the names that are registered by then, and a comment can be taken there
 //! ([`laws::stays_or_stands_behind`]).
 //!
+//! What `wast_parser` hands out of the lexer, of `wast_grammar` and of `wast_parser_base` it takes from here.
+//!
 //! # What has to be believed
 //!
 //! | File of `specs/` | Says |
@@ -66,5 +68,11 @@ pub use lookahead::Lookahead1;
 pub use meaning::{Item, Meaning, Parse, Peek};
 pub use paren::{LParen, RParen};
 pub use parser::{Parser, parse};
-pub use wast_parser_base::Error;
+pub use wast_lexer::{
+    Float, FloatKind, Integer, IntegerKind, LexError, LexFault, Lexer, SignToken, Span, Token,
+    TokenKind, TokenTable, Tokens,
+};
+pub use wast_parser_base::{
+    Error, Exhausted, Gensym, Id, Index, ItemRef, NameAnnotation, lexical_text, push_place,
+};
 pub use word_set::{Spelled, WordSet, find_among};

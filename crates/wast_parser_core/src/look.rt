@@ -37,6 +37,7 @@ impl<'b, 'a> Cursor<'b, 'a> {
     }
 
     /// Whether a parenthesis opens here and the name of this annotation stands behind it.
+    #[inline(always)]
     pub fn peek_annotation(self, text: &str) -> Result<bool, Error>
         ensures { Asks result (stands self.entry).source (ask (this_annotation text.now ∷ []) (ahead (stands self.entry))) }
     {

@@ -1,21 +1,36 @@
 //! A parser: the tokens of a text, and how many of them are taken.
-ghost use Rattle.std.specs.Prelude.{◌≡◌, ◌≢◌, ◌≤◌, ◌+◌, ◌⊎◌, ℕ, [], ◌∷◌, Some, None, Ok, IfOk, IfErr, IfSome, OnErr, OnOk, length, option_map, slice_get, Err};
+ghost use Rattle.std.specs.Prelude.{◌≡◌, ◌≢◌, ◌≤◌, ◌<◌, ◌^◌, ◌+◌, ◌⊎◌, ℕ, [], ◌∷◌, Some, None, Ok, IfOk, IfErr, IfSome, OnErr, OnOk, length, true, option_map, slice_get, Err};
 ghost use Rattle.wast_lexer.specs.TokenText.{IsOf};
 ghost use Rattle.wast_parser_base.specs.Problem.{Said};
-ghost use Rattle.wast_parser_core.specs.State.{State, start, ahead, knowing, past, Moves, KeepsWith, place_ahead, place_behind, stop};
+ghost use Rattle.wast_parser_core.specs.State.{State, start, ahead, knowing, past, Moves, KeepsWith, place_ahead, place_behind, stop, standing};
+ghost use Rattle.wast_parser_core.specs.Standing.{is_outside};
 ghost use Rattle.wast_parser_core.specs.declared.cursor.Cursor.{Cursor};
-ghost use Rattle.wast_parser_core.specs.Reading.{out_of_memory, ReadsAll, ReadsNotAll, Gives, Asks, ShowsNext, IsStop, SaysAt, ends_here};
+ghost use Rattle.wast_parser_core.specs.Reading.{out_of_memory, ReadsAll, ReadsNotAll, Gives, Asks, ShowsNext, IsStop, SaysAt, ends_here, IsFront};
 ghost use Rattle.wast_parser_core.specs.Cursors.{stands, Follows};
+ghost use Rattle.wast_parser_core.specs.Openings.{opens_here, closes_here, group_here};
+ghost use Rattle.wast_parser_core.specs.declared.parser.Front.TheVariants as fronts;
+ghost use Rattle.wast_lexer.specs.declared.token.TokenKind.{TokenKind};
 ghost use Rattle.wast_grammar.specs.Look.{ask};
 
 use crate::buffer::ParseBuffer;
 use crate::cursor::Cursor;
-use crate::kind::{is_lparen, is_rparen, is_trivia};
+use crate::kind::{is_annotation, is_lparen, is_rparen, is_trivia};
 use crate::meaning::{Parse, Peek};
 use std::alloc::Global;
 use std::marker::Model;
-use wast_lexer::{Span, Token};
+use wast_lexer::{Span, Token, TokenKind};
 use wast_parser_base::Error;
+
+/// What stands before a parser.
+#[derive(Clone, Copy)]
+pub(crate) enum Front {
+    /// The next significant token: its index, and what it is.
+    Token(usize, TokenKind),
+    /// No token.
+    End,
+    /// None that can be told.
+    Stuck,
+}
 
 /// The tokens of a text, and how many of them are taken. Contracts see these, the registered names of annotations, and
 /// how many parentheses are open.
@@ -71,6 +86,7 @@ impl<'a> Parser<'a> {
     }
 
     /// Here.
+    #[inline(always)]
     pub(crate) fn cursor(&self) -> Cursor<'_, 'a>
         ensures { stands result ≡ self.now }
     {
@@ -139,14 +155,49 @@ impl<'a> Parser<'a> {
     pub fn is_empty(&self) -> bool
         ensures { result ≡ ends_here (ahead self.now) }
     {
-        match self.next() {
-            Ok(Some((token, _))) => is_rparen(token.kind),
-            Ok(None) => true,
-            Err(_) => false,
+        match self.front(self.at) {
+            Front::Token(_, kind) => is_rparen(kind),
+            Front::End => true,
+            Front::Stuck => false,
+        }
+    }
+
+    /// Whether a parenthesis opens here; not where it can't be told.
+    pub fn opens(&self) -> bool
+        ensures { result ≡ opens_here (ahead self.now) }
+    {
+        match self.front(self.at) {
+            Front::Token(_, kind) => is_lparen(kind),
+            _ => false,
+        }
+    }
+
+    /// Whether a parenthesis closes here; not where it can't be told.
+    pub fn closes(&self) -> bool
+        ensures { result ≡ closes_here (ahead self.now) }
+    {
+        match self.front(self.at) {
+            Front::Token(_, kind) => is_rparen(kind),
+            _ => false,
+        }
+    }
+
+    /// Whether a parenthesis opens here, and what stands behind it can be told and is no annotation.
+    pub fn opens_group(&self) -> bool
+        ensures { result ≡ group_here (ahead self.now) }
+    {
+        match self.front(self.at) {
+            Front::Token(index, kind) if is_lparen(kind) => match self.front(index + 1) {
+                Front::Token(_, kind) => !is_annotation(kind),
+                Front::End => true,
+                Front::Stuck => false,
+            },
+            _ => false,
         }
     }
 
     /// Where the next token stands, or where the tokens end.
+    #[inline(always)]
     pub fn cur_span(&self) -> Span
         ensures { result ≡ place_ahead self.now }
     {
@@ -154,6 +205,7 @@ impl<'a> Parser<'a> {
     }
 
     /// The same where so many tokens are taken.
+    #[inline(always)]
     pub(crate) fn place_from(&self, from: usize) -> Span
         ensures { result ≡ place_ahead (record self.now { at = from }) }
     {
@@ -180,6 +232,8 @@ impl<'a> Parser<'a> {
     }
 
     /// An error with this message at a place, or want of memory for it.
+    #[cold]
+    #[inline(never)]
     pub fn error_at(&self, span: Span, message: &str) -> Error
         ensures { SaysAt message.now span result }
     {
@@ -187,6 +241,8 @@ impl<'a> Parser<'a> {
     }
 
     /// The same where the next token stands.
+    #[cold]
+    #[inline(never)]
     pub fn error(&self, message: &str) -> Error
         ensures { SaysAt message.now (place_ahead self.now) result }
     {
@@ -205,6 +261,7 @@ impl<'a> Parser<'a> {
     }
 
     /// The next significant token, and how many tokens are taken with it.
+    #[inline(always)]
     pub(crate) fn next(&self) -> Result<Option<(Token, usize)>, Error>
         ensures { ShowsNext result self.now }
     {
@@ -212,29 +269,72 @@ impl<'a> Parser<'a> {
     }
 
     /// The same where so many tokens are taken.
+    #[inline(always)]
     pub(crate) fn next_from(&self, from: usize) -> Result<Option<(Token, usize)>, Error>
         ensures { ShowsNext result (record self.now { at = from }) }
+    {
+        match self.front(from) {
+            Front::Token(index, _) => Ok(self.token_at(index)),
+            Front::End => Ok(None),
+            Front::Stuck => Err(stopped(self.buffer)),
+        }
+    }
+
+    /// What stands before it there. Mostly it is there, or behind one token of white space.
+    #[inline(always)]
+    pub(crate) fn front(&self, from: usize) -> Front
+        ensures front { IsFront result (record self.now { at = from }) }
+        ensures small { (index : ℕ) (kind : TokenKind) → result ≡ fronts.Token index kind → index + 1 < 2 ^ 64 }
+    {
+        let at = self.behind_space(from);
+        match self.buffer.kind(at) {
+            Some(kind) if !is_trivia(kind) && !self.opens_dropped(kind, at) => {
+                Front::Token(at, kind)
+            }
+            _ => self.front_behind(from),
+        }
+    }
+
+    /// Behind the white space that stands there, or there.
+    #[inline(always)]
+    fn behind_space(&self, from: usize) -> usize
+        ensures same { ahead (record self.now { at = result }) ≡ ahead (record self.now { at = from }) }
+        ensures onward { from ≤ result }
+        ensures outside { is_outside (standing (record self.now { at = from })) ≡ true → is_outside (standing (record self.now { at = result })) ≡ true }
+    {
+        match self.buffer.kind(from) {
+            Some(TokenKind::Whitespace) => from + 1,
+            _ => from,
+        }
+    }
+
+    /// The same, behind whatever is passed.
+    #[inline(never)]
+    fn front_behind(&self, from: usize) -> Front
+        ensures front { IsFront result (record self.now { at = from }) }
+        ensures small { (index : ℕ) (kind : TokenKind) → result ≡ fronts.Token index kind → index + 1 < 2 ^ 64 }
     {
         let mut at = from;
         'tokens: while let Some(kind) = self.buffer.kind(at) {
             if is_trivia(kind) {
                 at += 1;
-            } else if is_lparen(kind) && self.drops(at + 1) {
+            } else if self.opens_dropped(kind, at) {
                 match self.buffer.group_end(at) {
                     Some(end) => at = end + 1,
-                    None => return Err(stopped(self.buffer)),
+                    None => return Front::Stuck,
                 }
             } else {
-                return Ok(self.token_at(at));
+                return Front::Token(at, kind);
             }
         }
         if self.buffer.fault().is_some() {
-            return Err(stopped(self.buffer));
+            return Front::Stuck;
         }
-        Ok(None)
+        Front::End
     }
 
     /// A token by its index, and the index behind it.
+    #[inline(always)]
     fn token_at(&self, index: usize) -> Option<(Token, usize)>
         ensures token { result ≡ option_map (λ t. (t, index + 1)) (slice_get self.now.source.tokens index) }
         ensures own { IfSome result (λ r. IsOf self.now.source.text r.0) }
@@ -247,6 +347,8 @@ impl<'a> Parser<'a> {
 }
 
 /// An error with this message at a place, or want of memory for it.
+#[cold]
+#[inline(never)]
 fn error_at(alloc: Global, span: Span, message: &str) -> Error
     ensures { SaysAt message.now span result }
 {
@@ -258,6 +360,8 @@ fn error_at(alloc: Global, span: Span, message: &str) -> Error
 
 /// Why no token can be read where the tokens of a text end, or where a group that isn't closed is dropped; or want of memory
 /// for the message.
+#[cold]
+#[inline(never)]
 pub(crate) fn stopped(buffer: &ParseBuffer<'_>) -> Error
     ensures { IsStop result buffer.now }
 {
@@ -268,6 +372,8 @@ pub(crate) fn stopped(buffer: &ParseBuffer<'_>) -> Error
 }
 
 /// Where it is that no token can be read.
+#[cold]
+#[inline(never)]
 fn stop_place(buffer: &ParseBuffer<'_>) -> Span
     ensures { result ≡ (stop buffer.now).place }
 {

@@ -13,9 +13,9 @@ ghost use Rattle.wast_parser_core.specs.Cursors.{stands};
 use crate::cursor::Cursor;
 use crate::meaning::{Item, Meaning, Parse, Peek};
 use crate::parser::Parser;
+use item_lists::Bytes;
 use std::alloc::Global;
 use std::borrow::CowStr;
-use wasm_encoder_base::Bytes;
 use wast_parser_base::Error;
 
 /// The bytes that a string stands for.

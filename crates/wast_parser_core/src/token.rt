@@ -15,14 +15,15 @@ use crate::annotation::is_named;
 use crate::kind::{is_annotation, is_id, is_keyword, is_string};
 use crate::literal::number_of;
 use crate::parser::Parser;
+use item_lists::Bytes;
 use std::alloc::Global;
 use std::borrow::{CowSlice, CowStr};
-use wasm_encoder_base::Bytes;
 use wast_lexer::{Integer, IntegerKind, Span, Token, TokenKind};
 use wast_parser_base::Error;
 
 impl<'a> Parser<'a> {
     /// Takes this word; answers where it stands.
+    #[inline(always)]
     pub fn word(&mut self, text: &str) -> Result<Span, Error>
         ensures read { Gives (λ s. s) result self.new ((word text.now).reads (ahead self.old)) }
         ensures keeps { Keeps self.old self.new }
@@ -38,6 +39,8 @@ impl<'a> Parser<'a> {
     }
 
     /// An error that this word is expected where the next token stands.
+    #[cold]
+    #[inline(never)]
     fn expected_word(&self, text: &str) -> Error
         ensures { SaysAt (codes "expected `" ++ text.now ++ codes "`") (place_ahead self.now) result }
     {

@@ -1,15 +1,16 @@
 -- What definitions say whatever their kind.
 use Rattle.std.proofs.Common.{◌≡◌, Bool, true, false, [], ◌∷◌, refl}
-use Rattle.wast_core_types.specs.TypeViews.{use_tree}
-use Rattle.wast_core_types.specs.declared.signature.FunctionType.{FunctionType}
-use Rattle.wast_core_types.specs.declared.type_use.TypeUse.{TypeUse}
+use Rattle.wast_signatures.specs.SignatureViews.{use_tree}
+use Rattle.wast_signatures.specs.declared.signature.FunctionType.{FunctionType}
+use Rattle.wast_signatures.specs.declared.type_use.TypeUse.{TypeUse}
 use Rattle.wast_imports.specs.ImportViews.{tag_tree}
 use Rattle.wast_imports.specs.declared.item.TagType.{TagType}
-use Rattle.wast_fields.specs.FieldViews.{func_type_tree, defined_tag, defined_memory}
-use Rattle.wast_fields.specs.declared.memory.MemoryKind.{MemoryKind}
-use Rattle.wast_fields.specs.declared.memory.MemoryKind.TheVariants as memories
-use Rattle.wast_fields.specs.declared.tag.TagKind.{TagKind}
-use Rattle.wast_fields.specs.declared.tag.TagKind.TheVariants as tags
+use Rattle.wast_module_fields.specs.FuncViews.{func_type_tree, defined_tag}
+use Rattle.wast_module_fields.specs.MemoryViews.{defined_memory}
+use Rattle.wast_module_fields.specs.MemoryKind.{MemoryKind}
+use Rattle.wast_module_fields.specs.MemoryKind.TheVariants as memories
+use Rattle.wast_module_fields.specs.TagKind.{TagKind}
+use Rattle.wast_module_fields.specs.TagKind.TheVariants as tags
 use Rattle.wast_meaning.specs.Mentions.{Uses, Says, says, extern_mentions, defined_parts}
 
 pub func_says : (is_exact : Bool) (ty : TypeUse FunctionType) → Says (Uses (use_tree ty)) ∷ [] ≡ says (extern_mentions (func_type_tree is_exact ty))

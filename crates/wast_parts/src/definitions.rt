@@ -1,8 +1,8 @@
 //! Fields that define something.
 ghost use Rattle.std.specs.Prelude.{[], ◌∷◌};
 ghost use Rattle.wast_imports.specs.ImportViews.{tag_tree};
-ghost use Rattle.wast_fields.specs.FieldViews.{func_definition, global_definition, tag_definition};
-ghost use Rattle.wast_fields.specs.ElemViews.{table_definition};
+ghost use Rattle.wast_module_fields.specs.FuncViews.{func_definition, global_definition, tag_definition};
+ghost use Rattle.wast_module_fields.specs.ElemViews.{table_definition};
 ghost use Rattle.wast_meaning.specs.Mentions.{Says, Uses, defined_parts};
 ghost use Rattle.wast_mentions.specs.Judging.{Judged};
 
@@ -10,9 +10,9 @@ use crate::constants::tell_constant_if;
 use crate::judge::{PartJudge, PartJudgement};
 use crate::said::{tell_ref_type, tell_val_type};
 use crate::segments::tell_elements;
-use wast_fields::{Func, FuncKind, Global, GlobalKind, Table, TableKind, Tag};
 use wast_imports::TagType;
 use wast_mentions::Mention;
+use wast_module_fields::{Func, FuncKind, Global, GlobalKind, Table, TableKind, Tag};
 
 /// Tells of a function: the use of its type where it is imported, else its body as a whole.
 pub(crate) fn tell_func<'a, J: PartJudge<'a>>(func: &Func<'a>, judge: &J) -> Result<(), J::Fault>

@@ -1,7 +1,7 @@
 //! Whole fields.
 ghost use Rattle.std.specs.Prelude.{◌≡◌, map};
 ghost use Rattle.std.specs.List.{flat_map};
-ghost use Rattle.wast_core.specs.ModuleViews.{field_tree};
+ghost use Rattle.wast_module_fields.specs.ModuleFieldViews.{field_tree};
 ghost use Rattle.wast_meaning.specs.Mentions.{parts};
 ghost use Rattle.wast_mentions.specs.Judging.{Judged};
 
@@ -9,9 +9,9 @@ use crate::definitions::{tell_func, tell_global, tell_table, tell_tag};
 use crate::judge::{PartJudge, PartJudgement};
 use crate::said::{tell_imports, tell_type, tell_types};
 use crate::segments::{tell_data, tell_elem};
-use wast_core::ModuleField;
 use wast_meaning::Space;
 use wast_mentions::Mention;
+use wast_module_fields::ModuleField;
 
 /// Tells of all parts of a field in order, up to the first of which the judge says that something it asks isn't so.
 pub fn tell_parts<'a, J: PartJudge<'a>>(field: &ModuleField<'a>, judge: &J) -> Result<(), J::Fault>

@@ -8,9 +8,9 @@ ghost use Rattle.wast_mentions.specs.Views.{mention_tree};
 ghost use Rattle.wast_parts.specs.Views.{function_tree};
 
 use wast_core_instr::Expression;
-use wast_core_types::{FunctionType, TypeUse};
-use wast_fields::Local;
 use wast_mentions::{Judge, Judgement, Mention};
+use wast_module_fields::Local;
+use wast_signatures::{FunctionType, TypeUse};
 
 /// What is asked of the parts of fields.
 pub trait PartJudgement {

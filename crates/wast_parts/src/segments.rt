@@ -1,15 +1,15 @@
 //! Segments.
 ghost use Rattle.std.specs.Prelude.{◌++◌};
-ghost use Rattle.wast_fields.specs.FieldViews.{data_tree};
-ghost use Rattle.wast_fields.specs.ElemViews.{elem_tree, elements_tree, mode_tree};
+ghost use Rattle.wast_module_fields.specs.MemoryViews.{data_tree};
+ghost use Rattle.wast_module_fields.specs.ElemViews.{elem_tree, elements_tree, mode_tree};
 ghost use Rattle.wast_meaning.specs.Mentions.{data_mode_parts, elem_mode_parts, elements_parts};
 ghost use Rattle.wast_mentions.specs.Judging.{Judged};
 
 use crate::constants::{tell_constants, tell_offset};
 use crate::judge::{PartJudge, PartJudgement};
 use crate::said::{tell_functions, tell_ref_type};
-use wast_fields::{Data, DataKind, Elem, ElemKind, ElemPayload};
 use wast_meaning::Space;
+use wast_module_fields::{Data, DataKind, Elem, ElemKind, ElemPayload};
 
 /// Tells of an element segment: its table and offset, where it is active, then its elements.
 pub(crate) fn tell_elem<'a, J: PartJudge<'a>>(elem: &Elem<'a>, judge: &J) -> Result<(), J::Fault>

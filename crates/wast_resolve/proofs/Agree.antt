@@ -13,9 +13,9 @@ use Rattle.wast_names.specs.Walk.{reached}
 use Rattle.wast_names.specs.Space as names
 use Rattle.wast_names.proofs.Walk.{reached_map}
 use Rattle.wast_names.proofs.Positions.{first_so}
-use Rattle.wast_core_types.specs.TypeTree.{Local, Sig, InnerType, FuncType, StructType, ArrayType, ContType, TypeItem, TypeUse}
+use Rattle.wast_signatures.specs.TypeTree.{Local, Sig, InnerType, FuncType, StructType, ArrayType, ContType, TypeItem, TypeUse}
 use Rattle.wast_core_instr.specs.InstructionTree.{Instruction}
-use Rattle.wast_fields.specs.FieldTree.{Function, Field}
+use Rattle.wast_field_syntax.specs.FieldTree.{Function, Field}
 use Rattle.wast_meaning.specs.Spaces.{denotes, listed}
 use Rattle.wast_meaning.specs.Implied.{no_sig, func_sig, written_types, implied, implied_sigs, sig_at}
 use Rattle.wast_meaning.specs.Scope.{Scope, scope_of, scope_at, with_locals, labels_or, locals_or, label_space, members, params_of, params_of_index, locals_of}
@@ -23,9 +23,9 @@ use Rattle.wast_meaning.specs.Changed.{Change, Changes, field_changed}
 use Rattle.wast_meaning.specs.Numbered.{numbering, numberings, numbered}
 use Rattle.wast_spaces.specs.declared.spaces.Spaces.{Spaces}
 use Rattle.wast_spaces.specs.Views.{spaces_of}
-use Rattle.wast_resolve.proofs.Unnamed.{nameless_params}
-use Rattle.wast_resolve.specs.Params.{inner_count, param_count, implied_count, param_counts}
-use Rattle.wast_resolve.specs.Place.{so_many, nameless, sig_with, fields_in, joined, scope_with, here, by_place, numberings_by}
+use Rattle.wast_numbered.proofs.Unnamed.{nameless_params}
+use Rattle.wast_numbered.specs.Params.{inner_count, param_count, implied_count, param_counts}
+use Rattle.wast_numbered.specs.Place.{so_many, nameless, sig_with, fields_in, joined, scope_with, here, by_place, numberings_by}
 use Rattle.wast_resolve.specs.Known.{Tells}
 
 -- SPACES that tell the same of each name

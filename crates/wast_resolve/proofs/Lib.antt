@@ -1,12 +1,4 @@
-mod Everywhere
-mod Defined
-mod Expands
 mod Agree
-mod Joined
-mod Labelled
-mod Unnamed
-mod Places
 mod Telling
 mod Refusals
-mod Given
 mod Wholly

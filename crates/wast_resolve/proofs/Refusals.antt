@@ -7,7 +7,7 @@ use Rattle.wast_parser.specs.Problem.{Problem}
 use Rattle.wast_names.specs.Walk.{first_unmet}
 use Rattle.wast_names.specs.Demand.{Demand, is_met, Tells, Refuses, Answers}
 use Rattle.wast_names.proofs.Walk.{unmet_of_both}
-use Rattle.wast_fields.specs.FieldTree.{Field}
+use Rattle.wast_field_syntax.specs.FieldTree.{Field}
 use Rattle.wast_meaning.specs.Demands.{order_demands, item_demands, field_demands, demands}
 use Rattle.wast_meaning.specs.Scope.{scope_of}
 use Rattle.wast_meaning.specs.Spaces.{items}

@@ -13,7 +13,7 @@ use Rattle.wast_names.specs.Space.{name_in}
 use Rattle.wast_names.proofs.Positions.{numbers_of}
 use Rattle.wast_exports.specs.Exports as exports
 use Rattle.wast_imports.specs.ImportTree.{ImportItems, Single, Group1, Group2}
-use Rattle.wast_fields.specs.FieldTree.{Defined, TableOf, MemoryOf, Field, TypeField, RecField, ImportField, Define, ElemField, DataField}
+use Rattle.wast_field_syntax.specs.FieldTree.{Defined, TableOf, MemoryOf, Field, TypeField, RecField, ImportField, Define, ElemField, DataField}
 use Rattle.wast_meaning.specs.Spaces.{Bound, same_space, space_word, bound, bound_type, bound_import, bound_imports, bound_segment, items, items_in, fields_at, denotes}
 use Rattle.wast_meaning.specs.Written.{space_of_kind, kind_of_type, kind_of}
 use Rattle.wast_meaning.proofs.Walked.{tells_so}
@@ -21,7 +21,7 @@ use Rattle.wast_spaces.specs.Joins.{spaces_behind, type_fields}
 use Rattle.wast_spaces.specs.Views.{spaces_of, fields_of_types}
 use Rattle.wast_spaces.specs.declared.spaces.Spaces.{Spaces}
 use Rattle.wast_resolve.specs.Known.{Tells}
-use Rattle.wast_resolve.specs.Place.{fields_in}
+use Rattle.wast_numbered.specs.Place.{fields_in}
 
 -- A SPACE that is none of the module has no items
 module _ {N P : Type 0} (s : Space) (types : same_space s Types ≡ false) (datas : same_space s Datas ≡ false) (elems : same_space s Elems ≡ false)

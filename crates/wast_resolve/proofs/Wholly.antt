@@ -7,7 +7,7 @@ use Rattle.wast_grammar.specs.Spelling.{same_name}
 use Rattle.wast_parser.specs.Problem.{Problem}
 use Rattle.wast_names.specs.Demand.{Answers}
 use Rattle.wast_names.specs.Space as names
-use Rattle.wast_fields.specs.FieldTree.{Field}
+use Rattle.wast_field_syntax.specs.FieldTree.{Field}
 use Rattle.wast_meaning.specs.Demands.{demands}
 use Rattle.wast_meaning.specs.Numbered.{expanded, numbered}
 use Rattle.wast_meaning.specs.Spaces.{denotes}
@@ -15,7 +15,7 @@ use Rattle.wast_resolve_laws.proofs.DemandsKept as kept
 use Rattle.wast_resolve_laws.proofs.Expanded as types
 use Rattle.wast_resolve_laws.proofs.Names.{name_self, name_sound}
 use Rattle.wast_resolve.specs.Resolving.{Means}
-use Rattle.wast_resolve.proofs.Given.{gives}
+use Rattle.wast_expanded.proofs.Given.{gives}
 use Rattle.wast_resolve.proofs.Refusals.{answers_first}
 
 pub if_refused : {T E : Type 0} (r : Result T E) (P : E → Type 0) → ((e : E) → P e) → IfErr r P

@@ -5,11 +5,11 @@ use Rattle.wast_grammar.specs.Tokens.{Name}
 use Rattle.wast_grammar.specs.Spelling.{same_name}
 use Rattle.wast_names.specs.Space.{name_in}
 use Rattle.wast_names.specs.Position.{position}
-use Rattle.wast_fields.specs.FieldTree.{Field}
+use Rattle.wast_field_syntax.specs.FieldTree.{Field}
 use Rattle.wast_meaning.specs.Spaces.{denotes, fields_at}
 use Rattle.wast_spaces.specs.declared.spaces.Spaces.{Spaces}
 use Rattle.wast_spaces.specs.Views.{spaces_of}
-use Rattle.wast_resolve.specs.Place.{fields_in}
+use Rattle.wast_numbered.specs.Place.{fields_in}
 
 -- They tell what names mean, those of the fields of types too.
 pub record Tells (s : Spaces) (fs : List (Field Name ℕ)) : Type 0 where

@@ -7,7 +7,7 @@ use Rattle.wast_grammar.specs.Spelling.{same_name}
 use Rattle.wast_names.specs.Space as names
 use Rattle.wast_names.specs.Walk.{first_unmet}
 use Rattle.wast_names.specs.Demand.{is_met}
-use Rattle.wast_fields.specs.FieldTree.{Field}
+use Rattle.wast_field_syntax.specs.FieldTree.{Field}
 use Rattle.wast_meaning.specs.Demands.{demands}
 use Rattle.wast_meaning.specs.Numbered.{numbered}
 use Rattle.wast_meaning.specs.Spaces.{denotes}

@@ -8,7 +8,7 @@ use Rattle.wast_parser.specs.Reading.{out_of_memory}
 use Rattle.wast_names.specs.Demand.{Demand, is_met}
 use Rattle.wast_names.specs.Walk.{first_unmet}
 use Rattle.wast_names.specs.Space as names
-use Rattle.wast_fields.specs.FieldTree.{Field, Content, Fields, Pieces, Module}
+use Rattle.wast_field_syntax.specs.FieldTree.{Field, Content, Fields, Pieces, Module}
 use Rattle.wast_meaning.specs.Demands.{all_demands}
 use Rattle.wast_meaning.specs.Modules.{content_fields}
 use Rattle.wast_meaning.specs.Numbered.{resolved}

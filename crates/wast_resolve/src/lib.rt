@@ -34,8 +34,8 @@
 //! (data (memory 0) (i32.const 0) "ab")
 //! ```
 //!
-//! Fields are rewritten by value, by what becomes of each index, wherever one stands; nothing else of them changes. Lists and boxes keep
-//! their places. Want of memory is refused too: for the names that are gathered, and for the types that uses take.
+//! Fields are rewritten by value, by what becomes of each index, wherever one stands; nothing else of them changes (`wast_changed_fields`,
+//! `wast_expanded`, `wast_numbered`). Lists and boxes keep their places. Want of memory is refused too: for the names that are gathered, and for the types that uses take.
 //!
 //! # What has to be believed
 //!
@@ -45,29 +45,12 @@
 //! | `Whole` | what fields and modules are resolved to where a counter makes the names of what has none, and what a module that is refused keeps |
 //!
 //! What fields are expanded to and numbered as is said by `wast_meaning`'s file `Numbered`, and demands by its file `Demands`. The other
-//! files of `specs/` serve private contracts: `Rewritten` says which changes a rewriting makes and what an expression is changed to,
-//! `Expanding` what fields are expanded to by types that are known, `Place`, `Known`, `Params` and `Steps` what is known where indices
-//! become numbers.
+//! file of `specs/` serves private contracts: `Known` says when index spaces are those of fields.
 #![tactic(auto)]
 
-mod body;
-mod definition;
-mod expanded;
-mod expression;
-mod field;
-mod implied_field;
-mod in_place;
-mod list;
-mod locals;
 mod module;
 pub mod names;
 mod numbered;
-mod params;
-mod place;
-mod rewriting;
-mod segment;
-mod step;
-mod taking;
 mod whole;
 
 pub use module::ResolveModule;
@@ -78,5 +61,5 @@ pub use whole::{Names, resolve};
 
 /// The types that uses take.
 pub mod types {
-    pub use crate::expanded::expand;
+    pub use wast_expanded::expand;
 }

@@ -5,7 +5,7 @@ ghost use Rattle.wast_grammar.specs.Spelling.{same_name};
 ghost use Rattle.wast_parser.specs.Problem.{Problem, is_memory};
 ghost use Rattle.wast_parser.specs.Reading.{out_of_memory};
 ghost use Rattle.wast_core.specs.ModuleViews.{content_tree, module_tree};
-ghost use Rattle.wast_fields.specs.FieldTree as spec;
+ghost use Rattle.wast_field_syntax.specs.FieldTree as spec;
 ghost use Rattle.wast_names.specs.Demand.{Answers, Refuses};
 ghost use Rattle.wast_meaning.specs.Modules.{content_fields, module_breaches};
 ghost use Rattle.wast_meaning.specs.Made.{is_made};

@@ -3,7 +3,7 @@ ghost use Rattle.std.specs.Prelude.{◌≡◌, Some, None, map, IfOk, OnErr, OnO
 ghost use Rattle.std.specs.List.{flat_map};
 ghost use Rattle.wast_grammar.specs.Spelling.{same_name};
 ghost use Rattle.wast_parser.specs.Identifiers.{index_tree};
-ghost use Rattle.wast_core.specs.ModuleViews.{field_tree};
+ghost use Rattle.wast_core.specs.ModuleFieldViews.{field_tree};
 ghost use Rattle.wast_names.specs.Demand.{Answers, Refuses, is_met};
 ghost use Rattle.wast_names.specs.Space as names;
 ghost use Rattle.wast_names.specs.Space.{known, number_of, resolved};
@@ -15,12 +15,12 @@ ghost use Rattle.wast_spaces.specs.Joins.{spaces_behind, type_fields};
 ghost use Rattle.wast_spaces.specs.Views.{fields_of_types, spaces_of};
 ghost use Rattle.wast_resolve.specs.Resolving.{AreNumbered, Means, ns_space, resolver_spaces};
 
-use crate::in_place::{InPlace, by_value};
 use crate::numbered::number_fields;
 use std::alloc::Global;
 use wast_core::ModuleField;
 use wast_deinline::deinline_import_export::discard;
 use wast_demands::check_names;
+use wast_expanded::{InPlace, by_value};
 use wast_meaning::Space;
 use wast_parser::{Error, Index};
 use wast_spaces::Spaces;

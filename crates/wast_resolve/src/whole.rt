@@ -4,7 +4,7 @@ ghost use Rattle.wasm_encoder_base.specs.Table.{Functions, Globals, Memories, Ta
 ghost use Rattle.wast_grammar.specs.Spelling.{same_name};
 ghost use Rattle.wast_parser.specs.Identifiers.{index_tree};
 ghost use Rattle.wast_parser.specs.Problem.{is_memory};
-ghost use Rattle.wast_core.specs.ModuleViews.{field_tree};
+ghost use Rattle.wast_core.specs.ModuleFieldViews.{field_tree};
 ghost use Rattle.wast_names.specs.Demand.{Answers, Refuses};
 ghost use Rattle.wast_names.specs.Space.{known, number_of, resolved};
 ghost use Rattle.wast_meaning.specs.Demands.{demands};
@@ -13,13 +13,12 @@ ghost use Rattle.wast_meaning.specs.Spaces.{space_word};
 ghost use Rattle.wast_resolve.specs.Resolving.{Means, ns_space, resolver_spaces};
 ghost use Rattle.wast_resolve.specs.Whole.{AreResolved, counter_after, demands_by, names_spaces, resolved_by, written_by};
 
-use crate::expanded::expand_in_place;
-use crate::in_place::{InPlace, by_value};
 use crate::names;
 use crate::names::{Ns, Resolver};
 use std::alloc::{AllocError, Global};
 use wast_core::ModuleField;
 use wast_deinline::deinline_import_export::{discard, run_in_place};
+use wast_expanded::{InPlace, by_value, expand_in_place};
 use wast_parser::{Error, Gensym, Index};
 
 /// What the names of a module mean whose fields are resolved. Each call makes an index the number that it means in a space, at the same

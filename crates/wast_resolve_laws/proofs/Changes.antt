@@ -7,14 +7,14 @@ use Rattle.std.proofs.lemmas.Simd.{map-map}
 use Rattle.wasm_encoder_base.specs.Table.{OperandSyntax, Space, Labels, Functions, Types, Tables, Memories, Tags, Fields, Locals, Globals, Datas, Elems}
 use Rattle.wast_parser.specs.Identifiers.{Reference}
 use Rattle.wast_value_types.specs.ValueTree.{HeapType, Abstract, Concrete, Exact, ValType, Number, Ref, StorageType, Packed, Value}
-use Rattle.wast_core_types.specs.TypeTree.{Local, Sig, InnerType, FuncType, StructType, ArrayType, ContType, TypeItem, TypeUse}
+use Rattle.wast_signatures.specs.TypeTree.{Local, Sig, InnerType, FuncType, StructType, ArrayType, ContType, TypeItem, TypeUse}
 use Rattle.wast_operands.specs.OperandTree.{MemArgTarget, Handle, OnLabel, OnSwitch}
 use Rattle.wast_operands.specs.OperandTree as operand
 use Rattle.wast_typed_operands.specs.TypedTree.{Catch, CatchTag, CatchTagRef, CatchAll, CatchAllRef}
 use Rattle.wast_core_instr.specs.InstructionTree.{Operands, Instruction}
 use Rattle.wast_core_instr.specs.InstructionTree as instr
 use Rattle.wast_imports.specs.ImportTree.{ExternType, OfFunc, OfExactFunc, OfTable, OfMemory, OfGlobal, OfTag, ImportItems, Single, Group1, Group2}
-use Rattle.wast_fields.specs.FieldTree.{Expr, Elements, Indices, Expressions, Defined, Imported, Func, Table, TableOf, Memory, MemoryOf, Global, Tag, ElemMode, PassiveElem, DeclaredElem, ActiveElem, DataMode, PassiveData, ActiveData, Field, TypeField, RecField, ImportField, Define, ExportField, StartField, ElemField, DataField, CustomField}
+use Rattle.wast_field_syntax.specs.FieldTree.{Expr, Elements, Indices, Expressions, Defined, Imported, Func, Table, TableOf, Memory, MemoryOf, Global, Tag, ElemMode, PassiveElem, DeclaredElem, ActiveElem, DataMode, PassiveData, ActiveData, Field, TypeField, RecField, ImportField, Define, ExportField, StartField, ElemField, DataField, CustomField}
 use Rattle.wast_meaning.specs.Mentions.{Mention, Refers, Member, Uses, UsesInBlock, Repeats, Part, Says, Constant, Body, first_space, second_space, syntax_of, second_mention, catch_mentions, handle_mentions, target_mention, operand_mentions, instr_mentions, heap_mentions, ref_mentions, val_mentions, storage_mentions, local_mentions, sig_mentions, inner_mentions, type_mentions, use_mentions, refers_if, extern_mentions, import_mentions, says, elements_parts, defined_parts, elem_mode_parts, data_mode_parts, parts}
 use Rattle.wast_meaning.specs.Changed.{Change, Changes, heap_changed, ref_changed, val_changed, storage_changed, field_type_changed, local_changed, sig_changed, inner_changed, type_changed, use_changed, catch_changed, handle_changed, target_changed, second_changed, operands_changed, instr_changed, extern_changed, item_changed, imports_changed, constant_changed, func_changed, elements_changed, defined_changed, elem_mode_changed, data_mode_changed, field_changed}
 use Rattle.wast_meaning.proofs.Settled.{two}

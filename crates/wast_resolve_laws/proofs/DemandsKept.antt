@@ -12,9 +12,9 @@ use Rattle.wast_names.specs.Walk.{walked, first_unmet}
 use Rattle.wast_names.specs.Demand.{Demand, is_met}
 use Rattle.wast_names.specs.Space as names
 use Rattle.wast_names.specs.Space.{last_counts}
-use Rattle.wast_core_types.specs.TypeTree.{Local, Sig, TypeUse}
+use Rattle.wast_signatures.specs.TypeTree.{Local, Sig, TypeUse}
 use Rattle.wast_core_instr.specs.InstructionTree.{Instruction}
-use Rattle.wast_fields.specs.FieldTree.{Function, Field, field_place}
+use Rattle.wast_field_syntax.specs.FieldTree.{Function, Field, field_place}
 use Rattle.wast_meaning.specs.Mentions.{Mention, Refers, Member, Uses, UsesInBlock, Repeats, Part, Says, Constant, Body, val_mentions, local_mentions, sig_mentions, instr_mentions, expr_mentions, parts, part_mentions, field_mentions}
 use Rattle.wast_meaning.specs.Spaces.{Bound, space_word, items}
 use Rattle.wast_meaning.specs.Implied.{no_sig, is_short, sig_of_use, sig_of_mention, used_sigs, written_types, plain_sig, unnamed_local, unnamed, implied, type_taken}

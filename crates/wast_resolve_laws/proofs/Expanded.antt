@@ -16,8 +16,8 @@ use Rattle.wast_names.specs.Position.{bears, last_from}
 use Rattle.wast_names.specs.Space as names
 use Rattle.wast_names.specs.Space.{last_counts, denoted}
 use Rattle.wast_value_types.specs.ValueTree.{HeapType, Abstract, Concrete, Exact, ValType, Number, Ref}
-use Rattle.wast_core_types.specs.TypeTree.{Sig, TypeItem}
-use Rattle.wast_fields.specs.FieldTree.{Field, field_place}
+use Rattle.wast_signatures.specs.TypeTree.{Sig, TypeItem}
+use Rattle.wast_field_syntax.specs.FieldTree.{Field, field_place}
 use Rattle.wast_meaning.specs.Mentions.{sig_mentions, field_mentions}
 use Rattle.wast_meaning.specs.Spaces.{Bound, bound, same_space, space_word, items, items_in, ids_in, fields_at, denotes, listed}
 use Rattle.wast_meaning.specs.Implied.{number_code, word_code, same_flag, same_heap, same_val, same_local, same_sig, same_written, sig_of_mention, used_sigs, written_types, plain_sig, implied_by, implied, implied_sigs, sig_at, type_taken, type_count}

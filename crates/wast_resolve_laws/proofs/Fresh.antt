@@ -16,7 +16,7 @@ use Rattle.wast_names.specs.Walk.{walked}
 use Rattle.wast_names.specs.Demand.{Duplicate}
 use Rattle.wast_names.specs.Space as names
 use Rattle.wast_names.specs.Space.{last_counts, denoted}
-use Rattle.wast_fields.specs.FieldTree.{Definition, Field, TypeField, RecField, ImportField, Define, ExportField, StartField, ElemField, DataField, CustomField}
+use Rattle.wast_field_syntax.specs.FieldTree.{Definition, Field, TypeField, RecField, ImportField, Define, ExportField, StartField, ElemField, DataField, CustomField}
 use Rattle.wast_meaning.specs.Written.{space_of_kind, kind_of, is_said, name_or, field_out, written_from, written_out, takes_name}
 use Rattle.wast_meaning.specs.Spaces.{Bound, bound, same_space, space_word, bound_segment, items, ids_in, denotes}
 use Rattle.wast_meaning.specs.Demands.{item_demand, spaces_after, item_demands}

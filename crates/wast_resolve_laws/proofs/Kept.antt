@@ -5,11 +5,11 @@ use Rattle.std.proofs.lemmas.Simd.{map-map}
 use Rattle.std.proofs.Math.Path.{fun_ext}
 use Rattle.wasm_encoder_base.specs.Table.{Space, OperandSyntax}
 use Rattle.wasm_encoder_base.specs.Balanced.{Turn, Opens, Closes, Stays}
-use Rattle.wast_core_types.specs.TypeTree.{InnerType, FuncType, StructType, ArrayType, ContType, StructField, TypeItem}
+use Rattle.wast_signatures.specs.TypeTree.{InnerType, FuncType, StructType, ArrayType, ContType, StructField, TypeItem}
 use Rattle.wast_imports.specs.ImportTree.{ExternType, OfFunc, OfExactFunc, OfTable, OfMemory, OfGlobal, OfTag, Item, ImportItems, Single, Group1, Group2}
 use Rattle.wast_core_instr.specs.InstructionTree.{Operands, Instruction}
 use Rattle.wast_core_instr.specs.InstructionTree as instr
-use Rattle.wast_fields.specs.FieldTree.{Defined, Imported, Func, Table, TableOf, Memory, MemoryOf, Global, Tag, Field, TypeField, RecField, ImportField, Define, ExportField, StartField, ElemField, DataField, CustomField, field_place}
+use Rattle.wast_field_syntax.specs.FieldTree.{Defined, Imported, Func, Table, TableOf, Memory, MemoryOf, Global, Tag, Field, TypeField, RecField, ImportField, Define, ExportField, StartField, ElemField, DataField, CustomField, field_place}
 use Rattle.wast_meaning.specs.Written.{space_of_kind, kind_of_type, kind_of}
 use Rattle.wast_meaning.specs.Spaces.{Bound, bound, fields_of, bound_type, bound_import, bound_imports, bound_segment, items, listed}
 use Rattle.wast_meaning.specs.Mentions.{syntax_of}

@@ -14,9 +14,9 @@ use Rattle.wast_names.specs.Demand.{Demand, is_met}
 use Rattle.wast_names.specs.Space as names
 use Rattle.wast_names.specs.Space.{number_of}
 use Rattle.wast_value_types.specs.ValueTree.{HeapType, Abstract, Concrete, Exact, ValType, Number, Ref}
-use Rattle.wast_core_types.specs.TypeTree.{Local, Sig, TypeItem, TypeUse}
+use Rattle.wast_signatures.specs.TypeTree.{Local, Sig, TypeItem, TypeUse}
 use Rattle.wast_core_instr.specs.InstructionTree.{Instruction}
-use Rattle.wast_fields.specs.FieldTree.{Function, Field}
+use Rattle.wast_field_syntax.specs.FieldTree.{Function, Field}
 use Rattle.wast_meaning.specs.Mentions.{Mention, Refers, Member, Uses, UsesInBlock, Repeats, Part, Says, Constant, Body, local_mentions, use_mentions, instr_mentions, parts}
 use Rattle.wast_meaning.specs.Spaces.{Bound, same_space, space_word, items, items_in, fields_at, denotes, listed}
 use Rattle.wast_meaning.specs.Implied.{no_sig, same_flag, same_option, same_heap, same_val, same_local, same_sig, written_types, implied, sig_at, type_count}

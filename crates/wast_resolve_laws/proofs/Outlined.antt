@@ -9,10 +9,10 @@ use Rattle.wasm_encoder_base.specs.Table.{Space, Types, Tables}
 use Rattle.wast_parser.specs.Identifiers.{Named, ByName}
 use Rattle.wast_names.specs.Demand.{Demand}
 use Rattle.wast_names.specs.Walk.{walked}
-use Rattle.wast_core_types.specs.TypeTree.{Sig}
+use Rattle.wast_signatures.specs.TypeTree.{Sig}
 use Rattle.wast_exports.specs.Exports as exports
 use Rattle.wast_imports.specs.ImportTree.{ExternType, OfFunc, OfExactFunc, OfTable, OfMemory, OfGlobal, OfTag}
-use Rattle.wast_fields.specs.FieldTree.{Defined, Imported, Func, Table, TableOf, Memory, MemoryOf, Global, Tag, Definition, ActiveElem, ActiveData, Field, TypeField, RecField, ImportField, Define, ExportField, StartField, ElemField, DataField, CustomField}
+use Rattle.wast_field_syntax.specs.FieldTree.{Defined, Imported, Func, Table, TableOf, Memory, MemoryOf, Global, Tag, Definition, ActiveElem, ActiveData, Field, TypeField, RecField, ImportField, Define, ExportField, StartField, ElemField, DataField, CustomField}
 use Rattle.wast_meaning.specs.Written.{has_any, space_of_kind, kind_of, zero_offset, field_of, export_of, segment_of, has_segment, is_said, name_or, definition_out, field_out, written_from, written_out}
 use Rattle.wast_meaning.specs.Mentions.{Refers, Part, Says, Constant, ref_mentions, says, elements_parts, defined_parts, parts, part_mentions}
 use Rattle.wast_meaning.specs.Spaces.{Bound, bound, same_space, bound_segment, items, items_in, fields_at}

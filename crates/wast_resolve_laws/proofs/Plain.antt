@@ -6,8 +6,8 @@ use Rattle.std.specs.Cmp.Derive.{both_true}
 use Rattle.std.proofs.lemmas.Bool.{false≢true}
 use Rattle.wast_parser.specs.Identifiers.{Named}
 use Rattle.wast_exports.specs.Exports.{ExportKind}
-use Rattle.wast_core_types.specs.TypeTree.{Sig}
-use Rattle.wast_fields.specs.FieldTree.{Defined, Imported, Func, Table, TableOf, Memory, MemoryOf, Global, Tag, Definition, Field, TypeField, RecField, ImportField, Define, ExportField, StartField, ElemField, DataField, CustomField, field_place}
+use Rattle.wast_signatures.specs.TypeTree.{Sig}
+use Rattle.wast_field_syntax.specs.FieldTree.{Defined, Imported, Func, Table, TableOf, Memory, MemoryOf, Global, Tag, Definition, Field, TypeField, RecField, ImportField, Define, ExportField, StartField, ElemField, DataField, CustomField, field_place}
 use Rattle.wast_meaning.specs.Written.{has_any, kind_of, field_of, export_of, segment_of, name_or, definition_out, field_out, written_from, written_out}
 use Rattle.wast_meaning.specs.Changed.{Changes, defined_changed, field_changed}
 use Rattle.wast_meaning.specs.Numbered.{implied_field, expanded, numbered, numberings}

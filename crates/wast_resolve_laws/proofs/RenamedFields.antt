@@ -11,7 +11,7 @@ use Rattle.wast_grammar.proofs.Extend.{injective}
 use Rattle.wast_parser.specs.Identifiers.{ByName}
 use Rattle.wast_names.specs.Walk.{first_unmet}
 use Rattle.wast_names.specs.Demand.{Demand, Complaint, Duplicate, Unknown, ImportAfter, TypeMismatch, LabelMismatch, is_met}
-use Rattle.wast_fields.specs.FieldTree.{Field, StartField}
+use Rattle.wast_field_syntax.specs.FieldTree.{Field, StartField}
 use Rattle.wast_meaning.specs.Spaces.{denotes}
 use Rattle.wast_meaning.specs.Demands.{demands, all_demands}
 use Rattle.wast_meaning.specs.Numbered.{numbered, resolved}

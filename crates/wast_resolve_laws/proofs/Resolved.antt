@@ -2,7 +2,7 @@
 use Rattle.std.proofs.Common.{◌≡◌, ℕ, Bool, true, List, None, ◌∙◌, ap}
 use Rattle.wast_names.specs.Walk.{first_unmet}
 use Rattle.wast_names.specs.Demand.{is_met}
-use Rattle.wast_fields.specs.FieldTree.{Field}
+use Rattle.wast_field_syntax.specs.FieldTree.{Field}
 use Rattle.wast_meaning.specs.Written.{written_out}
 use Rattle.wast_meaning.specs.Demands.{demands, all_demands}
 use Rattle.wast_meaning.specs.Numbered.{expanded, resolved}

@@ -12,9 +12,9 @@ use Rattle.wast_parser_core.proofs.WordSets.{some_map}
 use Rattle.wast_names.specs.Walk.{first_unmet}
 use Rattle.wast_names.specs.Demand.{is_met}
 use Rattle.wast_names.specs.Space as names
-use Rattle.wast_core_types.specs.TypeTree.{Sig, TypeUse}
+use Rattle.wast_signatures.specs.TypeTree.{Sig, TypeUse}
 use Rattle.wast_core_instr.specs.InstructionTree.{Instruction}
-use Rattle.wast_fields.specs.FieldTree.{Function, Field}
+use Rattle.wast_field_syntax.specs.FieldTree.{Function, Field}
 use Rattle.wast_meaning.specs.Mentions.{Mention, Refers, Member, Uses, UsesInBlock, Repeats, Part, Says, Constant, Body, refers_if, sig_mentions, local_mentions, use_mentions, instr_mentions, expr_mentions, parts, part_mentions, field_mentions}
 use Rattle.wast_meaning.specs.Spaces.{space_word, items}
 use Rattle.wast_meaning.specs.Implied.{no_sig, is_short}

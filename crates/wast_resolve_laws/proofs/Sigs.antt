@@ -3,7 +3,7 @@ use Rattle.std.proofs.Common.{◌≡◌, Bool, true, false, List, [], ◌∷◌,
 use Rattle.std.specs.Prelude.{◌&&◌}
 use Rattle.std.specs.List.{list_any, list_all}
 use Rattle.std.specs.Cmp.Derive.{both_true}
-use Rattle.wast_core_types.specs.TypeTree.{Sig, TypeItem}
+use Rattle.wast_signatures.specs.TypeTree.{Sig, TypeItem}
 use Rattle.wast_meaning.specs.Implied.{same_sig, same_written, func_sig, unnamed, implied_by}
 use Rattle.wast_meaning.proofs.Settled.{left, right}
 

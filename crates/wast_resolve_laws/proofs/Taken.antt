@@ -9,8 +9,8 @@ use Rattle.std.proofs.lemmas.Option.{none-some, same_Some}
 use Rattle.wasm_encoder_base.specs.Table.{Types}
 use Rattle.wast_parser.specs.Identifiers.{Reference, ByNumber, ByName}
 use Rattle.wast_value_types.specs.ValueTree.{HeapType, Abstract, Concrete, Exact, ValType, Number, Ref}
-use Rattle.wast_core_types.specs.TypeTree.{Local, Sig, TypeItem}
-use Rattle.wast_fields.specs.FieldTree.{Field}
+use Rattle.wast_signatures.specs.TypeTree.{Local, Sig, TypeItem}
+use Rattle.wast_field_syntax.specs.FieldTree.{Field}
 use Rattle.wast_meaning.specs.Implied.{same_flag, same_option, same_heap, same_val, same_local, same_sig, same_written, no_sig, written_types, is_plain, plain_sig, implied_sigs, sig_at, type_taken}
 use Rattle.wast_meaning.specs.Scope.{Scope, scope_of}
 use Rattle.wast_meaning.specs.Demands.{same_numbered, agrees}

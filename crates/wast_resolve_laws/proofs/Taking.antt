@@ -10,9 +10,9 @@ use Rattle.std.proofs.lemmas.List.Folds.{list_all-append}
 use Rattle.wasm_encoder_base.specs.Table.{Types}
 use Rattle.wast_parser.specs.Identifiers.{Reference, ByNumber}
 use Rattle.wast_value_types.specs.ValueTree.{HeapType, Abstract, Concrete, Exact, RefType, ValType, Number, Ref, StorageType, Packed, Value, FieldType}
-use Rattle.wast_core_types.specs.TypeTree.{Local, Sig, InnerType, FuncType, StructType, ArrayType, ContType, StructField, TypeItem}
+use Rattle.wast_signatures.specs.TypeTree.{Local, Sig, InnerType, FuncType, StructType, ArrayType, ContType, StructField, TypeItem}
 use Rattle.wast_core_instr.specs.InstructionTree.{Instruction}
-use Rattle.wast_fields.specs.FieldTree.{Field}
+use Rattle.wast_field_syntax.specs.FieldTree.{Field}
 use Rattle.wast_meaning.specs.Mentions.{Mention, Refers, Member, Uses, UsesInBlock, Repeats, Part, Says, Constant, Body, heap_mentions, val_mentions, local_mentions, sig_mentions, instr_mentions, expr_mentions, parts, part_mentions, field_mentions}
 use Rattle.wast_meaning.specs.Implied.{no_sig, is_short, sig_of_mention}
 use Rattle.wast_meaning.specs.Changed.{Changes, heap_changed, ref_changed, val_changed, storage_changed, field_type_changed, local_changed, sig_changed, inner_changed, type_changed, instr_changed, instrs_changed}

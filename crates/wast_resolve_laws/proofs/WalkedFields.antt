@@ -9,7 +9,7 @@ use Rattle.wast_names.specs.Walk.{reached, walked, threaded, first_unmet}
 use Rattle.wast_names.specs.Demand.{is_met}
 use Rattle.wast_names.specs.Space as names
 use Rattle.wast_core_instr.specs.InstructionTree.{Instruction}
-use Rattle.wast_fields.specs.FieldTree.{Field}
+use Rattle.wast_field_syntax.specs.FieldTree.{Field}
 use Rattle.wast_meaning.specs.Mentions.{instr_mentions}
 use Rattle.wast_meaning.specs.Spaces.{Bound, space_number, same_space, space_word, listed, items, items_in, ids_in, denotes}
 use Rattle.wast_meaning.specs.Scope.{Scope, turn_of_head, own_label, open_labels, labels_seen, labels_or, scope_at}

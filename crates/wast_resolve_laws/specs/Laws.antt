@@ -8,9 +8,9 @@ use Rattle.wast_grammar.specs.Spelling.{same_name}
 use Rattle.wast_names.specs.Walk.{reached, walked, threaded, first_unmet}
 use Rattle.wast_names.specs.Demand.{is_met}
 use Rattle.wast_names.specs.Space as names
-use Rattle.wast_core_types.specs.TypeTree.{Sig}
+use Rattle.wast_signatures.specs.TypeTree.{Sig}
 use Rattle.wast_core_instr.specs.InstructionTree.{Instruction}
-use Rattle.wast_fields.specs.FieldTree.{Field}
+use Rattle.wast_field_syntax.specs.FieldTree.{Field}
 use Rattle.wast_meaning.specs.Written.{written_out}
 use Rattle.wast_meaning.specs.Spaces.{Bound, space_word, denotes, fields_at, items, items_in, ids_in}
 use Rattle.wast_meaning.specs.Implied.{same_sig, same_written, implied, sig_at, type_taken}

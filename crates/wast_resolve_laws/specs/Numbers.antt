@@ -1,7 +1,7 @@
 -- Fields whose indices are numbers.
 use Rattle.std.specs.Prelude.{Bool, List}
 use Rattle.std.specs.List.{list_all}
-use Rattle.wast_fields.specs.FieldTree.{Field}
+use Rattle.wast_field_syntax.specs.FieldTree.{Field}
 use Rattle.wast_meaning.specs.Mentions.{Mention, Uses, UsesInBlock, use_mentions, field_mentions}
 use Rattle.wast_meaning.specs.Settled.{says_number}
 

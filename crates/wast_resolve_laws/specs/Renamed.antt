@@ -4,7 +4,7 @@ use std.Equiv.{Iso}
 use std.Path.{transport}
 use std.Univalence.{iso_to_path}
 use Rattle.wast_names.specs.Demand.{Demand, Complaint, Duplicate, Unknown, ImportAfter, TypeMismatch, LabelMismatch}
-use Rattle.wast_fields.specs.FieldTree.{Field}
+use Rattle.wast_field_syntax.specs.FieldTree.{Field}
 
 -- What is over names and places, with their counterparts: types whose values correspond one to one are equal (univalence), so what is
 -- over the first is over the others too. Each name and each place becomes its counterpart, and nothing else changes.

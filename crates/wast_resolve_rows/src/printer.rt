@@ -6,10 +6,10 @@ use wast_core::{
     Expression, FunctionType, ImportItems, Instruction, ItemKind, Local, MemoryKind, ModuleField,
     TableKind, TypeUse,
 };
-use wast_core_types::Limits;
 use wast_mentions::{Judge, Judgement, Mention, Tell};
 use wast_parser::Index;
 use wast_parts::{PartJudge, PartJudgement, tell_parts};
+use wast_value_types::Limits;
 
 /// Prints fields, one a line.
 pub fn print_fields(rt: HostRuntime, fields: &[ModuleField<'_>]) -> io::Result<()> {

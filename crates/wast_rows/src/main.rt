@@ -16,52 +16,60 @@
 //! - `registered TEXT`: whether a parenthesis opens behind the identifier in front of the text: as it is, and with
 //!   annotations `a` registered once the identifier is read;
 //! - `errors`: the text of each lexical error.
+//!
+//! With the argument `measure` it measures the lexer and the parser instead.
 #![tactic(auto)]
 
+mod bench;
 mod lexer;
+mod page;
 mod parser;
 
+use page::Page;
 use percent_encoding::percent_decode;
-use std::io;
+use std::{env, io};
 
 fn main(rt: HostRuntime) -> io::Result<()> {
-    for line in rt.lines(rt.alloc()) {
-        let line = line?;
-        println!(rt; "> {line}")?;
-        answer(rt, line.as_str())?;
+    if is_told_to_measure(&rt)? {
+        return bench::measure_texts(&rt);
     }
-    Ok(())
+    let page = Page::new(rt);
+    for line in rt.lines(rt.alloc()) {
+        answer(&page, line?.as_str());
+    }
+    page.outcome()
 }
 
-/// Prints what a line asks for.
-fn answer(rt: HostRuntime, line: &str) -> io::Result<()> {
+fn is_told_to_measure(rt: &HostRuntime) -> io::Result<bool> {
+    let mut told = false;
+    for word in env::args(rt)? {
+        if word.as_str() == "measure" {
+            told = true;
+        }
+    }
+    Ok(told)
+}
+
+/// Prints a line, and what it asks for.
+fn answer(page: &Page, line: &str) {
+    writeln!(page, "> {line}");
     let (word, rest) = line.split_once(' ').unwrap_or((line, ""));
-    let Ok(text) = percent_decode(rest.as_bytes()).decode_utf8(rt.alloc()) else {
-        return println!(rt; "no text");
-    };
-    if word == "tokens" {
-        lexer::tokens(rt, text.as_str(), false)
-    } else if word == "allowed" {
-        lexer::tokens(rt, text.as_str(), true)
-    } else if word == "passed" {
-        lexer::passed(rt, text.as_str())
-    } else if word == "named" {
-        lexer::named(rt, text.as_str())
-    } else if word == "place" {
-        lexer::place(rt, text.as_str())
-    } else if word == "read" {
-        parser::read(rt, text.as_str())
-    } else if word == "looks" {
-        parser::looks(rt, text.as_str())
-    } else if word == "comment" {
-        parser::comment(rt, text.as_str(), false)
-    } else if word == "behind" {
-        parser::comment(rt, text.as_str(), true)
-    } else if word == "registered" {
-        parser::registered_behind(rt, text.as_str())
-    } else if word == "errors" {
-        lexer::errors(rt)
-    } else {
-        println!(rt; "no such word")
+    answer_decoded(page, word, rest);
+}
+
+/// Prints what a word asks of a text that is written so.
+fn answer_decoded(page: &Page, word: &str, written: &str) {
+    match percent_decode(written.as_bytes()).decode_utf8(page.alloc()) {
+        Ok(text) => answer_of(page, word, text.as_str()),
+        Err(_) => page.put("no text\n"),
+    }
+}
+
+/// Prints what a word asks of a text.
+fn answer_of(page: &Page, word: &str, text: &str) {
+    match word {
+        "read" => parser::read(page, text),
+        "looks" | "comment" | "behind" | "registered" => parser::answer(page, word, text),
+        _ => lexer::answer(page, word, text),
     }
 }

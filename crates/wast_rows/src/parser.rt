@@ -1,40 +1,66 @@
 //! What the parser reads of a text.
-ghost use Rattle.std.specs.Prelude.{IfOk};
+ghost use Rattle.std.specs.Prelude.{◌≡◌, [], IfOk};
 ghost use Rattle.wast_parser.specs.Cursors.{Follows};
 
+use crate::lexer::fits;
+use crate::page::Page;
 use std::alloc::Global;
 use std::borrow::CowStr;
-use std::io;
-use wast_parser::{Cursor, Error, Id, LParen, ParseBuffer, Parser, parse};
+use std::fmt::Display;
+use wast_parser::{Cursor, Error, Id, LParen, Parse, ParseBuffer, Parser, parse};
 
 /// Prints what a text is, read as one of a type, which stands before it.
-pub fn read(rt: HostRuntime, words: &str) -> io::Result<()> {
+pub fn read(page: &Page, words: &str) {
     let (kind, text) = words.split_once(' ').unwrap_or((words, ""));
-    if 4_294_967_295 < text.len() {
-        return println!(rt; "too long");
+    if let Some(buffer) = buffer_of(page, text) {
+        read_as(page, kind, &buffer);
     }
-    match ParseBuffer::new(rt.alloc(), text) {
-        Ok(buffer) => read_as(rt, kind, &buffer),
-        Err(_) => println!(rt; "no tokens"),
+}
+
+/// Prints what a word asks of a text, where it asks a parser.
+pub fn answer(page: &Page, word: &str, text: &str) {
+    if let Some(buffer) = buffer_of(page, text) {
+        answer_of(page, word, &mut Parser::new(&buffer));
+    }
+}
+
+fn answer_of(page: &Page, word: &str, parser: &mut Parser<'_>)
+    requires { parser.old.names ≡ [] }
+{
+    match word {
+        "looks" => looks(page, parser),
+        "registered" => registered_behind(page, parser),
+        _ => comment(page, parser, word == "behind"),
+    }
+}
+
+/// The tokens of a text, or prints why there are none.
+fn buffer_of<'a>(page: &Page, text: &'a str) -> Option<ParseBuffer<'a>> {
+    if !fits(page, text) {
+        return None;
+    }
+    match ParseBuffer::new(page.alloc(), text) {
+        Ok(buffer) => Some(buffer),
+        Err(_) => {
+            page.put("no tokens\n");
+            None
+        }
     }
 }
 
 /// Prints of a text whether an identifier stands in front: as it is, with annotations `a` registered, and with that taken back.
-pub fn looks(rt: HostRuntime, text: &str) -> io::Result<()> {
-    if 4_294_967_295 < text.len() {
-        return println!(rt; "too long");
-    }
-    match ParseBuffer::new(rt.alloc(), text) {
-        Ok(buffer) => match looks_for_id(&buffer) {
-            Ok((before, registered, after)) => println!(rt; "{before} {registered} {after}"),
-            Err(error) => refused(rt, &error),
-        },
-        Err(_) => println!(rt; "no tokens"),
+fn looks(page: &Page, parser: &mut Parser<'_>)
+    requires { parser.old.names ≡ [] }
+{
+    match looks_for_id(parser) {
+        Ok((before, registered, after)) => writeln!(page, "{before} {registered} {after}"),
+        Err(error) => refused(page, &error),
     }
 }
 
-fn looks_for_id(buffer: &ParseBuffer<'_>) -> Result<(bool, bool, bool), Error> {
-    let mut parser = Parser::new(buffer);
+fn looks_for_id(parser: &mut Parser<'_>) -> Result<(bool, bool, bool), Error>
+    requires { parser.old.names ≡ [] }
+{
     let before = parser.peek::<Id>()?;
     parser.register_annotation("a")?;
     let registered = parser.peek::<Id>()?;
@@ -43,49 +69,42 @@ fn looks_for_id(buffer: &ParseBuffer<'_>) -> Result<(bool, bool, bool), Error> {
 }
 
 /// Prints the comment in front of a text, or behind the identifier there, or that there is none.
-pub fn comment(rt: HostRuntime, text: &str, behind_id: bool) -> io::Result<()> {
-    if 4_294_967_295 < text.len() {
-        return println!(rt; "too long");
-    }
-    match ParseBuffer::new(rt.alloc(), text) {
-        Ok(buffer) => match comment_of(&buffer, behind_id) {
-            Ok(Some(comment)) => println!(rt; "{comment}"),
-            Ok(None) => println!(rt; "none"),
-            Err(error) => refused(rt, &error),
-        },
-        Err(_) => println!(rt; "no tokens"),
+fn comment(page: &Page, parser: &mut Parser<'_>, behind_id: bool) {
+    match comment_of(parser, behind_id) {
+        Ok(Some(comment)) => writeln!(page, "{comment}"),
+        Ok(None) => page.put("none\n"),
+        Err(error) => refused(page, &error),
     }
 }
 
-fn comment_of<'a>(buffer: &'a ParseBuffer<'a>, behind_id: bool) -> Result<Option<&'a str>, Error> {
-    let mut parser = Parser::new(buffer);
+fn comment_of<'a>(parser: &mut Parser<'a>, behind_id: bool) -> Result<Option<&'a str>, Error> {
     if behind_id {
-        let _: Id<'a> = parser.parse()?;
+        pass_id(parser)?;
     }
     parser.step(front_comment)
 }
 
 /// Prints of a text whether a parenthesis opens behind the identifier in front of it: as it is, and with annotations `a`
 /// registered once the identifier is read.
-pub fn registered_behind(rt: HostRuntime, text: &str) -> io::Result<()> {
-    if 4_294_967_295 < text.len() {
-        return println!(rt; "too long");
-    }
-    match ParseBuffer::new(rt.alloc(), text) {
-        Ok(buffer) => match opens_behind_id(&buffer) {
-            Ok((before, registered)) => println!(rt; "{before} {registered}"),
-            Err(error) => refused(rt, &error),
-        },
-        Err(_) => println!(rt; "no tokens"),
+fn registered_behind(page: &Page, parser: &mut Parser<'_>) {
+    match opens_behind_id(parser) {
+        Ok((before, registered)) => writeln!(page, "{before} {registered}"),
+        Err(error) => refused(page, &error),
     }
 }
 
-fn opens_behind_id<'a>(buffer: &'a ParseBuffer<'a>) -> Result<(bool, bool), Error> {
-    let mut parser = Parser::new(buffer);
-    let _: Id<'a> = parser.parse()?;
+fn opens_behind_id(parser: &mut Parser<'_>) -> Result<(bool, bool), Error> {
+    pass_id(parser)?;
     let before = parser.peek::<LParen>()?;
     parser.register_annotation("a")?;
     Ok((before, parser.peek::<LParen>()?))
+}
+
+fn pass_id(parser: &mut Parser<'_>) -> Result<(), Error> {
+    match parser.parse::<Id<'_>>() {
+        Ok(_) => Ok(()),
+        Err(error) => Err(error),
+    }
 }
 
 fn front_comment<'b, 'a>(cursor: Cursor<'b, 'a>) -> Result<(Option<&'a str>, Cursor<'b, 'a>), Error>
@@ -97,41 +116,30 @@ fn front_comment<'b, 'a>(cursor: Cursor<'b, 'a>) -> Result<(Option<&'a str>, Cur
     }
 }
 
-fn read_as<'a>(rt: HostRuntime, kind: &str, buffer: &'a ParseBuffer<'a>) -> io::Result<()> {
-    if kind == "i8" {
-        match parse::<i8>(buffer) {
-            Ok(number) => println!(rt; "{number}"),
-            Err(error) => refused(rt, &error),
-        }
-    } else if kind == "u8" {
-        match parse::<u8>(buffer) {
-            Ok(number) => println!(rt; "{number}"),
-            Err(error) => refused(rt, &error),
-        }
-    } else if kind == "i64" {
-        match parse::<i64>(buffer) {
-            Ok(number) => println!(rt; "{number}"),
-            Err(error) => refused(rt, &error),
-        }
-    } else if kind == "u64" {
-        match parse::<u64>(buffer) {
-            Ok(number) => println!(rt; "{number}"),
-            Err(error) => refused(rt, &error),
-        }
-    } else if kind == "string" {
-        match parse::<CowStr<'_, Global>>(buffer) {
-            Ok(text) => println!(rt; "{}", text.as_str()),
-            Err(error) => refused(rt, &error),
-        }
-    } else {
-        println!(rt; "no such type")
+fn read_as<'a>(page: &Page, kind: &str, buffer: &'a ParseBuffer<'a>) {
+    match kind {
+        "i8" => print_as::<i8>(page, buffer),
+        "u8" => print_as::<u8>(page, buffer),
+        "i64" => print_as::<i64>(page, buffer),
+        "u64" => print_as::<u64>(page, buffer),
+        "string" => print_as::<CowStr<'_, Global>>(page, buffer),
+        _ => page.put("no such type\n"),
+    }
+}
+
+/// Prints a value, or where it is refused.
+fn print_as<'a, T: Parse<'a> + Display + Drop>(page: &Page, buffer: &'a ParseBuffer<'a>) {
+    match parse::<T>(buffer) {
+        Ok(value) => writeln!(page, "{value}"),
+        Err(error) => refused(page, &error),
     }
 }
 
 /// Prints where a text is refused, and the lexical error where that is the cause.
-fn refused(rt: HostRuntime, error: &Error) -> io::Result<()> {
+fn refused(page: &Page, error: &Error) {
+    let offset = error.span().offset();
     match error.lex_error() {
-        Some(cause) => println!(rt; "refused at {}: {cause}", error.span().offset()),
-        None => println!(rt; "refused at {}", error.span().offset()),
+        Some(cause) => writeln!(page, "refused at {offset}: {cause}"),
+        None => writeln!(page, "refused at {offset}"),
     }
 }

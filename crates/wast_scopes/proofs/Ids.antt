@@ -6,9 +6,9 @@ use Rattle.wast_parser.specs.Identifier.{Identifier}
 use Rattle.wast_parser.specs.Identifiers.{identifier_tree}
 use Rattle.wast_parser_base.specs.declared.index.NameAnnotation.{NameAnnotation}
 use Rattle.wast_value_types.specs.declared.val_type.ValType.{ValType}
-use Rattle.wast_core_types.specs.TypeViews.{param_tree}
-use Rattle.wast_fields.specs.FieldViews.{local_tree}
-use Rattle.wast_fields.specs.declared.local.Local.{Local}
+use Rattle.wast_signatures.specs.SignatureViews.{param_tree}
+use Rattle.wast_module_fields.specs.FuncViews.{local_tree}
+use Rattle.wast_module_fields.specs.Local.{Local}
 use Rattle.wast_scopes.specs.declared.numbered.NumberedType.{NumberedType}
 use Rattle.wast_scopes.specs.declared.numbered.NumberedType.TheVariants as numbered
 use Rattle.wast_scopes.specs.NumberedViews.{value_of_numbered}

@@ -7,13 +7,13 @@ use Rattle.wasm_encoder_base.specs.Table as table
 use Rattle.wast_grammar.specs.Tokens.{Name}
 use Rattle.wast_grammar.specs.Spelling.{same_name}
 use Rattle.wast_parser.specs.Identifiers.{Named}
-use Rattle.wast_core_types.specs.TypeTree.{Sig}
+use Rattle.wast_signatures.specs.TypeTree.{Sig}
 use Rattle.wast_names.specs.Space as names
 use Rattle.wast_names.specs.Space.{name_in}
 use Rattle.wast_names.specs.Position.{position}
 use Rattle.wast_names.specs.Views.{space}
 use Rattle.wast_names.proofs.Positions.{numbers_of}
-use Rattle.wast_fields.specs.FieldTree.{Field}
+use Rattle.wast_module_fields.specs.FieldTree.{Field}
 use Rattle.wast_meaning.specs.Spaces.{Bound, space_word, items, items_in, fields_at, denotes}
 use Rattle.wast_meaning.specs.Implied.{written_types, implied_sigs, sig_at}
 use Rattle.wast_meaning.specs.Scope.{scope_of, locals_or}

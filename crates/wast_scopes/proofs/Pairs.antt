@@ -9,7 +9,7 @@ use Rattle.wast_parser_base.specs.Identifier.{Identifier}
 use Rattle.wast_parser_base.specs.declared.index.NameAnnotation.{NameAnnotation}
 use Rattle.wast_value_types.specs.ValueViews.{val_tree}
 use Rattle.wast_value_types.specs.declared.val_type.ValType.{ValType}
-use Rattle.wast_core_types.specs.TypeViews.{param_tree}
+use Rattle.wast_signatures.specs.SignatureViews.{param_tree}
 use Rattle.wast_scopes.specs.declared.numbered.NumberedType.{NumberedType}
 use Rattle.wast_scopes.specs.declared.numbered.NumberedType.TheVariants as numbered
 use Rattle.wast_scopes.specs.Numbered.{Look, NumberedValue, numbered_value, same_numbered_value}

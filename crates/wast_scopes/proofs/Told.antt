@@ -11,9 +11,9 @@ use Rattle.wast_parser.specs.Identifiers.{Named, Reference, ByNumber, ByName}
 use Rattle.wast_value_types.specs.ValueTree.{HeapType, Abstract, Concrete, Exact, ValType, Number, Ref}
 use Rattle.wast_names.specs.Demand.{Demand, TypeMismatch}
 use Rattle.wast_names.specs.Space as names
-use Rattle.wast_core_types.specs.TypeTree.{Sig, TypeUse}
+use Rattle.wast_signatures.specs.TypeTree.{Sig, TypeUse}
 use Rattle.wast_core_instr.specs.InstructionTree.{Instruction}
-use Rattle.wast_fields.specs.FieldTree.{Function}
+use Rattle.wast_module_fields.specs.FieldTree.{Function}
 use Rattle.wast_meaning.specs.Mentions.{Mention, Refers, Member, Uses, UsesInBlock, Repeats, Part, Says, Constant, Body, use_mentions, local_mentions, instr_mentions}
 use Rattle.wast_meaning.specs.Spaces.{space_word}
 use Rattle.wast_meaning.specs.Implied.{no_sig, number_code, same_flag, same_option, same_heap, same_val, same_local, same_sig}

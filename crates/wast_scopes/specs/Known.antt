@@ -12,9 +12,9 @@ use Rattle.wast_names.specs.Walk.{walked}
 use Rattle.wast_names.specs.Demand.{Demand, Unknown, TypeMismatch, LabelMismatch}
 use Rattle.wast_names.specs.Space as names
 use Rattle.wast_names.specs.Space.{name_in}
-use Rattle.wast_core_types.specs.TypeTree.{Sig, TypeUse}
+use Rattle.wast_signatures.specs.TypeTree.{Sig, TypeUse}
 use Rattle.wast_core_instr.specs.InstructionTree.{Instruction}
-use Rattle.wast_fields.specs.FieldTree.{Function}
+use Rattle.wast_module_fields.specs.FieldTree.{Function}
 use Rattle.wast_meaning.specs.Spaces.{space_word}
 use Rattle.wast_meaning.specs.Mentions.{Mention, Refers, Member, Uses, UsesInBlock, Repeats, Part, Says, Constant, Body, use_mentions, local_mentions, instr_mentions}
 use Rattle.wast_meaning.specs.Scope.{Scope, labels_or, locals_or, turn_of_head, own_label}

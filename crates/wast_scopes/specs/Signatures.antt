@@ -2,7 +2,7 @@
 use Rattle.std.specs.Prelude.{◌≡◌, ℕ, Bool, List, ◌++◌, map, slice_get, Option, Some, None, option_map, option_and_then, Result, OnOk}
 use Rattle.wast_grammar.specs.Tokens.{Name}
 use Rattle.wast_parser.specs.Identifiers.{Named}
-use Rattle.wast_core_types.specs.TypeTree.{Sig, TypeItem}
+use Rattle.wast_signatures.specs.TypeTree.{Sig, TypeItem}
 use Rattle.wast_meaning.specs.Implied.{func_sig}
 use Rattle.wast_scopes.specs.Numbered.{Look, NumberedSig, numbered_sig}
 use Rattle.wast_scopes.specs.NumberedViews.{sig_of_numbered}

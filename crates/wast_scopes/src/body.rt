@@ -4,10 +4,10 @@ ghost use Rattle.std.specs.List.{flat_map};
 ghost use Rattle.wasm_encoder_base.specs.Table as table;
 ghost use Rattle.wast_grammar.specs.Spelling.{same_name};
 ghost use Rattle.wast_parser.specs.Identifiers.{identifier_tree, index_tree};
-ghost use Rattle.wast_core_types.specs.TypeViews.{use_tree};
+ghost use Rattle.wast_signatures.specs.SignatureViews.{use_tree};
 ghost use Rattle.wast_core_instr.specs.ExpressionViews.{expression_tree};
 ghost use Rattle.wast_core_instr.specs.InstructionViews.{instruction_tree};
-ghost use Rattle.wast_fields.specs.FieldViews.{local_tree};
+ghost use Rattle.wast_module_fields.specs.FuncViews.{local_tree};
 ghost use Rattle.wast_names.specs.Demand.{Answers};
 ghost use Rattle.wast_names.specs.Space as names;
 ghost use Rattle.wast_names.specs.Views.{space};
@@ -25,13 +25,12 @@ use crate::numbered::{NumberedSignature, NumberedType};
 use crate::place::Place;
 use crate::scope::Scope;
 use std::alloc::{AllocError, Global};
-use wast_core::{Expression, Instruction};
-use wast_core_types::{FunctionType, Param, TypeUse};
-use wast_fields::Local;
 use wast_meaning::Space;
 use wast_mentions::{Judge, Mention, Tell};
+use wast_module_fields::{Expression, Instruction, Local};
 use wast_names::Namespace;
 use wast_parser::{Error, Id, Index};
+use wast_signatures::{FunctionType, Param, TypeUse};
 
 /// Tests all that is mentioned in a constant expression.
 ///

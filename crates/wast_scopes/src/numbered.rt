@@ -2,15 +2,15 @@
 ghost use Rattle.std.specs.Prelude.{◌≡◌, map, IfOk};
 ghost use Rattle.std.specs.Cmp.Lexicographic.{pointwise};
 ghost use Rattle.wast_value_types.specs.ValueViews.{heap_word, heap_tree, val_tree};
-ghost use Rattle.wast_core_types.specs.TypeViews.{param_tree, sig_tree};
+ghost use Rattle.wast_signatures.specs.SignatureViews.{param_tree, sig_tree};
 ghost use Rattle.wast_names.specs.Views.{space};
 ghost use Rattle.wast_meaning.specs.Implied.{word_code};
 ghost use Rattle.wast_scopes.specs.Numbered.{numbered_heap, numbered_sig, numbered_value, same_numbered_sig, same_numbered_value};
 ghost use Rattle.wast_scopes.specs.NumberedViews.{sig_of_numbered, value_of_numbered};
 
 use std::alloc::{AllocError, Global};
-use wast_core_types::{FunctionType, Param};
 use wast_names::Namespace;
+use wast_signatures::{FunctionType, Param};
 use wast_value_types::{AbstractHeapType, HeapType, ValType};
 
 /// A value type. An abstract heap type is there as its byte in a binary, or a number of its own where it has none; an index as the

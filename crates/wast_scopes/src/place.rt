@@ -5,7 +5,7 @@ ghost use Rattle.wasm_encoder_base.specs.Table as table;
 ghost use Rattle.wast_grammar.specs.Tokens.{Name};
 ghost use Rattle.wast_parser.specs.Identifiers.{ByName, identifier_tree, index_tree};
 ghost use Rattle.wast_parser.specs.Reading.{out_of_memory};
-ghost use Rattle.wast_core_types.specs.TypeViews.{sig_tree, use_tree};
+ghost use Rattle.wast_signatures.specs.SignatureViews.{sig_tree, use_tree};
 ghost use Rattle.wast_names.specs.Demand.{Answers, Demand, LabelMismatch, TypeMismatch, is_met, told};
 ghost use Rattle.wast_meaning.specs.Demands.{place_of};
 ghost use Rattle.wast_meaning.specs.Mentions.{use_mentions};
@@ -17,11 +17,11 @@ ghost use Rattle.wast_scopes.specs.Views.{Refused, known, known_here, refused_an
 use crate::labels::Labels;
 use crate::scope::Scope;
 use std::alloc::Global;
-use wast_core_types::{FunctionType, TypeUse};
 use wast_meaning::Space;
 use wast_mentions::{Judge, Judgement, Mention, Tell};
 use wast_names::resolve_error;
 use wast_parser::{Error, Id, Index, Span};
+use wast_signatures::{FunctionType, TypeUse};
 
 /// A place: what is known outside blocks, and the labels of the blocks that are open. As a judge it tests whether names mean something,
 /// type uses agree with the types that they name, and a name that is repeated is that of the innermost block.

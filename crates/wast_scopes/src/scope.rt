@@ -2,7 +2,7 @@
 ghost use Rattle.std.specs.Prelude.{◌≡◌, option_map};
 ghost use Rattle.wasm_encoder_base.specs.Table as table;
 ghost use Rattle.wast_parser.specs.Identifiers.{identifier_tree, index_tree};
-ghost use Rattle.wast_core_types.specs.TypeViews.{sig_tree};
+ghost use Rattle.wast_signatures.specs.SignatureViews.{sig_tree};
 ghost use Rattle.wast_names.specs.Space.{empty};
 ghost use Rattle.wast_names.specs.Views.{space};
 ghost use Rattle.wast_meaning.specs.Views.{space_view};
@@ -14,10 +14,10 @@ ghost use Rattle.wast_scopes.specs.Views.{known};
 use crate::numbered::NumberedSignature;
 use crate::signatures::Signatures;
 use std::alloc::Global;
-use wast_core_types::FunctionType;
 use wast_meaning::Space;
 use wast_names::Namespace;
 use wast_parser::{Id, Index};
+use wast_signatures::FunctionType;
 use wast_spaces::Spaces;
 
 /// What is known outside blocks: the index spaces of a module, its function types, and the locals of a function (6.1.3).

@@ -2,8 +2,9 @@
 ghost use Rattle.std.specs.Prelude.{◌≡◌, ◌++◌, true, [], ◌∷◌, List, Option, Some, None, map, IfOk, OnOk, option_map};
 ghost use Rattle.std.specs.List.{flat_map};
 ghost use Rattle.wasm_encoder_base.specs.Table as table;
-ghost use Rattle.wast_core_types.specs.TypeViews.{item_tree, sig_tree};
-ghost use Rattle.wast_core.specs.ModuleViews.{field_tree};
+ghost use Rattle.wast_signatures.specs.SignatureViews.{sig_tree};
+ghost use Rattle.wast_core_types.specs.TypeViews.{item_tree};
+ghost use Rattle.wast_module_fields.specs.ModuleFieldViews.{field_tree};
 ghost use Rattle.wast_meaning.specs.Implied.{func_sig, written_types};
 ghost use Rattle.wast_names.specs.Views.{space};
 ghost use Rattle.wast_spaces.specs.Views.{spaces_of};
@@ -14,11 +15,12 @@ ghost use Rattle.wast_scopes.specs.Signatures.{Adds, func_type, sig_in, signatur
 
 use crate::numbered::NumberedSignature;
 use std::alloc::{AllocError, Global};
-use wast_core::ModuleField;
-use wast_core_types::{FunctionType, InnerTypeKind, TypeItem};
+use wast_core_types::{InnerTypeKind, TypeItem};
 use wast_implied::{Implied, ImpliedType};
 use wast_meaning::Space;
+use wast_module_fields::ModuleField;
 use wast_names::Namespace;
+use wast_signatures::FunctionType;
 use wast_spaces::Spaces;
 
 /// The function types of a module by number, written and implied, in which each index is the number that it means (6.6.3).

@@ -22,8 +22,8 @@ use Rattle.wasm_encoder_sections.specs.Writes.{Writes}
 use Rattle.wasm_layout.specs.AbstractModule as abstract
 use Rattle.wast_core_instr.specs.InstructionViews.{instruction_tree}
 use Rattle.wast_core_instr.specs.declared.instruction.Instruction as tree
-use Rattle.wast_fields.specs.FieldViews.{local_tree}
-use Rattle.wast_fields.specs.declared.local.Local.{Local}
+use Rattle.wast_fields.specs.FuncViews.{local_tree}
+use Rattle.wast_fields.specs.Local.{Local}
 use Rattle.wast_conversions.specs.Types.{val_meant}
 use Rattle.wast_conversions.specs.Instructions.{instr_meant, instrs_meant}
 use Rattle.wast_conversions.specs.Rows.{bytes_meant, FitsMeant}

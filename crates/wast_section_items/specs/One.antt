@@ -1,27 +1,28 @@
 -- What stands in a section stands for one item of it.
 use Rattle.std.specs.Prelude.{◌≡◌, List, [], ◌∷◌, refl}
-use Rattle.wast_core_types.specs.declared.signature.FunctionType.{FunctionType}
-use Rattle.wast_core_types.specs.declared.type_use.TypeUse.{TypeUse}
+use Rattle.wast_signatures.specs.declared.signature.FunctionType.{FunctionType}
+use Rattle.wast_signatures.specs.declared.type_use.TypeUse.{TypeUse}
 use Rattle.wast_value_types.specs.declared.global_type.GlobalType.{GlobalType}
 use Rattle.wast_imports.specs.declared.item.TagType.{TagType}
 use Rattle.wast_fields.specs.ElemViews.{defined_table, table_definition}
 use Rattle.wast_fields.specs.FieldTree.{Define}
-use Rattle.wast_fields.specs.FieldViews.{defined_func, defined_global, defined_memory, defined_tag, func_definition, global_definition, memory_definition, tag_definition}
-use Rattle.wast_fields.specs.declared.func.Func.{Func}
-use Rattle.wast_fields.specs.declared.func.FuncKind.{FuncKind}
-use Rattle.wast_fields.specs.declared.func.FuncKind.TheVariants as funcs
-use Rattle.wast_fields.specs.declared.table.Table.{Table}
-use Rattle.wast_fields.specs.declared.table.TableKind.{TableKind}
-use Rattle.wast_fields.specs.declared.table.TableKind.TheVariants as tables
-use Rattle.wast_fields.specs.declared.memory.Memory.{Memory}
-use Rattle.wast_fields.specs.declared.memory.MemoryKind.{MemoryKind}
-use Rattle.wast_fields.specs.declared.memory.MemoryKind.TheVariants as memories
-use Rattle.wast_fields.specs.declared.global.Global.{Global}
-use Rattle.wast_fields.specs.declared.global.GlobalKind.{GlobalKind}
-use Rattle.wast_fields.specs.declared.global.GlobalKind.TheVariants as globals
-use Rattle.wast_fields.specs.declared.tag.Tag.{Tag}
-use Rattle.wast_fields.specs.declared.tag.TagKind.{TagKind}
-use Rattle.wast_fields.specs.declared.tag.TagKind.TheVariants as tags
+use Rattle.wast_fields.specs.FuncViews.{defined_func, defined_global, defined_tag, func_definition, global_definition, tag_definition}
+use Rattle.wast_fields.specs.MemoryViews.{defined_memory, memory_definition}
+use Rattle.wast_fields.specs.Func.{Func}
+use Rattle.wast_fields.specs.FuncKind.{FuncKind}
+use Rattle.wast_fields.specs.FuncKind.TheVariants as funcs
+use Rattle.wast_fields.specs.Table.{Table}
+use Rattle.wast_fields.specs.TableKind.{TableKind}
+use Rattle.wast_fields.specs.TableKind.TheVariants as tables
+use Rattle.wast_fields.specs.Memory.{Memory}
+use Rattle.wast_fields.specs.MemoryKind.{MemoryKind}
+use Rattle.wast_fields.specs.MemoryKind.TheVariants as memories
+use Rattle.wast_fields.specs.Global.{Global}
+use Rattle.wast_fields.specs.GlobalKind.{GlobalKind}
+use Rattle.wast_fields.specs.GlobalKind.TheVariants as globals
+use Rattle.wast_fields.specs.Tag.{Tag}
+use Rattle.wast_fields.specs.TagKind.{TagKind}
+use Rattle.wast_fields.specs.TagKind.TheVariants as tags
 use Rattle.wast_meant.specs.FieldsMeant.{functions_of, globals_of, memories_of, tables_of, tags_of}
 use Rattle.wast_section_items.specs.Ready.{DefinedReady, FieldReady}
 

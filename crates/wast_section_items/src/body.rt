@@ -14,7 +14,7 @@ ghost use Rattle.wasm_layout.specs.AbstractModule as abstract;
 ghost use Rattle.wast_core_instr.specs.ExpressionViews.{expression_tree};
 ghost use Rattle.wast_core_instr.specs.InstructionViews.{instruction_operands, instruction_tree};
 ghost use Rattle.wast_fields.specs.FieldTree.{Define};
-ghost use Rattle.wast_fields.specs.FieldViews.{local_tree, func_definition};
+ghost use Rattle.wast_fields.specs.FuncViews.{local_tree, func_definition};
 ghost use Rattle.wast_conversions.specs.Types.{val_meant};
 ghost use Rattle.wast_conversions.specs.Instructions.{instr_meant, instrs_meant};
 ghost use Rattle.wast_conversions.specs.Operands.{OperandsAligned};

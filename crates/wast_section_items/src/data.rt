@@ -9,7 +9,7 @@ ghost use Rattle.wast_parser.specs.Identifiers.{index_tree};
 ghost use Rattle.wast_core_instr.specs.ExpressionViews.{expression_tree};
 ghost use Rattle.wast_data.specs.DataViews.{value_tree};
 ghost use Rattle.wast_fields.specs.FieldTree.{DataField};
-ghost use Rattle.wast_fields.specs.FieldViews.{mode_tree, data_tree};
+ghost use Rattle.wast_fields.specs.MemoryViews.{mode_tree, data_tree};
 ghost use Rattle.wast_conversions.specs.Operands.{optional_meant};
 ghost use Rattle.wast_conversions.specs.Resolved.{IfThere, IsNumber};
 ghost use Rattle.wast_meant.specs.Covered.{data_forms, data_mode_forms, expr_forms};

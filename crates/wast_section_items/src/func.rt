@@ -2,7 +2,7 @@
 ghost use Rattle.std.specs.Prelude.{map};
 ghost use Rattle.wasm_encoder_base.specs.Leb.{uleb};
 ghost use Rattle.wast_fields.specs.FieldTree.{Define};
-ghost use Rattle.wast_fields.specs.FieldViews.{func_definition};
+ghost use Rattle.wast_fields.specs.FuncViews.{func_definition};
 ghost use Rattle.wast_meant.specs.FieldsMeant.{functions_of};
 ghost use Rattle.wast_section_items.specs.Fits.{NoCounts};
 ghost use Rattle.wast_section_items.specs.One.{one_func};

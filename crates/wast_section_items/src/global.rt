@@ -7,7 +7,7 @@ ghost use Rattle.wasm_layout.specs.IsModule.{IsGlobal};
 ghost use Rattle.wast_value_types.specs.ValueViews.{global_tree};
 ghost use Rattle.wast_core_instr.specs.ExpressionViews.{expression_tree};
 ghost use Rattle.wast_fields.specs.FieldTree.{Define};
-ghost use Rattle.wast_fields.specs.FieldViews.{global_definition};
+ghost use Rattle.wast_fields.specs.FuncViews.{global_definition};
 ghost use Rattle.wast_conversions.specs.Types.{global_meant};
 ghost use Rattle.wast_conversions.specs.Resolved.{ValResolved};
 ghost use Rattle.wast_conversions.specs.Covered.{global_forms};

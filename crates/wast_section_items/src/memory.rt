@@ -2,7 +2,7 @@
 ghost use Rattle.wasm_encoder_items.specs.EntityTypes.{Limits, limits_bytes};
 ghost use Rattle.wasm_layout.specs.IsModule.{IsLimits};
 ghost use Rattle.wast_fields.specs.FieldTree.{Define};
-ghost use Rattle.wast_fields.specs.FieldViews.{memory_definition};
+ghost use Rattle.wast_fields.specs.MemoryViews.{memory_definition};
 ghost use Rattle.wast_meant.specs.FieldsMeant.{memories_of};
 ghost use Rattle.wast_section_items.specs.Fits.{NoCounts};
 ghost use Rattle.wast_section_items.specs.One.{one_memory};

@@ -4,7 +4,7 @@ ghost use Rattle.wasm_encoder_items.specs.EntityTypes.{tag_bytes};
 ghost use Rattle.wasm_layout.specs.IsModule.{IsU32};
 ghost use Rattle.wast_imports.specs.ImportViews.{tag_tree};
 ghost use Rattle.wast_fields.specs.FieldTree.{Define};
-ghost use Rattle.wast_fields.specs.FieldViews.{tag_definition};
+ghost use Rattle.wast_fields.specs.FuncViews.{tag_definition};
 ghost use Rattle.wast_conversions.specs.Types.{use_meant};
 ghost use Rattle.wast_conversions.specs.Resolved.{UseResolved};
 ghost use Rattle.wast_meant.specs.FieldsMeant.{tags_of};

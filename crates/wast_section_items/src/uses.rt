@@ -3,15 +3,15 @@ ghost use Rattle.std.specs.Prelude.{◌≡◌, All, IfOk, OnOk, map, option_map}
 ghost use Rattle.std.specs.List.{AllByRecursion};
 ghost use Rattle.wasm_layout.specs.IsModule.{IsU32};
 ghost use Rattle.wast_parser.specs.Identifiers.{index_tree};
-ghost use Rattle.wast_core_types.specs.TypeViews.{use_tree};
+ghost use Rattle.wast_signatures.specs.SignatureViews.{use_tree};
 ghost use Rattle.wast_conversions.specs.Types.{number_of, use_meant};
 ghost use Rattle.wast_conversions.specs.Operands.{optional_meant};
 ghost use Rattle.wast_conversions.specs.Resolved.{IfThere, IsNumber, UseResolved};
 
 use std::alloc::{AllocError, Global};
 use wast_conversions::index;
-use wast_core_types::{FunctionType, TypeUse};
 use wast_parser::Index;
+use wast_signatures::{FunctionType, TypeUse};
 
 /// The number of the type of a use (6.6.3).
 pub(crate) fn type_index(ty: &TypeUse<'_, FunctionType<'_>>) -> u32

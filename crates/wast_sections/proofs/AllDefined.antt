@@ -4,7 +4,7 @@ use Rattle.std.specs.Prelude.{Result, Ok, Err}
 use Rattle.std.specs.List.{flat_map}
 use Rattle.wasm_encoder_base.specs.EncodeError.{EncodeError}
 use Rattle.wasm_encoder_base.specs.Lists.{Listed}
-use Rattle.wast_fields.specs.FieldTree.{Defined, Field, Define}
+use Rattle.wast_module_fields.specs.FieldTree.{Defined, Field, Define}
 use Rattle.wast_meant.specs.FieldsMeant.{defined_in}
 use Rattle.wast_sections.specs.Holds.{Holds, map_ok}
 use Rattle.wast_sections.specs.Parts.{items_defined}

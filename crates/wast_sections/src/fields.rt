@@ -3,15 +3,15 @@ ghost use Rattle.std.specs.Prelude.{◌≡◌, ℕ, List, All, map};
 ghost use Rattle.std.specs.List.{flat_map};
 ghost use Rattle.wasm_encoder_base.specs.Lists.{Listed, no_items};
 ghost use Rattle.wast_grammar.specs.Tokens.{Name};
-ghost use Rattle.wast_fields.specs.FieldTree.{Field};
-ghost use Rattle.wast_core.specs.ModuleViews.{field_tree};
+ghost use Rattle.wast_module_fields.specs.FieldTree.{Field};
+ghost use Rattle.wast_module_fields.specs.ModuleFieldViews.{field_tree};
 ghost use Rattle.wast_section_items.specs.Appends.{Appends};
 ghost use Rattle.wast_section_items.specs.Ready.{FieldReady};
 ghost use Rattle.wast_sections.specs.Holds.{Holds, map_ok};
 
 use std::alloc::Global;
 use wasm_encoder_base::EncodeError;
-use wast_core::ModuleField;
+use wast_module_fields::ModuleField;
 
 /// What fields have in a section.
 pub(crate) trait FieldItems {

@@ -13,7 +13,7 @@ ghost use Rattle.wasm_encoder_items.specs.TypeEntries.{TypeEntry, entry_bytes};
 ghost use Rattle.wasm_encoder_sections.specs.Codes.{function_item};
 ghost use Rattle.wasm_layout.specs.AbstractModule as abstract;
 ghost use Rattle.wasm_layout.specs.IsModule.{IfThere, IsEntry, IsImport, IsTable, IsGlobal, IsExport, IsElement, IsData, IsLimits, IsU32};
-ghost use Rattle.wast_core.specs.ModuleViews.{field_tree};
+ghost use Rattle.wast_module_fields.specs.ModuleFieldViews.{field_tree};
 ghost use Rattle.wast_meant.specs.FieldsMeant.{types_of, imports_of, defined_in, functions_of, tables_of, memories_of, tags_of, globals_of, exports_of, starts_of, elements_of, datas_of};
 ghost use Rattle.wast_section_items.specs.Fits.{EntryFits, ImportsFit, ExportFits, TableFits, GlobalFits, ElementFits, DataFits, BodyFits, NoCounts};
 ghost use Rattle.wast_section_items.specs.Ready.{FieldReady};
@@ -29,7 +29,7 @@ use wasm_encoder_sections::{
     ImportSection, MemorySection, StartSection, TableSection, TagSection, TypeSection,
 };
 use wast_conversions::index;
-use wast_core::ModuleField;
+use wast_module_fields::ModuleField;
 use wast_section_items::{FuncBody, SectionItem};
 
 /// The section of types, and groups of them (6.4.7). Refused for want of memory, and as too large where their count, or a count or length

@@ -6,34 +6,36 @@ use Rattle.wasm_encoder_base.specs.Table as table
 use Rattle.wast_grammar.specs.Tokens.{Name}
 use Rattle.wast_parser.specs.Identifiers.{identifier_tree}
 use Rattle.wast_value_types.specs.declared.global_type.GlobalType.{GlobalType}
-use Rattle.wast_core_types.specs.TypeViews.{item_tree, name_tree, struct_field_tree}
-use Rattle.wast_core_types.specs.declared.composite.StructField.{StructField}
-use Rattle.wast_core_types.specs.declared.signature.FunctionType.{FunctionType}
-use Rattle.wast_core_types.specs.declared.type_use.TypeUse.{TypeUse}
+use Rattle.wast_signatures.specs.SignatureViews.{name_tree, struct_field_tree}
+use Rattle.wast_core_types.specs.TypeViews.{item_tree}
+use Rattle.wast_signatures.specs.declared.struct_field.StructField.{StructField}
+use Rattle.wast_signatures.specs.declared.signature.FunctionType.{FunctionType}
+use Rattle.wast_signatures.specs.declared.type_use.TypeUse.{TypeUse}
 use Rattle.wast_core_types.specs.declared.definition.TypeItem.{TypeItem}
 use Rattle.wast_imports.specs.ImportViews.{item_tree as imported_tree}
 use Rattle.wast_imports.specs.declared.item.TagType.{TagType}
 use Rattle.wast_imports.specs.declared.item.ItemSig.{ItemSig}
 use Rattle.wast_imports.specs.declared.import.ImportGroup1Item.{ImportGroup1Item}
 use Rattle.wast_imports.specs.declared.import.ImportGroup2Item.{ImportGroup2Item}
-use Rattle.wast_fields.specs.FieldTree as spec
-use Rattle.wast_fields.specs.ElemViews.{defined_table, table_definition}
-use Rattle.wast_fields.specs.FieldViews.{defined_func, defined_global, defined_memory, defined_tag, func_definition, func_type_tree, global_definition, memory_definition, tag_definition}
-use Rattle.wast_fields.specs.declared.func.Func.{Func}
-use Rattle.wast_fields.specs.declared.func.FuncKind.{FuncKind}
-use Rattle.wast_fields.specs.declared.func.FuncKind.TheVariants as funcs
-use Rattle.wast_fields.specs.declared.global.Global.{Global}
-use Rattle.wast_fields.specs.declared.global.GlobalKind.{GlobalKind}
-use Rattle.wast_fields.specs.declared.global.GlobalKind.TheVariants as globals
-use Rattle.wast_fields.specs.declared.tag.Tag.{Tag}
-use Rattle.wast_fields.specs.declared.tag.TagKind.{TagKind}
-use Rattle.wast_fields.specs.declared.tag.TagKind.TheVariants as tags
-use Rattle.wast_fields.specs.declared.table.Table.{Table}
-use Rattle.wast_fields.specs.declared.table.TableKind.{TableKind}
-use Rattle.wast_fields.specs.declared.table.TableKind.TheVariants as tables
-use Rattle.wast_fields.specs.declared.memory.Memory.{Memory}
-use Rattle.wast_fields.specs.declared.memory.MemoryKind.{MemoryKind}
-use Rattle.wast_fields.specs.declared.memory.MemoryKind.TheVariants as memories
+use Rattle.wast_module_fields.specs.FieldTree as spec
+use Rattle.wast_module_fields.specs.ElemViews.{defined_table, table_definition}
+use Rattle.wast_module_fields.specs.FuncViews.{defined_func, defined_global, defined_tag, func_definition, func_type_tree, global_definition, tag_definition}
+use Rattle.wast_module_fields.specs.MemoryViews.{defined_memory, memory_definition}
+use Rattle.wast_module_fields.specs.Func.{Func}
+use Rattle.wast_module_fields.specs.FuncKind.{FuncKind}
+use Rattle.wast_module_fields.specs.FuncKind.TheVariants as funcs
+use Rattle.wast_module_fields.specs.Global.{Global}
+use Rattle.wast_module_fields.specs.GlobalKind.{GlobalKind}
+use Rattle.wast_module_fields.specs.GlobalKind.TheVariants as globals
+use Rattle.wast_module_fields.specs.Tag.{Tag}
+use Rattle.wast_module_fields.specs.TagKind.{TagKind}
+use Rattle.wast_module_fields.specs.TagKind.TheVariants as tags
+use Rattle.wast_module_fields.specs.Table.{Table}
+use Rattle.wast_module_fields.specs.TableKind.{TableKind}
+use Rattle.wast_module_fields.specs.TableKind.TheVariants as tables
+use Rattle.wast_module_fields.specs.Memory.{Memory}
+use Rattle.wast_module_fields.specs.MemoryKind.{MemoryKind}
+use Rattle.wast_module_fields.specs.MemoryKind.TheVariants as memories
 use Rattle.wast_meaning.specs.Spaces.{Bound, bound, bound_import, bound_segment, bound_type, items}
 use Rattle.wast_meaning.specs.Written.{kind_of, kind_of_type, space_of_kind}
 

@@ -3,14 +3,16 @@
 ghost use Rattle.std.specs.Prelude.{◌≡◌, ◌⊎◌, true, false, is_some, OnErr, map, option_map};
 ghost use Rattle.std.specs.Option.{option_or};
 ghost use Rattle.wast_parser.specs.Reading.{out_of_memory};
-ghost use Rattle.wast_core.specs.ModuleViews.{field_tree};
+ghost use Rattle.wast_module_fields.specs.ModuleFieldViews.{field_tree};
 ghost use Rattle.wast_names.specs.Demand.{Answers, ImportAfter, is_met, told};
 ghost use Rattle.wast_names.specs.Walk.{first_unmet};
 ghost use Rattle.wast_meaning.specs.Demands.{definition_word, import_place, nearest, order_demand, order_demands};
 ghost use Rattle.wast_spaces.specs.Views.{space_of};
 
 use std::alloc::Global;
-use wast_core::{ExportKind, FuncKind, GlobalKind, MemoryKind, ModuleField, TableKind, TagKind};
+use wast_module_fields::{
+    ExportKind, FuncKind, GlobalKind, MemoryKind, ModuleField, TableKind, TagKind,
+};
 use wast_parser::{Error, Span};
 
 /// Refuses the first import behind a definition of a function, table, memory, global or tag: by `import after function`, where the

@@ -8,10 +8,10 @@ ghost use Rattle.wast_parser.specs.Identifiers.{identifier_tree};
 ghost use Rattle.wast_core_types.specs.TypeViews.{inner_tree, item_tree};
 ghost use Rattle.wast_imports.specs.ImportViews.{extern_tree, items_tree, member_name_tree, member_tree};
 ghost use Rattle.wast_imports.specs.ImportViews.{item_tree as imported_tree};
-ghost use Rattle.wast_fields.specs.FieldTree.{Define};
-ghost use Rattle.wast_fields.specs.ElemViews.{table_definition};
-ghost use Rattle.wast_fields.specs.FieldViews.{memory_definition};
-ghost use Rattle.wast_core.specs.ModuleViews.{field_tree};
+ghost use Rattle.wast_module_fields.specs.FieldTree.{Define};
+ghost use Rattle.wast_module_fields.specs.ElemViews.{table_definition};
+ghost use Rattle.wast_module_fields.specs.MemoryViews.{memory_definition};
+ghost use Rattle.wast_module_fields.specs.ModuleFieldViews.{field_tree};
 ghost use Rattle.wast_names.specs.Demand.{Answers};
 ghost use Rattle.wast_names.specs.Space as names;
 ghost use Rattle.wast_names.specs.Views.{space};
@@ -23,14 +23,15 @@ ghost use Rattle.wast_spaces.specs.Joins.{Joins, spaces_behind, type_fields};
 ghost use Rattle.wast_spaces.specs.Views.{fields_of_types, kind_space, spaces_of};
 
 use std::alloc::{AllocError, Global};
-use wast_core::{
+use wast_core_types::InnerTypeKind;
+use wast_meaning::Space;
+use wast_module_fields::{
     ImportGroup1Item, ImportGroup2Item, ImportItems, Imports, ItemKind, ItemSig, Memory,
     MemoryKind, ModuleField, Table, TableKind, TypeItem,
 };
-use wast_core_types::{InnerTypeKind, StructField};
-use wast_meaning::Space;
 use wast_names::Namespace;
 use wast_parser::{Error, Id};
+use wast_signatures::StructField;
 
 /// The index spaces of a module (6.1.3), with the names of their items, and those of the fields of each type.
 #[derive(Drop)]

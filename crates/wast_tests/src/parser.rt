@@ -2,19 +2,11 @@
 
 ghost use Rattle.wast_parser.specs.State.{Keeps};
 
+use crate::text::failed;
 use std::alloc::Global;
 use std::process::Abort;
 use std::test::Fail;
 use wast_parser::{Error, Id, LParen, ParseBuffer, Parser, RParen, parse};
-
-/// How a test ends where a call is refused: it fails by its result.
-fn failed(error: Error) -> Fail {
-    if error.is_memory() {
-        "out of memory".into()
-    } else {
-        "refused".into()
-    }
-}
 
 #[test]
 fn ample_name_and_text(rt: HostRuntime) -> Result<(), Fail> {
@@ -141,6 +133,7 @@ fn looked(rt: &impl Abort, parser: &Parser<'_>) -> Error {
     assert!(rt; matches!(lookahead.peek::<LParen>(), Ok(false)));
     assert!(rt; matches!(lookahead.peek::<RParen>(), Ok(true)));
     assert!(rt; matches!(lookahead.peek::<Id>(), Ok(false)));
+    assert!(rt; parser.closes() && !parser.opens());
     lookahead.error()
 }
 
@@ -168,6 +161,7 @@ fn registers(rt: &impl Abort, parser: &mut Parser<'_>) -> Result<(), Fail> {
     match parser.register_annotation("a") {
         Ok(()) => {
             assert!(rt; matches!(parser.peek::<LParen>(), Ok(true)));
+            assert!(rt; parser.opens() && !parser.opens_group() && !parser.closes());
             Ok(())
         }
         Err(error) => {

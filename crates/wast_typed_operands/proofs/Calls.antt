@@ -1,16 +1,16 @@
 -- What an indirect call reads: a type use, and an index behind it where any of it is written.
 use Rattle.std.proofs.Common.{◌≡◌, Bool, true, false, List, [], Option, Some, None, refl, sym, ◌∙◌, ap, cond}
 use Rattle.std.specs.Prelude.{codes}
-use Rattle.wast_parser.specs.Tokens.{SignificantToken}
-use Rattle.wast_parser.specs.Spelling.{◌>>=◌}
-use Rattle.wast_parser.specs.Look.{this_group, look, fits, at, ask, faults}
-use Rattle.wast_parser.specs.Grammar.{Reader, group, maybe, seq_reads, map_reads, only_reads, maybe_reads, either_reads}
-use Rattle.wast_parser.specs.Identifiers.{Reference, index}
-use Rattle.wast_grammar.proofs.Looks.{some_one}
-use Rattle.wast_value_types.specs.ValueSyntax.{index_starts}
-use Rattle.wast_core_types.specs.TypeTree.{TypeUse, Sig}
-use Rattle.wast_core_types.specs.TypeSyntax.{type_starts, sig_starts, as_use, as_bare, bare_param, bare_sig, bare_use, result, index_of}
-use Rattle.wast_core_types.proofs.Uses.{inline_looked}
+use Rattle.wast_signatures.specs.Tokens.{SignificantToken}
+use Rattle.wast_signatures.specs.Spelling.{◌>>=◌}
+use Rattle.wast_signatures.specs.Look.{this_group, look, fits, at, ask, faults}
+use Rattle.wast_signatures.specs.Grammar.{Reader, group, maybe, seq_reads, map_reads, only_reads, maybe_reads, either_reads}
+use Rattle.wast_signatures.specs.Identifiers.{Reference, index}
+use Rattle.wast_signatures.proofs.Looks.{some_one}
+use Rattle.wast_signatures.specs.ValueSyntax.{index_starts}
+use Rattle.wast_signatures.specs.TypeTree.{TypeUse, Sig}
+use Rattle.wast_signatures.specs.TypeSyntax.{type_starts, sig_starts, as_use, as_bare, bare_param, bare_sig, bare_use, result, index_of}
+use Rattle.wast_signatures.proofs.Uses.{inline_looked}
 use Rattle.wast_typed_operands.specs.TypedTree.{Indirect}
 use Rattle.wast_typed_operands.specs.UseThenTable.{use_then_table}
 use Rattle.wast_typed_operands.specs.TypedSyntax.{is_written, use_starts, use_first, table_last, no_use}

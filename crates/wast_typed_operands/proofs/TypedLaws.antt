@@ -1,20 +1,20 @@
 -- The laws of the syntax of operands in which types stand: each mirrors its production.
 use Rattle.std.specs.Prelude.{codes}
-use Rattle.wast_parser.specs.Tokens.{SignificantToken, Id}
+use Rattle.wast_signatures.specs.Tokens.{SignificantToken, Id}
 use Rattle.std.proofs.Common.{◌≡◌, refl, ap, subst, List, [], ◌∷◌, ℕ, Some, None, inl, inr, false}
-use Rattle.wast_parser.specs.Lawful.{Settles, Leads}
-use Rattle.wast_parser.specs.Grammar.{Syntax, wide, seq, only, maybe, many, group}
-use Rattle.wast_parser.specs.Identifiers.{Reference, ByName, identifier, index}
-use Rattle.wast_parser.specs.Look.{this_group}
-use Rattle.wast_parser.proofs.GrammarLaws.{Lawful, nothing_laws, seen_laws, only_laws, seq_laws, maybe_laws, many_laws, either_laws, group_laws, many_settles, seq_settles, seen_settles, one_value}
-use Rattle.wast_parser.proofs.LeadLaws.{seen_leads, either_leads, group_leads}
-use Rattle.wast_grammar.proofs.Looks.{absurd_of}
-use Rattle.wast_parser.proofs.IdentifierLaws.{identifier_laws, index_laws}
-use Rattle.wast_value_types.specs.ValueSyntax.{index_starts, ref_type}
-use Rattle.wast_value_types.proofs.ValueLaws.{ref_type_laws}
-use Rattle.wast_core_types.specs.TypeTree.{TypeUse}
-use Rattle.wast_core_types.specs.TypeSyntax.{id_starts, result, bare_use}
-use Rattle.wast_core_types.proofs.TypeLaws.{result_laws, bare_use_laws}
+use Rattle.wast_signatures.specs.Lawful.{Settles, Leads}
+use Rattle.wast_signatures.specs.Grammar.{Syntax, wide, seq, only, maybe, many, group}
+use Rattle.wast_signatures.specs.Identifiers.{Reference, ByName, identifier, index}
+use Rattle.wast_signatures.specs.Look.{this_group}
+use Rattle.wast_signatures.proofs.GrammarLaws.{Lawful, nothing_laws, seen_laws, only_laws, seq_laws, maybe_laws, many_laws, either_laws, group_laws, many_settles, seq_settles, seen_settles, one_value}
+use Rattle.wast_signatures.proofs.LeadLaws.{seen_leads, either_leads, group_leads}
+use Rattle.wast_signatures.proofs.Looks.{absurd_of}
+use Rattle.wast_signatures.proofs.IdentifierLaws.{identifier_laws, index_laws}
+use Rattle.wast_signatures.specs.ValueSyntax.{index_starts, ref_type}
+use Rattle.wast_signatures.proofs.ValueLaws.{ref_type_laws}
+use Rattle.wast_signatures.specs.TypeTree.{TypeUse}
+use Rattle.wast_signatures.specs.TypeSyntax.{id_starts, result, bare_use}
+use Rattle.wast_signatures.proofs.SignatureLaws.{result_laws, bare_use_laws}
 use Rattle.wast_typed_operands.specs.TypedSyntax.{catch_starts, use_starts, result_starts, is_written, as_block, block, tag_label, clause, as_try_table, try_table, no_use, written_use, table_first, table_last, use_first, indirect, select_types, types_of, cast, as_cast}
 
 -- What no token spells is not nothing.

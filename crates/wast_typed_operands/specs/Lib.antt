@@ -2,3 +2,16 @@ pub mod TypedSyntax
 pub mod TypedTree
 pub mod TypedViews
 pub mod UseThenTable
+pub use Rattle.wast_signatures.specs.Tokens
+pub use Rattle.wast_signatures.specs.Problem
+pub use Rattle.wast_signatures.specs.Cursors
+pub use Rattle.wast_signatures.specs.Grammar
+pub use Rattle.wast_signatures.specs.Identifiers
+pub use Rattle.wast_signatures.specs.Lawful
+pub use Rattle.wast_signatures.specs.Look
+pub use Rattle.wast_signatures.specs.Reading
+pub use Rattle.wast_signatures.specs.Spelling
+pub use Rattle.wast_signatures.specs.State
+pub use Rattle.wast_signatures.specs.ValueSyntax
+pub use Rattle.wast_signatures.specs.ValueTree
+pub use Rattle.wast_signatures.specs.ValueViews

@@ -1,8 +1,8 @@
 -- Operands in which types stand, as they are written (WebAssembly 3.0, 6.5), over names of type N and places of type P.
 use Rattle.std.specs.Prelude.{List, Option}
-use Rattle.wast_parser.specs.Identifiers.{Named, Reference}
-use Rattle.wast_value_types.specs.ValueTree.{RefType}
-use Rattle.wast_core_types.specs.TypeTree.{TypeUse}
+use Rattle.wast_signatures.specs.Identifiers.{Named, Reference}
+use Rattle.wast_signatures.specs.ValueTree.{RefType}
+use Rattle.wast_signatures.specs.TypeTree.{TypeUse}
 
 -- the label of a block, where it has one, and its type (6.5.2)
 pub record Block (N P : Type 0) : Type 0 where

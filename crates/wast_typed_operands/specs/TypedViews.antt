@@ -1,12 +1,12 @@
 -- What the grammar sees of the code's operands.
 use Rattle.std.specs.Prelude.{ℕ, List, Option, Some, None, map, option_map}
-use Rattle.wast_grammar.specs.Tokens.{Name}
-use Rattle.wast_parser.specs.declared.Index.{Index}
-use Rattle.wast_parser.specs.Identifiers.{Reference, identifier_tree, index_tree}
-use Rattle.wast_value_types.specs.ValueTree as values
-use Rattle.wast_value_types.specs.ValueViews.{ref_tree, val_tree}
-use Rattle.wast_core_types.specs.TypeViews.{use_tree}
-use Rattle.wast_value_types.specs.declared.RefType.{RefType}
+use Rattle.wast_signatures.specs.Tokens.{Name}
+use Rattle.wast_signatures.specs.declared.Index.{Index}
+use Rattle.wast_signatures.specs.Identifiers.{Reference, identifier_tree, index_tree}
+use Rattle.wast_signatures.specs.ValueTree as values
+use Rattle.wast_signatures.specs.ValueViews.{ref_tree, val_tree}
+use Rattle.wast_signatures.specs.SignatureViews.{use_tree}
+use Rattle.wast_signatures.specs.declared.RefType.{RefType}
 use Rattle.wast_typed_operands.specs.TypedTree as spec
 use Rattle.wast_typed_operands.specs.declared.block.BlockType.{BlockType}
 use Rattle.wast_typed_operands.specs.declared.block.TryTable.{TryTable}

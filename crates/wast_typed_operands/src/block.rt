@@ -1,18 +1,19 @@
 //! The types of blocks.
 ghost use Rattle.std.specs.Prelude.{◌≡◌, ℕ, List};
-ghost use Rattle.wast_grammar.specs.Tokens.{Name};
-ghost use Rattle.wast_parser.specs.Lawful.{Lawful};
-ghost use Rattle.wast_parser.specs.State.{ahead, Keeps};
-ghost use Rattle.wast_parser.specs.Reading.{Gives};
-ghost use Rattle.wast_core_types.specs.TypeSyntax.{bare_use};
+ghost use Rattle.wast_signatures.specs.Tokens.{Name};
+ghost use Rattle.wast_signatures.specs.Lawful.{Lawful};
+ghost use Rattle.wast_signatures.specs.State.{ahead, Keeps};
+ghost use Rattle.wast_signatures.specs.Reading.{Gives};
+ghost use Rattle.wast_signatures.specs.TypeSyntax.{bare_use};
 ghost use Rattle.wast_typed_operands.specs.TypedTree as spec;
 ghost use Rattle.wast_typed_operands.specs.TypedSyntax.{block, try_table};
-ghost use Rattle.wast_core_types.specs.TypeViews.{use_tree};
+ghost use Rattle.wast_signatures.specs.SignatureViews.{use_tree};
 ghost use Rattle.wast_typed_operands.specs.TypedViews.{block_tree, try_table_tree};
 
 use crate::catch::TryTableCatch;
-use wast_core_types::{FunctionType, FunctionTypeNoNames, TypeUse};
-use wast_parser::{Error, Id, Meaning, Parse, Parser, list_of};
+use wast_signatures::{
+    Error, FunctionType, FunctionTypeNoNames, Id, Meaning, Parse, Parser, TypeUse, list_of,
+};
 
 /// The label of a block, where it has one, and its type (6.5.2).
 #[derive(Drop)]

@@ -1,17 +1,16 @@
 //! Indirect calls.
 ghost use Rattle.std.specs.Prelude.{◌≡◌, ℕ, List};
-ghost use Rattle.wast_grammar.specs.Tokens.{Name};
-ghost use Rattle.wast_parser.specs.Lawful.{Lawful};
-ghost use Rattle.wast_parser.specs.State.{ahead, Keeps};
-ghost use Rattle.wast_parser.specs.Reading.{Gives};
+ghost use Rattle.wast_signatures.specs.Tokens.{Name};
+ghost use Rattle.wast_signatures.specs.Lawful.{Lawful};
+ghost use Rattle.wast_signatures.specs.State.{ahead, Keeps};
+ghost use Rattle.wast_signatures.specs.Reading.{Gives};
 ghost use Rattle.wast_typed_operands.specs.TypedTree as spec;
 ghost use Rattle.wast_typed_operands.specs.TypedSyntax.{use_first, indirect};
 ghost use Rattle.wast_typed_operands.specs.TypedViews.{indirect_tree};
 ghost use Rattle.wast_typed_operands.specs.UseThenTable.{use_then_table};
 
 use crate::block::parse_use;
-use wast_core_types::{FunctionType, TypeUse};
-use wast_parser::{Error, Index, Meaning, Parse, Parser};
+use wast_signatures::{Error, FunctionType, Index, Meaning, Parse, Parser, TypeUse};
 
 /// The table of an indirect call, absent table 0, and the type of what is called (6.5.2).
 #[derive(Drop)]

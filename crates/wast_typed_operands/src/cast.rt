@@ -1,21 +1,20 @@
 //! Reference types as operands, and branches on casts.
 ghost use Rattle.std.specs.Prelude.{◌≡◌, ℕ, List};
-ghost use Rattle.wast_grammar.specs.Tokens.{Name};
-ghost use Rattle.wast_parser.specs.Lawful.{Lawful};
-ghost use Rattle.wast_parser.specs.State.{ahead, Keeps};
-ghost use Rattle.wast_parser.specs.Reading.{Gives};
-ghost use Rattle.wast_value_types.specs.ValueSyntax.{ref_type};
-ghost use Rattle.wast_value_types.specs.ValueTree as values;
-ghost use Rattle.wast_value_types.specs.ValueViews.{ref_tree};
+ghost use Rattle.wast_signatures.specs.Tokens.{Name};
+ghost use Rattle.wast_signatures.specs.Lawful.{Lawful};
+ghost use Rattle.wast_signatures.specs.State.{ahead, Keeps};
+ghost use Rattle.wast_signatures.specs.Reading.{Gives};
+ghost use Rattle.wast_signatures.specs.ValueSyntax.{ref_type};
+ghost use Rattle.wast_signatures.specs.ValueTree as values;
+ghost use Rattle.wast_signatures.specs.ValueViews.{ref_tree};
 ghost use Rattle.wast_typed_operands.specs.TypedTree as spec;
 ghost use Rattle.wast_typed_operands.specs.TypedSyntax.{cast};
 ghost use Rattle.wast_typed_operands.specs.TypedViews.{cast_tree};
 
-use wast_parser::{Error, Index, Meaning, Parse, Parser};
-use wast_value_types::RefType;
+use wast_signatures::{Error, Index, Meaning, Parse, Parser, RefType};
 
 /// The type that `ref.test` tests for.
-#[derive(Debug, Drop)]
+#[derive(Drop)]
 pub struct RefTest<'a> {
     pub ty: RefType<'a>,
 }
@@ -42,7 +41,7 @@ impl<'a> Parse<'a> for RefTest<'a> {
 }
 
 /// The type that `ref.cast` casts to.
-#[derive(Debug, Drop)]
+#[derive(Drop)]
 pub struct RefCast<'a> {
     pub ty: RefType<'a>,
 }
@@ -69,7 +68,7 @@ impl<'a> Parse<'a> for RefCast<'a> {
 }
 
 /// The type that `ref.cast_desc_eq` casts to.
-#[derive(Debug, Drop)]
+#[derive(Drop)]
 pub struct RefCastDescEq<'a> {
     pub ty: RefType<'a>,
 }
@@ -96,7 +95,7 @@ impl<'a> Parse<'a> for RefCastDescEq<'a> {
 }
 
 /// The label of `br_on_cast`, and the types from which and to which it casts.
-#[derive(Debug, Drop)]
+#[derive(Drop)]
 pub struct BrOnCast<'a> {
     pub label: Index<'a>,
     pub from_type: RefType<'a>,
@@ -129,7 +128,7 @@ impl<'a> Parse<'a> for BrOnCast<'a> {
 }
 
 /// The label of `br_on_cast_fail`, and the types from which and to which it casts.
-#[derive(Debug, Drop)]
+#[derive(Drop)]
 pub struct BrOnCastFail<'a> {
     pub label: Index<'a>,
     pub from_type: RefType<'a>,
@@ -162,7 +161,7 @@ impl<'a> Parse<'a> for BrOnCastFail<'a> {
 }
 
 /// The label of `br_on_cast_desc_eq`, and the types from which and to which it casts.
-#[derive(Debug, Drop)]
+#[derive(Drop)]
 pub struct BrOnCastDescEq<'a> {
     pub label: Index<'a>,
     pub from_type: RefType<'a>,
@@ -195,7 +194,7 @@ impl<'a> Parse<'a> for BrOnCastDescEq<'a> {
 }
 
 /// The label of `br_on_cast_desc_eq_fail`, and the types from which and to which it casts.
-#[derive(Debug, Drop)]
+#[derive(Drop)]
 pub struct BrOnCastDescEqFail<'a> {
     pub label: Index<'a>,
     pub from_type: RefType<'a>,

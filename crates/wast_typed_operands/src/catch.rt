@@ -1,23 +1,24 @@
 //! The clauses of `try_table`.
 ghost use Rattle.std.specs.Prelude.{◌≡◌, ℕ, List, [], ◌∷◌, codes, option_map, refl};
-ghost use Rattle.wast_grammar.specs.Tokens.{Name};
-ghost use Rattle.wast_parser.specs.Look.{ask};
-ghost use Rattle.wast_parser.specs.Lawful.{Lawful, Leads};
-ghost use Rattle.wast_parser.specs.State.{ahead};
-ghost use Rattle.wast_parser.specs.Reading.{Asks};
-ghost use Rattle.wast_parser.specs.Cursors.{stands};
-ghost use Rattle.wast_parser.specs.Identifiers.{Reference, index_tree};
-ghost use Rattle.wast_parser.specs.declared.Index.{Index};
+ghost use Rattle.wast_signatures.specs.Tokens.{Name};
+ghost use Rattle.wast_signatures.specs.Look.{ask};
+ghost use Rattle.wast_signatures.specs.Lawful.{Lawful, Leads};
+ghost use Rattle.wast_signatures.specs.State.{ahead};
+ghost use Rattle.wast_signatures.specs.Reading.{Asks};
+ghost use Rattle.wast_signatures.specs.Cursors.{stands};
+ghost use Rattle.wast_signatures.specs.Identifiers.{Reference, index_tree};
+ghost use Rattle.wast_signatures.specs.declared.Index.{Index};
 ghost use Rattle.wast_typed_operands.specs.TypedTree as spec;
 ghost use Rattle.wast_typed_operands.specs.TypedSyntax.{tag_label, clause, catch_starts};
 ghost use Rattle.wast_typed_operands.specs.TypedViews.{catch_of, catch_tree, tag_of, with_tag};
 
 use crate::keyword;
-use wast_parser::{Cursor, Error, Index, Item, Meaning, Parse, Parser, Peek};
-use wast_value_types::{Group, group_of, or_peek};
+use wast_signatures::{
+    Cursor, Error, Group, Index, Item, Meaning, Parse, Parser, Peek, group_of, or_peek,
+};
 
 /// What a clause catches: exceptions of a tag, or all; with a reference to the exception, or without.
-#[derive(Debug, Drop)]
+#[derive(Drop)]
 pub enum TryTableCatchKind<'a> {
     Catch(Index<'a>),
     CatchRef(Index<'a>),
@@ -49,7 +50,7 @@ impl<'a> TryTableCatchKind<'a> {
 }
 
 /// A clause of `try_table`: what it catches, and the label to which it branches then.
-#[derive(Debug, Drop)]
+#[derive(Drop)]
 pub struct TryTableCatch<'a> {
     pub kind: TryTableCatchKind<'a>,
     pub label: Index<'a>,

@@ -1,7 +1,7 @@
 //! The words that stand in the syntax of clauses.
 ghost use Rattle.std.specs.Prelude.{◌≡◌, codes};
 
-use wast_parser::KeywordName;
+use wast_signatures::KeywordName;
 
 /// `catch`
 #[derive(Drop)]

@@ -2,7 +2,7 @@
 //!
 //! Each type is read by its production. A block type has a label and a type use without identifiers and names; an indirect call
 //! a table before or behind such a use: `1 (type 0)` and `(type 0) 1` are one value, places aside; `1` alone is a table, with a
-//! use of no tokens.
+//! use of no tokens. What `wast_core_instr` needs of value types and of the parser is handed on.
 //!
 //! # What has to be believed
 //!
@@ -26,3 +26,4 @@ pub use cast::{
 };
 pub use catch::{TryTableCatch, TryTableCatchKind};
 pub use select::SelectTypes;
+pub use wast_signatures::{Cursor, Error, HeapType, Id, Index, Meaning, Parse, Parser, Span};

@@ -1,16 +1,16 @@
 //! The types of `select`.
 ghost use Rattle.std.specs.Prelude.{◌≡◌, ℕ, List, Option, IfOk, map};
-ghost use Rattle.wast_grammar.specs.Tokens.{Name};
-ghost use Rattle.wast_parser.specs.Lawful.{Lawful};
-ghost use Rattle.wast_value_types.specs.ValueTree as values;
-ghost use Rattle.wast_value_types.specs.ValueViews.{val_tree};
+ghost use Rattle.wast_signatures.specs.Tokens.{Name};
+ghost use Rattle.wast_signatures.specs.Lawful.{Lawful};
+ghost use Rattle.wast_signatures.specs.ValueTree as values;
+ghost use Rattle.wast_signatures.specs.ValueViews.{val_tree};
 ghost use Rattle.wast_typed_operands.specs.TypedSyntax.{types_of, select_types};
 ghost use Rattle.wast_typed_operands.specs.TypedViews.{select_types_tree};
 
 use std::alloc::{AllocError, Global};
-use wast_core_types::{Grouped, Several, join_groups, keyword};
-use wast_parser::{Error, Meaning, Parse, Parser, list_of};
-use wast_value_types::ValType;
+use wast_signatures::{
+    Error, Grouped, Meaning, Parse, Parser, Several, ValType, join_groups, keyword, list_of,
+};
 
 /// The result types of `select` (6.5.2), of all its groups; none where it has no group.
 #[derive(Drop)]

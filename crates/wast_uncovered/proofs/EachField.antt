@@ -6,9 +6,9 @@ use Rattle.wast_fields.specs.FieldTree.{Field, field_place}
 use Rattle.wast_conversions.specs.Covered.{Form, use_forms}
 use Rattle.wast_imports.specs.ImportViews.{tag_tree}
 use Rattle.wast_imports.specs.declared.item.TagType.{TagType}
-use Rattle.wast_fields.specs.FieldViews.{defined_tag}
-use Rattle.wast_fields.specs.declared.tag.TagKind.{TagKind}
-use Rattle.wast_fields.specs.declared.tag.TagKind.TheVariants as tags
+use Rattle.wast_fields.specs.FuncViews.{defined_tag}
+use Rattle.wast_fields.specs.TagKind.{TagKind}
+use Rattle.wast_fields.specs.TagKind.TheVariants as tags
 use Rattle.wast_meant.specs.Covered.{first_of, defined_forms, field_forms, first_form}
 use Rattle.wast_uncovered.specs.First.{first}
 

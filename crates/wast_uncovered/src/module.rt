@@ -1,7 +1,8 @@
 //! Modules.
 ghost use Rattle.std.specs.Prelude.{◌≡◌, ℕ, map};
 ghost use Rattle.wast_grammar.specs.Tokens.{Name};
-ghost use Rattle.wast_core.specs.ModuleViews.{field_tree, module_tree};
+ghost use Rattle.wast_core.specs.ModuleFieldViews.{field_tree};
+ghost use Rattle.wast_core.specs.ModuleViews.{module_tree};
 ghost use Rattle.wast_meaning.specs.Modules.{content_fields};
 ghost use Rattle.wast_meant.specs.Covered.{first_form, uncovered};
 ghost use Rattle.wast_uncovered.specs.First.{placed};

@@ -3,13 +3,15 @@ ghost use Rattle.std.specs.Prelude.{◌≡◌, ℕ};
 ghost use Rattle.wast_grammar.specs.Tokens.{Name};
 ghost use Rattle.wast_value_types.specs.ValueTree as values;
 ghost use Rattle.wast_value_types.specs.ValueViews.{heap_word, heap_tree, ref_tree, val_tree, storage_tree, table_tree, global_tree};
-ghost use Rattle.wast_core_types.specs.TypeTree as types;
-ghost use Rattle.wast_core_types.specs.TypeViews.{param_tree, sig_tree, use_tree, struct_field_tree, inner_tree, item_tree};
+ghost use Rattle.wast_signatures.specs.TypeTree as types;
+ghost use Rattle.wast_signatures.specs.SignatureViews.{param_tree, sig_tree, use_tree, struct_field_tree};
+ghost use Rattle.wast_core_types.specs.TypeViews.{inner_tree, item_tree};
 ghost use Rattle.wast_conversions.specs.Covered.{word_forms, heap_forms, ref_forms, val_forms, storage_forms, sig_forms, inner_forms, type_forms, use_forms, table_forms, global_forms};
 ghost use Rattle.wast_uncovered.specs.First.{first, said};
 
 use crate::form::{HasForms, first_in};
-use wast_core_types::{FunctionType, InnerTypeKind, Param, StructField, TypeItem, TypeUse};
+use wast_core_types::{InnerTypeKind, TypeItem};
+use wast_signatures::{FunctionType, Param, StructField, TypeUse};
 use wast_value_types::{
     AbstractHeapType, GlobalType, HeapType, RefType, StorageType, TableType, ValType,
 };

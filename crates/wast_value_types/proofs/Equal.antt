@@ -3,12 +3,12 @@ use Rattle.std.proofs.Common.{◌≡◌, ℕ, Bool, true, false, List, refl, sym
 use Rattle.std.proofs.lemmas.Bool.{eqb-true, eq-eqb}
 use Rattle.std.specs.Cmp.Lexicographic.{bytes_decides}
 use Rattle.wasm_encoder_base.specs.Types.{FuncHeap, ExternHeap, AnyHeap, EqHeap, I31Heap, StructHeap, ArrayHeap, ExnHeap, NoFuncHeap, NoExternHeap, NoneHeap, NoExnHeap}
-use Rattle.wast_grammar.specs.Tokens.{Name}
-use Rattle.wast_grammar.proofs.Looks.{both, two}
+use Rattle.wast_words.specs.Tokens.{Name}
+use Rattle.wast_words.proofs.Looks.{both, two}
 use Rattle.wast_parser_base.specs.declared.index.Index.{Index}
 use Rattle.wast_parser_base.specs.declared.index.Index.TheVariants as indices
 use Rattle.wast_parser_base.specs.contracts.index.IndexPartialEq.TheImpl as index_eq
-use Rattle.wast_parser.specs.Identifiers.{Reference, ByNumber, ByName, index_tree}
+use Rattle.wast_words.specs.Identifiers.{Reference, ByNumber, ByName, index_tree}
 use Rattle.wast_value_types.specs.ValueTree.{HeapWord, Known, Cont, NoCont, Abstract, Concrete, Exact, Number, Ref}
 use Rattle.wast_value_types.specs.ValueTree as spec
 use Rattle.wast_value_types.specs.declared.heap_type.AbstractHeapType.{AbstractHeapType}

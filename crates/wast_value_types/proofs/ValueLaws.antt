@@ -2,15 +2,15 @@
 use Rattle.std.proofs.Common.{false, List, [], ◌∷◌, Some, None, refl, ℕ, inl, inr}
 use Rattle.std.specs.Prelude.{◌-◌, ◌^◌, codes}
 use Rattle.wasm_encoder_base.specs.Types.{FuncHeap}
-use Rattle.wast_parser.specs.Tokens.{SignificantToken, Id, Word}
-use Rattle.wast_parser.specs.Look.{this_word, this_group, join}
-use Rattle.wast_parser.specs.Grammar.{word}
-use Rattle.wast_parser.specs.Integers.{unsigned}
-use Rattle.wast_parser.specs.Identifiers.{Reference, ByName, index}
-use Rattle.wast_parser.proofs.GrammarLaws.{Lawful, Leads, word_laws, among_laws, seen_laws, only_laws, seq_laws, maybe_laws, either_laws, paren_laws, group_laws}
-use Rattle.wast_parser.proofs.LeadLaws.{word_leads, paren_leads, seen_leads, among_leads, either_leads, group_leads}
-use Rattle.wast_parser.proofs.IdentifierLaws.{index_laws, index_leads}
-use Rattle.wast_parser.proofs.IntegerLaws.{number_laws}
+use Rattle.wast_words.specs.Tokens.{SignificantToken, Id, Word}
+use Rattle.wast_words.specs.Look.{this_word, this_group, join}
+use Rattle.wast_words.specs.Grammar.{word}
+use Rattle.wast_words.specs.Integers.{unsigned}
+use Rattle.wast_words.specs.Identifiers.{Reference, ByName, index}
+use Rattle.wast_words.proofs.GrammarLaws.{Lawful, Leads, word_laws, among_laws, seen_laws, only_laws, seq_laws, maybe_laws, either_laws, paren_laws, group_laws}
+use Rattle.wast_words.proofs.LeadLaws.{word_leads, paren_leads, seen_leads, among_leads, either_leads, group_leads}
+use Rattle.wast_words.proofs.IdentifierLaws.{index_laws, index_leads}
+use Rattle.wast_words.proofs.IntegerLaws.{number_laws}
 use Rattle.wast_words.specs.WordSyntax.{keywords, keyword, optional}
 use Rattle.wast_words.proofs.WordLaws.{keyword_laws, optional_laws, keyword_leads}
 use Rattle.wast_value_types.specs.ValueTree.{Abstract, Known, Packed, I8}

@@ -4,3 +4,16 @@ pub mod ValueViews
 pub mod Unplaced
 pub mod Laws
 pub use Rattle.wast_words.specs.WordSyntax
+pub use Rattle.wast_words.specs.Tokens
+pub use Rattle.wast_words.specs.Cursors
+pub use Rattle.wast_words.specs.Grammar
+pub use Rattle.wast_words.specs.Identifiers
+pub use Rattle.wast_words.specs.Lawful
+pub use Rattle.wast_words.specs.Look
+pub use Rattle.wast_words.specs.Problem
+pub use Rattle.wast_words.specs.Reading
+pub use Rattle.wast_words.specs.Recursion
+pub use Rattle.wast_words.specs.Significant
+pub use Rattle.wast_words.specs.Spelling
+pub use Rattle.wast_words.specs.State
+pub use Rattle.wast_words.specs.Productions

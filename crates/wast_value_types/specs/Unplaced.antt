@@ -1,5 +1,5 @@
 -- Types as they are written, without the places of their indices.
-use Rattle.wast_parser.specs.Identifiers.{Reference, ByNumber, ByName}
+use Rattle.wast_words.specs.Identifiers.{Reference, ByNumber, ByName}
 use Rattle.wast_value_types.specs.ValueTree.{HeapType, Abstract, Concrete, Exact, RefType, ValType, Number, Ref}
 
 abbrev pub unplaced_index : {N P : Type 0} → Reference N P → Reference N (Unit {0})

@@ -2,7 +2,7 @@
 -- over names of type N and places of type P.
 use Rattle.std.specs.Prelude.{ℕ, Bool, true, Option, Some, None, option_map}
 use Rattle.wasm_encoder_base.specs.Types.{AbstractHeapType}
-use Rattle.wast_parser.specs.Identifiers.{Reference}
+use Rattle.wast_words.specs.Identifiers.{Reference}
 
 -- number and vector types (6.4.1)
 pub data NumberType : Type 0 where

@@ -1,8 +1,8 @@
 -- What the grammar sees of the code's types.
 use Rattle.std.specs.Prelude.{ℕ, Bool, true, false, List, codes}
-use Rattle.wast_grammar.specs.Tokens.{Name}
+use Rattle.wast_words.specs.Tokens.{Name}
 use Rattle.wasm_encoder_base.specs.Types.{FuncHeap, ExternHeap, AnyHeap, EqHeap, I31Heap, StructHeap, ArrayHeap, ExnHeap, NoFuncHeap, NoExternHeap, NoneHeap, NoExnHeap}
-use Rattle.wast_parser.specs.Identifiers.{index_tree}
+use Rattle.wast_words.specs.Identifiers.{index_tree}
 use Rattle.wast_value_types.specs.ValueTree.{HeapWord, Known, Cont, NoCont, Abstract, Concrete, Exact, Number, Ref, Packed, Value}
 use Rattle.wast_value_types.specs.ValueTree as spec
 use Rattle.wast_value_types.specs.declared.heap_type.AbstractHeapType.{AbstractHeapType}

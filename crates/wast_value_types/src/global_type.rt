@@ -1,7 +1,7 @@
 //! Global types.
 ghost use Rattle.std.specs.Prelude.{◌≡◌, ℕ, List, IfOk};
-ghost use Rattle.wast_grammar.specs.Tokens.{Name};
-ghost use Rattle.wast_parser.specs.Lawful.{Lawful};
+ghost use Rattle.wast_words.specs.Tokens.{Name};
+ghost use Rattle.wast_words.specs.Lawful.{Lawful};
 ghost use Rattle.wast_value_types.specs.ValueTree as spec;
 ghost use Rattle.wast_value_types.specs.ValueSyntax.{shared_global, global_type};
 ghost use Rattle.wast_value_types.specs.ValueViews.{global_tree};
@@ -9,11 +9,10 @@ ghost use Rattle.wast_value_types.specs.ValueViews.{global_tree};
 use crate::keyword::{Mut, Shared};
 use crate::val_type::ValType;
 use std::alloc::{AllocError, Global};
-use wast_parser::{Error, Meaning, Parse, Parser};
-use wast_words::{Group, group_of, optional};
+use wast_words::{Error, Group, Meaning, Parse, Parser, group_of, optional};
 
 /// A global type (6.4.10); a shared one is that of a proposal.
-#[derive(Debug, Drop)]
+#[derive(Drop)]
 pub struct GlobalType<'a> {
     pub ty: ValType<'a>,
     pub mutable: bool,

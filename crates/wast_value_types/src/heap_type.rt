@@ -1,11 +1,11 @@
 //! Heap types.
 ghost use Rattle.std.specs.Prelude.{◌≡◌, ℕ, List, IfOk, refl};
-ghost use Rattle.wast_grammar.specs.Tokens.{Name};
-ghost use Rattle.wast_parser.specs.Look.{ask};
-ghost use Rattle.wast_parser.specs.Lawful.{Lawful, Leads};
-ghost use Rattle.wast_parser.specs.State.{ahead};
-ghost use Rattle.wast_parser.specs.Reading.{Asks};
-ghost use Rattle.wast_parser.specs.Cursors.{stands};
+ghost use Rattle.wast_words.specs.Tokens.{Name};
+ghost use Rattle.wast_words.specs.Look.{ask};
+ghost use Rattle.wast_words.specs.Lawful.{Lawful, Leads};
+ghost use Rattle.wast_words.specs.State.{ahead};
+ghost use Rattle.wast_words.specs.Reading.{Asks};
+ghost use Rattle.wast_words.specs.Cursors.{stands};
 ghost use Rattle.wast_value_types.specs.ValueTree as spec;
 ghost use Rattle.wast_words.specs.WordSyntax.{keyword, keywords};
 ghost use Rattle.wast_value_types.specs.ValueSyntax.{heap_words, heap_type, heap_starts};
@@ -13,11 +13,13 @@ ghost use Rattle.wast_value_types.specs.ValueViews.{heap_word, heap_text, heap_t
 
 use crate::keyword::{Exact, Shared};
 use std::alloc::{AllocError, Global};
-use wast_parser::{Cursor, Error, Index, Item, Meaning, Parse, Parser, Peek};
-use wast_words::{Group, Word, Words, Written, find, group_of, or_peek};
+use wast_words::{
+    Cursor, Error, Group, Index, Item, Meaning, Parse, Parser, Peek, Word, Words, Written, find,
+    group_of, or_peek,
+};
 
 /// An abstract heap type (6.4.2), or one of the stack switching proposal.
-#[derive(Clone, Copy, Debug, PartialEq, Eq, Hash)]
+#[derive(Clone, Copy, PartialEq, Eq, Hash)]
 pub enum AbstractHeapType {
     Func,
     Extern,
@@ -37,7 +39,7 @@ pub enum AbstractHeapType {
 
 /// A heap type (6.4.2): an abstract one, which may be shared, or the index of a type, which may be exact. Indices are the
 /// same wherever they stand; equal heap types hash alike.
-#[derive(Debug, Drop)]
+#[derive(Drop)]
 #[derive_where(PartialEq, Eq, Hash)]
 pub enum HeapType<'a> {
     Abstract { shared: bool, ty: AbstractHeapType },

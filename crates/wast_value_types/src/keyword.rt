@@ -1,7 +1,7 @@
 //! The words that stand in the syntax of types.
 ghost use Rattle.std.specs.Prelude.{◌≡◌, codes};
 
-use wast_parser::KeywordName;
+use wast_words::KeywordName;
 
 /// `ref`
 #[derive(Drop)]

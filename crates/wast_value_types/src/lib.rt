@@ -1,12 +1,12 @@
 //! The types of values, heaps, tables, memories and globals as trees, and their syntax (WebAssembly Core Specification 3.0,
-//! 6.4). A part of the crate `wast_core_types`.
+//! 6.4). A part of the crate `wast_signatures`.
 //!
 //! [`ValType`], [`RefType`], [`HeapType`] and [`AbstractHeapType`] are read and looked for, the others are read. Types of
 //! proposals, which are shared, exact or of continuations, are read into the tree too. Indices in types are not resolved.
 //! Two heap, reference or value types are equal exactly where their trees are, wherever their indices stand, so `funcref` is
 //! `(ref null func)` ([`laws::equal_types`]); equal ones hash alike.
 //!
-//! What it hands on of `wast_words` reads keywords and looks for them.
+//! What it hands on of `wast_words` reads keywords and looks for them, or is of the parser, for those that stand on this crate.
 //!
 //! # What has to be believed
 //!
@@ -35,4 +35,8 @@ pub use ref_type::RefType;
 pub use storage_type::{FieldType, StorageType};
 pub use table_type::{MemoryType, TableType, page_size};
 pub use val_type::ValType;
-pub use wast_words::{Group, Word, Words, Written, find, group_of, optional, or_peek};
+pub use wast_words::{
+    Cursor, Error, Group, Id, Index, Item, Keyword, KeywordName, LParen, Meaning, NameAnnotation,
+    Parse, Parser, Peek, RParen, Span, Word, Words, Written, find, group_of, list_of, optional,
+    or_peek,
+};

@@ -1,19 +1,18 @@
 //! Limits, and address types.
 ghost use Rattle.std.specs.Prelude.{◌≡◌, ℕ, Bool, List};
-ghost use Rattle.wast_grammar.specs.Tokens.{Name};
-ghost use Rattle.wast_parser.specs.Lawful.{Lawful};
-ghost use Rattle.wast_parser.specs.State.{ahead, Keeps};
-ghost use Rattle.wast_parser.specs.Reading.{Gives};
+ghost use Rattle.wast_words.specs.Tokens.{Name};
+ghost use Rattle.wast_words.specs.Lawful.{Lawful};
+ghost use Rattle.wast_words.specs.State.{ahead, Keeps};
+ghost use Rattle.wast_words.specs.Reading.{Gives};
 ghost use Rattle.wast_value_types.specs.ValueTree as spec;
 ghost use Rattle.wast_value_types.specs.ValueSyntax.{address_words, address_type, limits};
 ghost use Rattle.wast_value_types.specs.ValueViews.{is_wide, address_text, limits_tree};
 
-use wast_parser::{Error, Meaning, Parse, Parser};
-use wast_words::{Word, Words, Written, find};
+use wast_words::{Error, Meaning, Parse, Parser, Word, Words, Written, find};
 
 /// The limits of a table in elements, or of a memory in pages, and whether its addresses have 64 bits (6.4.8). Equal ones
 /// hash alike.
-#[derive(Clone, Copy, Debug, PartialEq, Eq, Hash)]
+#[derive(Clone, Copy, PartialEq, Eq, Hash)]
 pub struct Limits {
     pub is64: bool,
     pub min: u64,

@@ -1,12 +1,12 @@
 //! Reference types.
 ghost use Rattle.std.specs.Prelude.{◌≡◌, ℕ, List, Some, true, IfOk, IfSome, option_map, refl};
-ghost use Rattle.wast_grammar.specs.Tokens.{Name};
+ghost use Rattle.wast_words.specs.Tokens.{Name};
 ghost use Rattle.wasm_encoder_base.specs.Types.{FuncHeap, ExternHeap, AnyHeap, EqHeap, I31Heap, StructHeap, ArrayHeap, ExnHeap, NoFuncHeap, NoExternHeap, NoneHeap, NoExnHeap};
-ghost use Rattle.wast_parser.specs.Look.{ask};
-ghost use Rattle.wast_parser.specs.Lawful.{Lawful, Leads};
-ghost use Rattle.wast_parser.specs.State.{ahead};
-ghost use Rattle.wast_parser.specs.Reading.{Asks};
-ghost use Rattle.wast_parser.specs.Cursors.{stands};
+ghost use Rattle.wast_words.specs.Look.{ask};
+ghost use Rattle.wast_words.specs.Lawful.{Lawful, Leads};
+ghost use Rattle.wast_words.specs.State.{ahead};
+ghost use Rattle.wast_words.specs.Reading.{Asks};
+ghost use Rattle.wast_words.specs.Cursors.{stands};
 ghost use Rattle.wast_value_types.specs.ValueTree.{HeapWord, Known, Cont, NoCont, shared_form};
 ghost use Rattle.wast_value_types.specs.ValueTree as spec;
 ghost use Rattle.wast_value_types.specs.ValueSyntax.{short_words, nullable, ref_body, ref_type, ref_starts};
@@ -15,11 +15,13 @@ ghost use Rattle.wast_value_types.specs.ValueViews.{heap_word, short_text, ref_t
 use crate::heap_type::{AbstractHeapType, HeapType};
 use crate::keyword::{Null, Ref};
 use std::alloc::{AllocError, Global};
-use wast_parser::{Cursor, Error, Item, Meaning, Parse, Parser, Peek};
-use wast_words::{Group, Word, Words, Written, find, group_of, optional, or_peek};
+use wast_words::{
+    Cursor, Error, Group, Item, Meaning, Parse, Parser, Peek, Word, Words, Written, find, group_of,
+    optional, or_peek,
+};
 
 /// A reference type (6.4.3). Indices are the same wherever they stand; equal reference types hash alike.
-#[derive(Debug, Drop)]
+#[derive(Drop)]
 #[derive_where(PartialEq, Eq, Hash)]
 pub struct RefType<'a> {
     pub nullable: bool,

@@ -1,11 +1,11 @@
 //! Storage types and field types.
 ghost use Rattle.std.specs.Prelude.{◌≡◌, ℕ, List, IfOk, refl};
-ghost use Rattle.wast_grammar.specs.Tokens.{Name};
-ghost use Rattle.wast_parser.specs.Look.{ask};
-ghost use Rattle.wast_parser.specs.Lawful.{Lawful, Leads};
-ghost use Rattle.wast_parser.specs.State.{ahead};
-ghost use Rattle.wast_parser.specs.Reading.{Asks};
-ghost use Rattle.wast_parser.specs.Cursors.{stands};
+ghost use Rattle.wast_words.specs.Tokens.{Name};
+ghost use Rattle.wast_words.specs.Look.{ask};
+ghost use Rattle.wast_words.specs.Lawful.{Lawful, Leads};
+ghost use Rattle.wast_words.specs.State.{ahead};
+ghost use Rattle.wast_words.specs.Reading.{Asks};
+ghost use Rattle.wast_words.specs.Cursors.{stands};
 ghost use Rattle.wast_value_types.specs.ValueTree.{Packed};
 ghost use Rattle.wast_value_types.specs.ValueTree as spec;
 ghost use Rattle.wast_value_types.specs.ValueSyntax.{packed_words, field_starts, storage_type, field_type};
@@ -14,11 +14,13 @@ ghost use Rattle.wast_value_types.specs.ValueViews.{packed_type, packed_text, st
 use crate::keyword::Mut;
 use crate::val_type::ValType;
 use std::alloc::{AllocError, Global};
-use wast_parser::{Cursor, Error, Item, Meaning, Parse, Parser, Peek};
-use wast_words::{Group, Word, Words, Written, find, group_of, or_peek};
+use wast_words::{
+    Cursor, Error, Group, Item, Meaning, Parse, Parser, Peek, Word, Words, Written, find, group_of,
+    or_peek,
+};
 
 /// A storage type (6.4.6): what a field holds.
-#[derive(Debug, Drop)]
+#[derive(Drop)]
 #[derive_where(PartialEq, Eq, Hash)]
 pub enum StorageType<'a> {
     I8,
@@ -63,7 +65,7 @@ impl<'a> Parse<'a> for StorageType<'a> {
 }
 
 /// A field type (6.4.6): what a field holds, and whether it can be set.
-#[derive(Debug, Drop)]
+#[derive(Drop)]
 pub struct FieldType<'a> {
     pub mutable: bool,
     pub ty: StorageType<'a>,

@@ -1,9 +1,9 @@
 //! Table types and memory types.
 ghost use Rattle.std.specs.Prelude.{◌≡◌, ℕ, List, IfOk};
-ghost use Rattle.wast_grammar.specs.Tokens.{Name};
-ghost use Rattle.wast_parser.specs.Lawful.{Lawful};
-ghost use Rattle.wast_parser.specs.State.{ahead, Keeps};
-ghost use Rattle.wast_parser.specs.Reading.{Gives};
+ghost use Rattle.wast_words.specs.Tokens.{Name};
+ghost use Rattle.wast_words.specs.Lawful.{Lawful};
+ghost use Rattle.wast_words.specs.State.{ahead, Keeps};
+ghost use Rattle.wast_words.specs.Reading.{Gives};
 ghost use Rattle.wast_value_types.specs.ValueTree as spec;
 ghost use Rattle.wast_value_types.specs.ValueSyntax.{table_type, memory_type, page_size, power_of_two, exponent};
 ghost use Rattle.wast_value_types.specs.ValueViews.{table_tree, memory_tree};
@@ -12,11 +12,10 @@ use crate::keyword::{PageSize, Shared};
 use crate::limits::Limits;
 use crate::ref_type::RefType;
 use std::alloc::{AllocError, Global};
-use wast_parser::{Error, Meaning, Parse, Parser};
-use wast_words::{Group, group_of, optional};
+use wast_words::{Error, Group, Meaning, Parse, Parser, group_of, optional};
 
 /// A table type (6.4.12); a shared one is that of a proposal.
-#[derive(Debug, Drop)]
+#[derive(Drop)]
 pub struct TableType<'a> {
     pub limits: Limits,
     pub elem: RefType<'a>,
@@ -62,7 +61,7 @@ impl<'a> Parse<'a> for TableType<'a> {
 }
 
 /// A memory type (6.4.11). The page size, where one is written, is 2 to this power, in bytes.
-#[derive(Clone, Copy, Debug, PartialEq, Eq, Hash)]
+#[derive(Clone, Copy, PartialEq, Eq, Hash)]
 pub struct MemoryType {
     pub limits: Limits,
     pub shared: bool,

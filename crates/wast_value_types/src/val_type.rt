@@ -1,11 +1,11 @@
 //! Value types.
 ghost use Rattle.std.specs.Prelude.{◌≡◌, ℕ, List, IfOk, refl};
-ghost use Rattle.wast_grammar.specs.Tokens.{Name};
-ghost use Rattle.wast_parser.specs.Look.{ask};
-ghost use Rattle.wast_parser.specs.Lawful.{Lawful, Leads};
-ghost use Rattle.wast_parser.specs.State.{ahead};
-ghost use Rattle.wast_parser.specs.Reading.{Asks};
-ghost use Rattle.wast_parser.specs.Cursors.{stands};
+ghost use Rattle.wast_words.specs.Tokens.{Name};
+ghost use Rattle.wast_words.specs.Look.{ask};
+ghost use Rattle.wast_words.specs.Lawful.{Lawful, Leads};
+ghost use Rattle.wast_words.specs.State.{ahead};
+ghost use Rattle.wast_words.specs.Reading.{Asks};
+ghost use Rattle.wast_words.specs.Cursors.{stands};
 ghost use Rattle.wast_value_types.specs.ValueTree.{Number};
 ghost use Rattle.wast_value_types.specs.ValueTree as spec;
 ghost use Rattle.wast_value_types.specs.ValueSyntax.{number_words, val_type, val_starts};
@@ -13,11 +13,12 @@ ghost use Rattle.wast_value_types.specs.ValueViews.{number_type, number_text, va
 
 use crate::ref_type::RefType;
 use std::alloc::{AllocError, Global};
-use wast_parser::{Cursor, Error, Item, Meaning, Parse, Parser, Peek};
-use wast_words::{Word, Words, Written, find, or_peek};
+use wast_words::{
+    Cursor, Error, Item, Meaning, Parse, Parser, Peek, Word, Words, Written, find, or_peek,
+};
 
 /// A value type (6.4.4). Indices are the same wherever they stand; equal value types hash alike.
-#[derive(Debug, Drop)]
+#[derive(Drop)]
 #[derive_where(PartialEq, Eq, Hash)]
 pub enum ValType<'a> {
     I32,

@@ -2,9 +2,9 @@
 use Rattle.std.proofs.Common.{◌≡◌, ℕ, suc, ◌+◌, ◌-◌, ◌<◌, List, [], ◌∷◌, ◌++◌, map, take, length, Some, ◌∙◌, ap, arith}
 use Rattle.std.proofs.lemmas.List.{map-append, take_more_set, length-set}
 use Rattle.std.specs.Prelude.{slice_set}
-use Rattle.wast_grammar.specs.Tokens.{SignificantToken}
-use Rattle.wast_grammar.specs.Grammar.{Reader, times_reads}
-use Rattle.wast_grammar.proofs.Repeats.{with_front, times_next}
+use Rattle.wast_parser.specs.Tokens.{SignificantToken}
+use Rattle.wast_parser.specs.Grammar.{Reader, times_reads}
+use Rattle.wast_parser.proofs.Repeats.{with_front, times_next}
 
 -- what is read by then, and one more
 pub one_more : {N P A B : Type 0} (f : A → B) (r : Reader N P B) (vs : List A) (i : ℕ) (v : A) (ts rest : List (SignificantToken N P)) → i < length vs → r ts ≡ Some (f v, rest) →

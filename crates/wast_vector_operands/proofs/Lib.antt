@@ -2,3 +2,10 @@ pub mod Filling
 pub mod FlatLooks
 pub mod Places
 pub mod VectorLaws
+pub use Rattle.wast_parser.proofs.Looks
+pub use Rattle.wast_parser.proofs.Beginnings
+pub use Rattle.wast_parser.proofs.States
+pub use Rattle.wast_parser.proofs.GrammarLaws
+pub use Rattle.wast_parser.proofs.IdentifierLaws
+pub use Rattle.wast_parser.proofs.IntegerLaws
+pub use Rattle.wast_parser.proofs.LeadLaws

@@ -6,7 +6,7 @@ use Rattle.wast_parser.specs.Tokens.{SignificantToken, Open, Integer, Float}
 use Rattle.wast_parser.specs.Look.{look, at}
 use Rattle.wast_parser.specs.Grammar.{Syntax, wide, next, times, float}
 use Rattle.wast_parser.specs.Integers.{unsigned, signed}
-use Rattle.wast_grammar.proofs.Looks.{absurd_of, first_deep, flat_plain, answered, sub_law}
+use Rattle.wast_parser.proofs.Looks.{absurd_of, first_deep, flat_plain, answered, sub_law}
 use Rattle.wast_parser.proofs.GrammarLaws.{Lawful, Leads, among_laws, float_laws, seen_laws, next_laws, times_laws, wide_laws}
 use Rattle.wast_parser.proofs.LeadLaws.{LooksSpelled, spelled_seen, seen_leads, among_leads, next_leads}
 use Rattle.wast_parser.proofs.IntegerLaws.{number_laws, integer_value_leads}

@@ -1,3 +1,14 @@
 pub mod VectorSyntax
 pub mod VectorTree
 pub mod VectorViews
+pub use Rattle.wast_parser.specs.Numbers
+pub use Rattle.wast_parser.specs.Tokens
+pub use Rattle.wast_parser.specs.Cursors
+pub use Rattle.wast_parser.specs.Grammar
+pub use Rattle.wast_parser.specs.Identifiers
+pub use Rattle.wast_parser.specs.Integers
+pub use Rattle.wast_parser.specs.Lawful
+pub use Rattle.wast_parser.specs.Look
+pub use Rattle.wast_parser.specs.Reading
+pub use Rattle.wast_parser.specs.Spelling
+pub use Rattle.wast_parser.specs.State

@@ -4,6 +4,7 @@
 //! Each type is read by its production. [`FloatLit`] and [`V128Const`] are looked for too, as values of data segments are. So of
 //! `v128.const i32x4 1 2 3 -1` the operand is an `I32x4` of four lanes, and its bytes ([`V128Const::to_le_bytes`]) end in
 //! `ff ff ff ff`. Floats keep their text, and a vector of them has no bytes here.
+//! What `wast_operands` needs of the parser is handed on.
 //!
 //! # What has to be believed
 //!
@@ -17,3 +18,7 @@ mod bytes;
 mod vector;
 
 pub use vector::{FloatLit, I8x16Shuffle, LaneArg, V128Const};
+pub use wast_parser::{
+    Cursor, Error, Id, Index, Item, ItemRef, Keyword, KeywordName, Meaning, Parse, Parser, Peek,
+    Span, WordSet, list_of, magnitude,
+};

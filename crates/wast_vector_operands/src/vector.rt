@@ -1,7 +1,7 @@
 //! Constants of 128 bits, and lanes.
 ghost use Rattle.std.specs.Prelude.{◌≡◌, ℕ, List, [], map, length, refl};
 ghost use Rattle.std.specs.Int.{w32, w64};
-ghost use Rattle.wast_grammar.specs.Tokens.{Name};
+ghost use Rattle.wast_parser.specs.Tokens.{Name};
 ghost use Rattle.wast_parser.specs.Look.{ask};
 ghost use Rattle.wast_parser.specs.Grammar.{times};
 ghost use Rattle.wast_parser.specs.Lawful.{Lawful, Leads};
@@ -15,7 +15,7 @@ ghost use Rattle.wast_vector_operands.specs.VectorViews.{shape_tree, vector_tree
 use wast_parser::{Cursor, Error, Item, Meaning, Parse, Parser, Peek, WordSet};
 
 /// A float as it is written: the text of a float or of an integer.
-#[derive(Clone, Copy, Debug)]
+#[derive(Clone, Copy)]
 pub struct FloatLit<'a> {
     pub text: &'a str,
 }
@@ -68,7 +68,7 @@ impl<'a> Item for FloatLit<'a> {
 }
 
 /// The number of a lane.
-#[derive(Clone, Copy, Debug)]
+#[derive(Clone, Copy)]
 pub struct LaneArg {
     pub lane: u8,
 }
@@ -93,7 +93,7 @@ impl<'a> Parse<'a> for LaneArg {
 }
 
 /// The numbers of sixteen lanes, of which those of the second vector count on from 16.
-#[derive(Clone, Copy, Debug)]
+#[derive(Clone, Copy)]
 pub struct I8x16Shuffle {
     pub lanes: [u8; 16],
 }
@@ -119,7 +119,7 @@ impl<'a> Parse<'a> for I8x16Shuffle {
 }
 
 /// A constant of 128 bits, by its lanes. Those of floats stay as they are written.
-#[derive(Clone, Copy, Debug)]
+#[derive(Clone, Copy)]
 pub enum V128Const<'a> {
     I8x16([i8; 16]),
     I16x8([i16; 8]),

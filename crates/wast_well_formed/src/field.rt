@@ -1,14 +1,14 @@
 //! Fields.
 ghost use Rattle.std.specs.Prelude.{◌≡◌, not, ◌&&◌};
 ghost use Rattle.std.specs.List.{list_all};
-ghost use Rattle.wast_fields.specs.FieldTree.{is_start};
-ghost use Rattle.wast_core.specs.ModuleViews.{field_tree};
+ghost use Rattle.wast_module_fields.specs.FieldTree.{is_start};
+ghost use Rattle.wast_module_fields.specs.ModuleFieldViews.{field_tree};
 ghost use Rattle.wast_meaning.specs.Mentions.{parts};
 ghost use Rattle.wast_meaning.specs.WellFormed as spec;
 ghost use Rattle.wast_meaning.specs.WellFormed.{part_formed};
 
 use crate::parts::parts_formed;
-use wast_core::{MemoryKind, ModuleField};
+use wast_module_fields::{MemoryKind, ModuleField};
 
 /// Whether the expressions in a field are formed, a memory with its segment inline has pages whose size fits, and the field isn't a
 /// start function behind another.

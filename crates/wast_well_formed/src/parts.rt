@@ -2,13 +2,13 @@
 ghost use Rattle.std.specs.Prelude.{◌≡◌, ℕ, None, [], ◌∷◌, refl};
 ghost use Rattle.std.specs.List.{list_all};
 ghost use Rattle.wast_grammar.specs.Tokens.{Name};
-ghost use Rattle.wast_core.specs.ModuleViews.{field_tree};
+ghost use Rattle.wast_module_fields.specs.ModuleFieldViews.{field_tree};
 ghost use Rattle.wast_meaning.specs.Mentions.{Part, parts};
 ghost use Rattle.wast_meaning.specs.WellFormed.{part_formed};
 
 use crate::expression::{is_formed, is_formed_constant};
-use wast_core::{Expression, FunctionType, Local, ModuleField, TypeUse};
 use wast_mentions::Mention;
+use wast_module_fields::{Expression, FunctionType, Local, ModuleField, TypeUse};
 use wast_parts::{PartJudge, PartJudgement, tell_parts};
 
 /// Whether the expressions in a field are formed, and of those that are constant the blocks closed.

@@ -1,9 +1,9 @@
 -- Looks that ask for one or the other.
 use Rattle.std.proofs.Common.{◌≡◌, Bool, true, false, List, [], ◌∷◌, Some, None, Result, Ok, Err, refl, subst, sym, ◌∙◌, ap, cond, inl, inr}
 use Rattle.std.proofs.lemmas.Bool.{cases_Bool}
-use Rattle.wast_grammar.specs.Significant.{TextToken}
-use Rattle.wast_grammar.specs.Look.{Test, On, AFault, Any, Look, look, fits, any_fits, at, any_deep, is_deep, join, faults, ask, apart}
-use Rattle.wast_grammar.proofs.Looks.{in_join, join_left, apart_no2, asked, answered}
+use Rattle.wast_parser.specs.Significant.{TextToken}
+use Rattle.wast_parser.specs.Look.{Test, On, AFault, Any, Look, look, fits, any_fits, at, any_deep, is_deep, join, faults, ask, apart}
+use Rattle.wast_parser.proofs.Looks.{in_join, join_left, apart_no2, asked, answered}
 use Rattle.wast_parser.specs.Problem.{Problem}
 use Rattle.wast_parser.specs.State.{Source}
 use Rattle.wast_parser.specs.Reading.{Asks, IsStop}

@@ -1,1 +1,15 @@
 pub mod WordSyntax
+pub use Rattle.wast_parser.specs.Cursors
+pub use Rattle.wast_parser.specs.Grammar
+pub use Rattle.wast_parser.specs.Identifiers
+pub use Rattle.wast_parser.specs.Integers
+pub use Rattle.wast_parser.specs.Lawful
+pub use Rattle.wast_parser.specs.Look
+pub use Rattle.wast_parser.specs.Reading
+pub use Rattle.wast_parser.specs.State
+pub use Rattle.wast_parser.specs.Tokens
+pub use Rattle.wast_parser.specs.Problem
+pub use Rattle.wast_parser.specs.Recursion
+pub use Rattle.wast_parser.specs.Significant
+pub use Rattle.wast_parser.specs.Spelling
+pub use Rattle.wast_parser.specs.Productions

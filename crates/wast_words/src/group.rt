@@ -1,6 +1,6 @@
 //! Groups that begin with a word.
 ghost use Rattle.std.specs.Prelude.{◌≡◌, ℕ, List, [], ◌∷◌, refl, is_some};
-ghost use Rattle.wast_grammar.specs.Tokens.{Name};
+ghost use Rattle.wast_parser.specs.Tokens.{Name};
 ghost use Rattle.wast_parser.specs.Look.{ask, this_group};
 ghost use Rattle.wast_parser.specs.Grammar.{word, paren, group, seen};
 ghost use Rattle.wast_parser.specs.Lawful.{Lawful, Leads};
@@ -41,6 +41,7 @@ impl<N: KeywordName> Peek for Group<N> {
         ensures { Leads (alone {N = Name} {P = ℕ} N.word).spells (this_group N.word ∷ []) }
     {}
 
+    #[inline(always)]
     fn peek(cursor: Cursor<'_, '_>) -> Result<bool, Error>
         ensures { Asks result (stands cursor.entry).source (ask (this_group N.word ∷ []) (ahead (stands cursor.entry))) }
     {

@@ -2,7 +2,7 @@
 //! of the crate `wast_value_types`.
 //!
 //! [`Words`] are values that are one keyword each, and [`Word`] reads one; [`optional`] reads a word where it stands, [`group_of`]
-//! a value behind a word in parentheses; [`Group`] and [`or_peek`] look ahead.
+//! a value behind a word in parentheses; [`Group`] and [`or_peek`] look ahead. What reading them needs of the crate `wast_parser` is handed on.
 //!
 //! # What has to be believed
 //!
@@ -17,4 +17,8 @@ mod word;
 
 pub use group::{Group, group_of, optional};
 pub use look::or_peek;
+pub use wast_parser::{
+    Cursor, Error, Id, Index, Item, Keyword, KeywordName, LParen, Meaning, NameAnnotation, Parse,
+    Parser, Peek, RParen, Span, list_of,
+};
 pub use word::{Word, Words, Written, find};

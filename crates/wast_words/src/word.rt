@@ -1,6 +1,6 @@
 //! Values that are written as one keyword.
 ghost use Rattle.std.specs.Prelude.{◌≡◌, ℕ, List, map, option_map, refl};
-ghost use Rattle.wast_grammar.specs.Tokens.{Name};
+ghost use Rattle.wast_parser.specs.Tokens.{Name};
 ghost use Rattle.wast_parser.specs.Spelling.{find_by};
 ghost use Rattle.wast_parser.specs.Look.{ask};
 ghost use Rattle.wast_parser.specs.Lawful.{Lawful, Leads};
@@ -55,6 +55,7 @@ impl<T: Words> WordSet for Word<T> {
 
     ghost entries = { T.entries };
 
+    #[inline(always)]
     fn of(text: &[u8]) -> Option<Self> {
         match T::of(text) {
             Some(value) => Some(Word { value }),
@@ -91,6 +92,7 @@ impl<T: Words> Peek for Word<T> {
         ensures { Leads (keyword {N = Name} {P = ℕ} T.entries).spells (keywords T.entries) }
     {}
 
+    #[inline(always)]
     fn peek(cursor: Cursor<'_, '_>) -> Result<bool, Error>
         ensures { Asks result (stands cursor.entry).source (ask (keywords T.entries) (ahead (stands cursor.entry))) }
     {

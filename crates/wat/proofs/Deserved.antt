@@ -6,7 +6,7 @@ use Rattle.wast_grammar.specs.Tokens.{Name}
 use Rattle.wast_parser.specs.Problem.{Problem, is_memory}
 use Rattle.wast_parser.specs.Significant.{TextToken}
 use Rattle.wast_names.specs.Demand.{Tells}
-use Rattle.wast_fields.specs.FieldTree.{Content, Fields, Pieces, Module}
+use Rattle.wast_field_syntax.specs.FieldTree.{Content, Fields, Pieces, Module}
 use Rattle.wast_core.specs.ModuleSyntax.{wat}
 use Rattle.wasm_layout.specs.AbstractModule.{AbstractModule}
 use Rattle.wast_meant.specs.Means as worths

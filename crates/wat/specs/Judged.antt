@@ -3,7 +3,7 @@ use Rattle.std.specs.Prelude.{ℕ, ◌≡◌, false, List, Some, None}
 use Rattle.wast_grammar.specs.Tokens.{Name}
 use Rattle.wast_parser.specs.Problem.{is_memory}
 use Rattle.wast_names.specs.Demand.{Tells}
-use Rattle.wast_fields.specs.FieldTree.{Module}
+use Rattle.wast_field_syntax.specs.FieldTree.{Module}
 use Rattle.wasm_layout.specs.AbstractModule.{AbstractModule}
 use Rattle.wasm_layout.specs.Lays.{Fits}
 use Rattle.wast_encode.specs.Encoded.{StandsFor, IsBinaryOf}

@@ -1,7 +1,7 @@
 -- A law that the crate's law functions prove beside those that they hand on.
 use Rattle.std.specs.Prelude.{ℕ, ◌≡◌, List}
 use Rattle.wast_grammar.specs.Tokens.{Name, SignificantToken}
-use Rattle.wast_fields.specs.FieldTree.{Module}
+use Rattle.wast_field_syntax.specs.FieldTree.{Module}
 use Rattle.wast_core.specs.ModuleSyntax.{wat}
 
 -- No tokens spell two modules, places included.

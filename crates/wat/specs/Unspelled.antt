@@ -2,7 +2,7 @@
 use Rattle.std.specs.Prelude.{ℕ, ◌≡◌, ◌⊎◌, true, List}
 use Rattle.wast_grammar.specs.Tokens.{Name}
 use Rattle.wast_parser.specs.Problem.{Problem, is_memory}
-use Rattle.wast_fields.specs.FieldTree.{Module}
+use Rattle.wast_field_syntax.specs.FieldTree.{Module}
 use Rattle.wat_verdict.specs.Spells.{Spells}
 
 -- No memory was found, or the text spells no tree.

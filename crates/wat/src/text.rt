@@ -3,7 +3,7 @@ ghost use Rattle.std.specs.Prelude.{◌≡◌, ℕ, List, false, MatchResult};
 ghost use Rattle.wast_grammar.specs.Tokens.{Name};
 ghost use Rattle.wast_parser.specs.Table.{IsTable};
 ghost use Rattle.wast_parser.specs.Lawful.{Lawful};
-ghost use Rattle.wast_fields.specs.FieldTree as spec;
+ghost use Rattle.wast_field_syntax.specs.FieldTree as spec;
 ghost use Rattle.wast_core.specs.ModuleSyntax.{wat};
 ghost use Rattle.wast_core.specs.ModuleViews.{module_tree};
 ghost use Rattle.wat_verdict.specs.Registered.{registered};

@@ -16,8 +16,8 @@ use Rattle.wast_grammar.specs.Grammar.{Syntax, wide, paren, led, seq}
 use Rattle.wast_grammar.specs.Recursion.{deep}
 use Rattle.wast_grammar.proofs.GrammarLaws.{all_spelled}
 use Rattle.wast_parser.specs.Identifiers.{ByNumber}
-use Rattle.wast_core_types.specs.TypeTree.{TypeUse}
-use Rattle.wast_core_types.specs.TypeSyntax.{type_use}
+use Rattle.wast_signatures.specs.TypeTree.{TypeUse}
+use Rattle.wast_signatures.specs.TypeSyntax.{type_use}
 use Rattle.wast_mnemonics.specs.TextTable.{text_table}
 use Rattle.wast_mnemonics.specs.Heads.{chosen}
 use Rattle.wast_core_instr.specs.InstructionTree.{Operands, NoOperands, Label, Block, One, Instruction}
@@ -29,10 +29,10 @@ use Rattle.wast_expressions.specs.Expressions.{Heads, OfArms, Inside, Operand, A
 use Rattle.wast_expressions.specs.Laws.{kept, kept_heads, kept_made, WrittenFlat}
 use Rattle.wast_exports.specs.Exports.{inline_export}
 use Rattle.wast_imports.specs.ImportSyntax.{head}
-use Rattle.wast_fields.specs.FieldTree.{Expr, Function, Func, Definition, Define, Fields}
-use Rattle.wast_fields.specs.DefinitionSyntax.{expr}
-use Rattle.wast_fields.specs.FuncSyntax as plain
-use Rattle.wast_fields.proofs.ExpressionLaws.{expr_laws}
+use Rattle.wast_field_syntax.specs.FieldTree.{Expr, Function, Func, Definition, Define, Fields}
+use Rattle.wast_field_syntax.specs.DefinitionSyntax.{expr}
+use Rattle.wast_field_syntax.specs.FuncSyntax as plain
+use Rattle.wast_field_syntax.proofs.ExpressionLaws.{expr_laws}
 use Rattle.wat_laws.specs.Flat.{unchanged, IsFlat, function, func, content, wat}
 use Rattle.wat_laws.specs.Laws.{Flattened}
 use Rattle.wat_laws.specs.FlatExamples.{FlatExamples}

@@ -5,7 +5,7 @@ use Rattle.wast_grammar.specs.Tokens.{SignificantToken}
 use Rattle.wast_grammar.specs.Spelling as spelling
 use Rattle.wast_grammar.specs.Spelling.{Spells, that_one}
 use Rattle.wast_grammar.specs.Twins as twins
-use Rattle.wast_core_types.specs.TypeSyntax.{type_use}
+use Rattle.wast_signatures.specs.TypeSyntax.{type_use}
 use Rattle.wast_mnemonics.specs.Laws.{EveryWord}
 use Rattle.wast_core_instr.specs.InstructionTree.{Instruction}
 use Rattle.wast_core_instr.specs.InstructionSyntax.{instruction}
@@ -19,9 +19,10 @@ use Rattle.wast_expressions.proofs.Flat.{FlatTokens, flat_items, flat_unfolds, w
 use Rattle.wast_expressions.proofs.Folds.{folding}
 use Rattle.wast_exports.specs.Exports.{inline_export}
 use Rattle.wast_imports.specs.ImportSyntax.{head}
-use Rattle.wast_fields.specs.FieldTree.{Expr, Defined, Func, Definition, Field, Define, Content, Fields, Module, one_start}
-use Rattle.wast_fields.specs.DefinitionSyntax.{expr, as_definition}
-use Rattle.wast_fields.specs.FuncSyntax as plain
+use Rattle.wast_field_syntax.specs.FieldTree.{Expr, Defined, Func, Definition, Field, Define, Content, Fields, Module, one_start}
+use Rattle.wast_field_syntax.specs.DefinitionSyntax.{expr, as_definition}
+use Rattle.wast_field_syntax.specs.FuncSyntax as plain
+use Rattle.wast_core.specs.FieldSyntax as plain_fields
 use Rattle.wast_core.specs.ModuleSyntax as plain_texts
 use Rattle.wast_core.specs.ModuleSyntax.{as_module, as_fields}
 use Rattle.wat_laws.specs.Flat.{unchanged, IsFlat, function, func, field, content, module_form, bare_module, wat}
@@ -105,20 +106,20 @@ module _ {N : Type 0} (every : EveryWord) where
       let x = h.4 in
       (s.0, s.1, s.2, s.3, (b.0, b.1, (w.0, w.1, w.2, w.3, (h.0, h.1, h.2, h.3, (x.0, x.1, x.2, x.3, inr x.4)))))
 
-  as_field : (f : Field N ℕ) (ts : List (SignificantToken N ℕ)) → spelling.seen Define (spelling.paren own_parts) f ts → plain_texts.field.spells f ts
+  as_field : (f : Field N ℕ) (ts : List (SignificantToken N ℕ)) → spelling.seen Define (spelling.paren own_parts) f ts → plain_fields.field.spells f ts
   as_field f ts s = inr (inr (inr (inl (inl (s.0, s.1, own_func s.0 ts s.2)))))
 
-  func_field : Rewrites (plain_texts.field {N = N} {P = ℕ}).spells (twins.seen Define func)
+  func_field : Rewrites (plain_fields.field {N = N} {P = ℕ}).spells (twins.seen Define func)
   func_field =
       let g = seen_rewrites Define (spelling.paren own_parts) func func_rewrites in
       record { first = λ f ts us x. as_field f ts (g.first f ts us x); second = λ f ts us x. as_field f us (g.second f ts us x); within = g.within }
 
-  one_of : (f : Field N ℕ) (ts : List (SignificantToken N ℕ)) → spelling.either plain_texts.field.spells plain_texts.field.spells f ts → plain_texts.field.spells f ts
+  one_of : (f : Field N ℕ) (ts : List (SignificantToken N ℕ)) → spelling.either plain_fields.field.spells plain_fields.field.spells f ts → plain_fields.field.spells f ts
   one_of f ts s = elim s [ inl x ↦ x | inr y ↦ y ]
 
-  field_rewrites : Rewrites (plain_texts.field {N = N} {P = ℕ}).spells field
+  field_rewrites : Rewrites (plain_fields.field {N = N} {P = ℕ}).spells field
   field_rewrites =
-      let g = either_rewrites plain_texts.field.spells plain_texts.field.spells (twins.seen Define func) (unchanged plain_texts.field.spells) func_field (unchanged_rewrites plain_texts.field.spells) in
+      let g = either_rewrites plain_fields.field.spells plain_fields.field.spells (twins.seen Define func) (unchanged plain_fields.field.spells) func_field (unchanged_rewrites plain_fields.field.spells) in
       record { first = λ f ts us x. one_of f ts (g.first f ts us x); second = λ f ts us x. one_of f us (g.second f ts us x); within = g.within }
 
   -- MODULES AND TEXTS
@@ -126,7 +127,7 @@ module _ {N : Type 0} (every : EveryWord) where
   own_content = spelling.seen Fields plain_texts.fields.spells
 
   content_rewrites : Rewrites own_content (content {N = N} {P = ℕ})
-  content_rewrites = seen_rewrites Fields plain_texts.fields.spells _ (only_rewrites one_start (spelling.many plain_texts.field.spells) _ (many_rewrites plain_texts.field.spells field field_rewrites))
+  content_rewrites = seen_rewrites Fields plain_texts.fields.spells _ (only_rewrites one_start (spelling.many plain_fields.field.spells) _ (many_rewrites plain_fields.field.spells field field_rewrites))
 
   abbrev own_module : Spells N ℕ (Module N ℕ)
   own_module = spelling.seen as_module (spelling.next (spelling.token (that_one (codes "module"))) (λ _. spelling.next head.spells (λ _. own_content)))
@@ -145,7 +146,7 @@ module _ {N : Type 0} (every : EveryWord) where
       (s.0, s.1, s.2, s.3, (b.0, b.1, (w.0, w.1, w.2, w.3, (h.0, h.1, h.2, h.3, inr h.4))))
 
   bare_rewrites : Rewrites (plain_texts.bare_module {N = N} {P = ℕ}).spells bare_module
-  bare_rewrites = seen_rewrites as_fields _ _ (only_rewrites (λ fs. one_start (fs.0 ∷ fs.1)) _ _ (next_rewrites plain_texts.field.spells field (λ _. spelling.many plain_texts.field.spells) (λ _. twins.many field) field_rewrites (λ _. many_rewrites plain_texts.field.spells field field_rewrites)))
+  bare_rewrites = seen_rewrites as_fields _ _ (only_rewrites (λ fs. one_start (fs.0 ∷ fs.1)) _ _ (next_rewrites plain_fields.field.spells field (λ _. spelling.many plain_fields.field.spells) (λ _. twins.many field) field_rewrites (λ _. many_rewrites plain_fields.field.spells field field_rewrites)))
 
   as_text : (t : Module N ℕ) (ts : List (SignificantToken N ℕ)) → spelling.either (spelling.paren own_module) plain_texts.bare_module.spells t ts → plain_texts.wat.spells t ts
   as_text t ts s = elim s [ inl x ↦ inl (as_form t ts x) | inr y ↦ inr y ]

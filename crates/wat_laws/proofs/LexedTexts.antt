@@ -14,7 +14,7 @@ use Rattle.wast_lexer.proofs.ScanLaws.{sound}
 use Rattle.wast_grammar.specs.Tokens.{Name, Id, Word, Integer, is_whole}
 use Rattle.wast_grammar.specs.Significant.{TextToken, AreSignificant, significant}
 use Rattle.wast_grammar.proofs.SignificantLaws.{significant_law}
-use Rattle.wast_fields.specs.FieldTree.{Field, Fields, Module}
+use Rattle.wast_field_syntax.specs.FieldTree.{Field, Fields, Module}
 use Rattle.wat_verdict.specs.Registered.{registered}
 use Rattle.wat_laws.specs.Bounds.{WithinBounds}
 

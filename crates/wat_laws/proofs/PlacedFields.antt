@@ -12,10 +12,10 @@ use Rattle.wast_names.specs.Demand.{Complaint, Duplicate, Demand, is_met}
 use Rattle.wast_names.specs.Space as names
 use Rattle.wast_names.specs.Space.{name_in, denoted, last_counts}
 use Rattle.wast_value_types.specs.ValueTree.{HeapType, Abstract, Concrete, Exact, TableType}
-use Rattle.wast_core_types.specs.TypeTree.{Sig}
+use Rattle.wast_signatures.specs.TypeTree.{Sig}
 use Rattle.wast_exports.specs.Exports as exports
 use Rattle.wast_imports.specs.ImportTree.{Imports, ImportItems, Single, Group1, Group2}
-use Rattle.wast_fields.specs.FieldTree.{Defined, Imported, Func, Table, TableOf, Memory, MemoryOf, Global, Tag, Definition, Elem, Data, Elements, ElemMode, PassiveElem, DeclaredElem, ActiveElem, DataMode, PassiveData, ActiveData, Field, TypeField, RecField, ImportField, Define, ExportField, StartField, ElemField, DataField, CustomField, field_place}
+use Rattle.wast_field_syntax.specs.FieldTree.{Defined, Imported, Func, Table, TableOf, Memory, MemoryOf, Global, Tag, Definition, Elem, Data, Elements, ElemMode, PassiveElem, DeclaredElem, ActiveElem, DataMode, PassiveData, ActiveData, Field, TypeField, RecField, ImportField, Define, ExportField, StartField, ElemField, DataField, CustomField, field_place}
 use Rattle.wast_meaning.specs.Written.{space_of_kind, kind_of_type, kind_of}
 use Rattle.wast_meaning.specs.Mentions.{Part, Says, Refers, part_mentions, says, heap_mentions, import_mentions, elem_mode_parts, data_mode_parts, elements_parts}
 use Rattle.wast_meaning.specs.Spaces.{Bound, same_space, space_word, bound_segment, items, items_in, ids_in, fields_at, denotes, listed}

@@ -9,12 +9,12 @@ use Rattle.wasm_encoder_items.specs.Segments as segments
 use Rattle.wast_parser.specs.Identifiers.{Named, Reference, ByNumber, ByName}
 use Rattle.wast_names.specs.Space as names
 use Rattle.wast_value_types.specs.ValueTree.{HeapType, Abstract, Concrete, Exact, TableType}
-use Rattle.wast_core_types.specs.TypeTree.{Sig}
+use Rattle.wast_signatures.specs.TypeTree.{Sig}
 use Rattle.wast_customs.specs.CustomTree.{Custom}
 use Rattle.wast_exports.specs.Exports as exports
 use Rattle.wast_imports.specs.ImportTree.{ImportItems, Single, Group1, Group2}
 use Rattle.wast_data.specs.DataTree.{DataVal}
-use Rattle.wast_fields.specs.FieldTree.{Elements, Indices, Expressions, Defined, Imported, Func, Table, TableOf, Memory, MemoryOf, Global, Tag, ElemMode, PassiveElem, DeclaredElem, ActiveElem, DataMode, PassiveData, ActiveData, Field, TypeField, RecField, ImportField, Define, ExportField, StartField, ElemField, DataField, CustomField, field_place}
+use Rattle.wast_field_syntax.specs.FieldTree.{Elements, Indices, Expressions, Defined, Imported, Func, Table, TableOf, Memory, MemoryOf, Global, Tag, ElemMode, PassiveElem, DeclaredElem, ActiveElem, DataMode, PassiveData, ActiveData, Field, TypeField, RecField, ImportField, Define, ExportField, StartField, ElemField, DataField, CustomField, field_place}
 use Rattle.wast_meaning.specs.Written.{space_of_kind}
 use Rattle.wast_meaning.specs.Implied.{implied, type_taken}
 use Rattle.wast_meaning.specs.Scope.{Scope, scope_of}

@@ -6,8 +6,8 @@ use Rattle.wast_grammar.specs.Tokens.{Name}
 use Rattle.wast_grammar.specs.Spelling.{same_name}
 use Rattle.wast_grammar.specs.Significant.{TextToken, AreSignificant}
 use Rattle.wast_grammar.proofs.SignificantLaws.{one_list}
-use Rattle.wast_fields.specs.FieldTree.{Content, Fields, Module}
-use Rattle.wast_fields.specs.FieldTree as fields
+use Rattle.wast_field_syntax.specs.FieldTree.{Content, Fields, Module}
+use Rattle.wast_field_syntax.specs.FieldTree as fields
 use Rattle.wast_core.specs.ModuleSyntax.{wat}
 use Rattle.wast_meaning.specs.Made.{is_made}
 use Rattle.wast_meaning.specs.Numbered.{resolved}

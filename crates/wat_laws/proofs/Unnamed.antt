@@ -3,8 +3,8 @@ use Rattle.std.proofs.Common.{◌≡◌, ℕ, List, ◌++◌, Option, refl, sym,
 use Rattle.std.specs.List.{flat_map}
 use Rattle.wast_grammar.specs.Tokens.{Name}
 use Rattle.wast_grammar.specs.Spelling.{same_name}
-use Rattle.wast_fields.specs.FieldTree.{Field, Content, Fields}
-use Rattle.wast_fields.specs.FieldTree as fields
+use Rattle.wast_field_syntax.specs.FieldTree.{Field, Content, Fields}
+use Rattle.wast_field_syntax.specs.FieldTree as fields
 use Rattle.wast_meaning.specs.Made.{is_made}
 use Rattle.wast_meaning.specs.Numbered.{resolved}
 use Rattle.wasm_encoder.specs.Module.{header}

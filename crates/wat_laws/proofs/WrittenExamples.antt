@@ -14,7 +14,7 @@ use Rattle.wast_parser.specs.Identifiers.{ByName}
 use Rattle.wast_mnemonics.specs.TextTable.{text_table}
 use Rattle.wast_exports.specs.Exports as exports
 use Rattle.wast_data.specs.DataTree as values
-use Rattle.wast_fields.specs.FieldTree.{Func, Memory, MemoryOf, ActiveData, Field, Define, ExportField, DataField}
+use Rattle.wast_field_syntax.specs.FieldTree.{Func, Memory, MemoryOf, ActiveData, Field, Define, ExportField, DataField}
 use Rattle.wast_core.specs.ModuleSyntax.{wat}
 use Rattle.wast_core.proofs.ModuleLaws.{wat_laws}
 use Rattle.wast_meaning.specs.Written.{zero_offset, exactly}

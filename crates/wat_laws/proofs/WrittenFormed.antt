@@ -12,11 +12,12 @@ use Rattle.wast_names.specs.Walk.{walked}
 use Rattle.wast_names.specs.Demand.{is_met}
 use Rattle.wast_value_types.specs.ValueTree.{HeapType, Abstract, Concrete, Exact}
 use Rattle.wast_value_types.specs.ValueSyntax.{exponent_below, exponent, page_size}
-use Rattle.wast_fields.specs.FieldTree.{Elements, Defined, Definition, ElemMode, PassiveElem, DeclaredElem, ActiveElem, DataMode, PassiveData, ActiveData, Field, TypeField, RecField, ImportField, Define, ExportField, StartField, ElemField, DataField, CustomField, is_start, no_start, one_start, field_place, Content, Fields, Pieces, Module}
-use Rattle.wast_fields.specs.DefinitionSyntax.{definition}
-use Rattle.wast_fields.specs.FuncSyntax.{func_defined, global_defined, tag_defined}
-use Rattle.wast_fields.specs.TableSyntax.{memory_with, memory_defined, table_with, table_defined}
-use Rattle.wast_core.specs.ModuleSyntax.{field, wat}
+use Rattle.wast_field_syntax.specs.FieldTree.{Elements, Defined, Definition, ElemMode, PassiveElem, DeclaredElem, ActiveElem, DataMode, PassiveData, ActiveData, Field, TypeField, RecField, ImportField, Define, ExportField, StartField, ElemField, DataField, CustomField, is_start, no_start, one_start, field_place, Content, Fields, Pieces, Module}
+use Rattle.wast_field_syntax.specs.DefinitionSyntax.{definition}
+use Rattle.wast_field_syntax.specs.FuncSyntax.{func_defined, global_defined, tag_defined}
+use Rattle.wast_field_syntax.specs.TableSyntax.{memory_with, memory_defined, table_with, table_defined}
+use Rattle.wast_core.specs.FieldSyntax.{field}
+use Rattle.wast_core.specs.ModuleSyntax.{wat}
 use Rattle.wast_meaning.specs.Written.{zero_offset, field_out, written_from, written_out}
 use Rattle.wast_meaning.specs.Mentions.{Part, Constant, heap_mentions, says, elements_parts, defined_parts, elem_mode_parts, data_mode_parts, parts}
 use Rattle.wast_meaning.specs.Scope.{Scope, scope_of}

@@ -10,7 +10,7 @@ use Rattle.wast_grammar.specs.Alike.{move, Fits, Matched, Carries, name_pair, na
 use Rattle.wast_grammar.proofs.Decide.{names_decide}
 use Rattle.wast_grammar.proofs.Extend.{extend}
 use Rattle.wast_parser.specs.Identifiers.{Named}
-use Rattle.wast_fields.specs.FieldTree.{Defined, Imported, Func, Table, TableOf, Memory, MemoryOf, Global, Tag, Field, TypeField, RecField, ImportField, Define, ExportField, StartField, ElemField, DataField, CustomField}
+use Rattle.wast_field_syntax.specs.FieldTree.{Defined, Imported, Func, Table, TableOf, Memory, MemoryOf, Global, Tag, Field, TypeField, RecField, ImportField, Define, ExportField, StartField, ElemField, DataField, CustomField}
 use Rattle.wast_meaning.specs.Written.{definition_out, field_out, written_from, written_out, takes_name, by_counter}
 use Rattle.wast_meaning.specs.Fresh.{taken_from, are_distinct, are_new}
 use Rattle.wast_meaning.specs.Made.{made, is_made}

@@ -9,7 +9,7 @@ use Rattle.wast_grammar.specs.Significant.{TextToken}
 use Rattle.wast_grammar.specs.Alike.{move}
 use Rattle.wast_names.specs.Walk.{first_unmet}
 use Rattle.wast_names.specs.Demand.{Demand, is_met}
-use Rattle.wast_fields.specs.FieldTree.{Field, Fields, Module}
+use Rattle.wast_field_syntax.specs.FieldTree.{Field, Fields, Module}
 use Rattle.wast_meaning.specs.Written.{has_any, written_out, by_counter}
 use Rattle.wast_meaning.specs.Spaces.{items}
 use Rattle.wast_meaning.specs.Scope.{scope_of}

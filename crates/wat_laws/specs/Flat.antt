@@ -4,7 +4,7 @@ use Rattle.std.specs.Prelude.{◌≡◌, List, [], ◌∷◌, map, codes}
 use Rattle.wast_grammar.specs.Tokens.{SignificantToken}
 use Rattle.wast_grammar.specs.Spelling.{Spells, that_one}
 use Rattle.wast_grammar.specs.Twins.{Pairs, token, next, seen, only, many, either, paren}
-use Rattle.wast_core_types.specs.TypeSyntax.{type_use}
+use Rattle.wast_signatures.specs.TypeSyntax.{type_use}
 use Rattle.wast_core_instr.specs.InstructionTree.{Instruction}
 use Rattle.wast_core_instr.specs.InstructionSyntax.{instruction}
 use Rattle.wast_core_instr.specs.InstructionGroups.{instruction_heads, instruction_made}
@@ -13,10 +13,10 @@ use Rattle.wast_expressions.specs.Expressions.{items}
 use Rattle.wast_expressions.specs.Laws.{kept, kept_heads, kept_made, without_tokens, WrittenFlat}
 use Rattle.wast_exports.specs.Exports.{inline_export}
 use Rattle.wast_imports.specs.ImportSyntax.{head}
-use Rattle.wast_fields.specs.FieldTree.{Expr, Function, Func, Definition, Field, Define, Content, Fields, Module, one_start}
-use Rattle.wast_fields.specs.DefinitionSyntax.{expr, as_definition}
-use Rattle.wast_fields.specs.FuncSyntax as plain
-use Rattle.wast_core.specs.ModuleSyntax as plain_texts
+use Rattle.wast_field_syntax.specs.FieldTree.{Expr, Function, Func, Definition, Field, Define, Content, Fields, Module, one_start}
+use Rattle.wast_field_syntax.specs.DefinitionSyntax.{expr, as_definition}
+use Rattle.wast_field_syntax.specs.FuncSyntax as plain
+use Rattle.wast_core.specs.FieldSyntax as plain_fields
 use Rattle.wast_core.specs.ModuleSyntax.{as_module, as_fields}
 
 module _ {N P : Type 0} where
@@ -43,7 +43,7 @@ module _ {N P : Type 0} where
 
   -- FIELDS (6.6.14), any of which may stay as it is
   abbrev pub field : Pairs N P (Field N P)
-  field = either (seen Define func) (unchanged plain_texts.field.spells)
+  field = either (seen Define func) (unchanged plain_fields.field.spells)
 
   abbrev pub content : Pairs N P (Content N P)
   content = seen Fields (only one_start (many field))

@@ -3,8 +3,8 @@ use Rattle.std.specs.Prelude.{ℕ, ◌≡◌, ◌↔◌, false, List, []}
 use Rattle.wast_grammar.specs.Tokens.{Name}
 use Rattle.wast_grammar.specs.Significant.{TextToken, AreSignificant}
 use Rattle.wast_grammar.specs.Alike.{Alike, Same, names}
-use Rattle.wast_fields.specs.FieldTree.{Expr, Module}
-use Rattle.wast_fields.specs.DefinitionSyntax.{expr}
+use Rattle.wast_field_syntax.specs.FieldTree.{Expr, Module}
+use Rattle.wast_field_syntax.specs.DefinitionSyntax.{expr}
 use Rattle.wast_meant.specs.Means.{Worth, IsWorth}
 use Rattle.wat_verdict.specs.Registered.{registered}
 use Rattle.wat_verdict.specs.Spells.{Spells}

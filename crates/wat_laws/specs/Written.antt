@@ -8,7 +8,7 @@ use Rattle.wast_grammar.specs.Alike.{move, names}
 use Rattle.wast_parser.specs.Identifiers.{Named, Reference, ByNumber, ByName}
 use Rattle.wast_value_types.specs.ValueTree.{HeapType, Abstract, Concrete, Exact, TableType}
 use Rattle.wast_imports.specs.ImportTree.{ImportItems, Single, Group1, Group2}
-use Rattle.wast_fields.specs.FieldTree.{Defined, Table, Memory, ElemMode, PassiveElem, DeclaredElem, ActiveElem, DataMode, PassiveData, ActiveData, Field, TypeField, RecField, ImportField, Define, ExportField, StartField, ElemField, DataField, CustomField, Fields, Module}
+use Rattle.wast_field_syntax.specs.FieldTree.{Defined, Table, Memory, ElemMode, PassiveElem, DeclaredElem, ActiveElem, DataMode, PassiveData, ActiveData, Field, TypeField, RecField, ImportField, Define, ExportField, StartField, ElemField, DataField, CustomField, Fields, Module}
 use Rattle.wast_core.specs.ModuleSyntax.{wat}
 use Rattle.wast_meaning.specs.Written.{written_out}
 use Rattle.wast_meaning.specs.Fresh.{taken_from, are_new, is_fresh}

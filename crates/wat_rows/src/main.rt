@@ -9,37 +9,21 @@
 //! - of `at N: TEXT`, a fault at the byte N of this text, told so;
 //! - of `faults:`, each fault in one line;
 //! - of a line that begins with `#` nothing: it names what the rows below it are of.
-//!
-//! With the argument `measure` it measures the assembler and its parts instead.
 #![tactic(auto)]
 
-mod bench;
 mod pairs;
 
 use std::alloc::{AllocError, Global};
-use std::{env, io};
+use std::io;
 use wat::{Error, Fault, Span, assemble, render};
 
 fn main(rt: HostRuntime) -> io::Result<()> {
-    if is_told_to_measure(&rt)? {
-        return bench::measure_texts(&rt);
-    }
     for line in rt.lines(rt.alloc()) {
         let line = line?;
         println!(rt; "{line}")?;
         answer(&rt, line.as_str())?;
     }
     Ok(())
-}
-
-fn is_told_to_measure(rt: &HostRuntime) -> io::Result<bool> {
-    let mut told = false;
-    for word in env::args(rt)? {
-        if word.as_str() == "measure" {
-            told = true;
-        }
-    }
-    Ok(told)
 }
 
 /// Prints what becomes of a row.

@@ -13,8 +13,8 @@ use Rattle.wast_grammar.specs.Alike.{Fits, Matched, Carries, Same, Alike, name_p
 use Rattle.wast_grammar.proofs.Decide.{rising_match}
 use Rattle.wast_grammar.proofs.Extend.{extend}
 use Rattle.wast_names.specs.Demand.{Complaint, Demand}
-use Rattle.wast_fields.specs.FieldTree.{Content, Fields, Module}
-use Rattle.wast_fields.specs.FieldTree as fields
+use Rattle.wast_field_syntax.specs.FieldTree.{Content, Fields, Module}
+use Rattle.wast_field_syntax.specs.FieldTree as fields
 use Rattle.wast_meaning.specs.Made.{made, is_made}
 use Rattle.wast_meaning.specs.Numbered.{resolved}
 use Rattle.wast_core.specs.ModuleSyntax.{wat}

@@ -17,7 +17,7 @@ use Rattle.wast_parser.specs.Reading.{ReadsAll, ReadsNotAll}
 use Rattle.wast_grammar.proofs.GrammarLaws.{unread, left_over}
 use Rattle.wast_grammar.proofs.Readings.{read_all, one_reading}
 use Rattle.wast_grammar.proofs.SignificantLaws.{significant_law}
-use Rattle.wast_fields.specs.FieldTree.{Module}
+use Rattle.wast_field_syntax.specs.FieldTree.{Module}
 use Rattle.wast_core.specs.ModuleSyntax.{wat}
 use Rattle.wast_core.proofs.ModuleLaws.{wat_laws}
 use Rattle.wat_verdict.specs.Registered.{registered}

@@ -17,7 +17,7 @@ use Rattle.wast_lexer.proofs.TilingLaws.{once, tile_once}
 use Rattle.wast_grammar.specs.Significant.{TextToken, token_of, is_trivia, is_lparen, is_unknown, begins_unknown, behind, shown, significant, AreSignificant}
 use Rattle.wast_grammar.proofs.SignificantLaws.{significant_law}
 use Rattle.wast_grammar.specs.Tokens.{Name}
-use Rattle.wast_fields.specs.FieldTree.{Module}
+use Rattle.wast_field_syntax.specs.FieldTree.{Module}
 use Rattle.wast_meant.specs.Means.{Worth, Stands, Pieces, IsWorth}
 use Rattle.wat_verdict.specs.Registered.{registered}
 use Rattle.wat_verdict.specs.Spells.{Spells}

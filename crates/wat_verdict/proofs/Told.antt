@@ -7,8 +7,8 @@ use Rattle.wast_grammar.specs.Significant.{TextToken}
 use Rattle.wast_grammar.proofs.GrammarLaws.{all_read, all_spelled}
 use Rattle.wast_names.specs.Walk.{first_unmet}
 use Rattle.wast_names.specs.Demand.{Complaint, is_met}
-use Rattle.wast_fields.specs.FieldTree.{Field, Content, Fields, Module}
-use Rattle.wast_fields.specs.FieldTree as fields
+use Rattle.wast_field_syntax.specs.FieldTree.{Field, Content, Fields, Module}
+use Rattle.wast_field_syntax.specs.FieldTree as fields
 use Rattle.wast_core.specs.ModuleSyntax.{wat}
 use Rattle.wast_core.proofs.ModuleLaws.{wat_laws}
 use Rattle.wast_meaning.specs.Demands.{all_demands}

@@ -9,8 +9,8 @@ use Rattle.wast_grammar.specs.Tokens.{Name}
 use Rattle.wast_grammar.specs.Spelling.{same_name}
 use Rattle.wast_names.specs.Walk.{first_unmet}
 use Rattle.wast_names.specs.Demand.{Complaint, Demand, is_met}
-use Rattle.wast_fields.specs.FieldTree.{Content, Fields, Module}
-use Rattle.wast_fields.specs.FieldTree as fields
+use Rattle.wast_field_syntax.specs.FieldTree.{Content, Fields, Module}
+use Rattle.wast_field_syntax.specs.FieldTree as fields
 use Rattle.wast_meaning.specs.Demands.{all_demands}
 use Rattle.wast_meaning.specs.Modules.{content_fields}
 use Rattle.wast_meaning.specs.Numbered.{resolved}

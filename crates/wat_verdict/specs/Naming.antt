@@ -4,7 +4,7 @@ use Rattle.wast_grammar.specs.Tokens.{Name}
 use Rattle.wast_grammar.specs.Spelling.{same_name}
 use Rattle.wast_names.specs.Walk.{first_unmet}
 use Rattle.wast_names.specs.Demand.{Demand, is_met}
-use Rattle.wast_fields.specs.FieldTree.{Field, Module}
+use Rattle.wast_field_syntax.specs.FieldTree.{Field, Module}
 use Rattle.wast_meaning.specs.Modules.{content_fields}
 use Rattle.wast_meaning.specs.Demands.{all_demands}
 use Rattle.wast_meaning.specs.Written.{by_counter}

@@ -5,7 +5,7 @@ use Rattle.wast_parser.specs.Look.{NotEnd}
 use Rattle.wast_parser.specs.Grammar.{Syntax}
 use Rattle.wast_parser.specs.Behind.{ended}
 use Rattle.wast_parser.specs.Significant.{TextToken, AreSignificant}
-use Rattle.wast_fields.specs.FieldTree.{Module}
+use Rattle.wast_field_syntax.specs.FieldTree.{Module}
 use Rattle.wast_core.specs.ModuleSyntax.{wat}
 use Rattle.wat_verdict.specs.Registered.{registered}
 

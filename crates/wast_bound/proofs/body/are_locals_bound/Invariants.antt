@@ -1,7 +1,7 @@
 use Rattle.std.proofs.Common.{◌≡◌, map}
 use Rattle.std.specs.List.{flat_map}
 use Rattle.wast_grammar.specs.Spelling.{same_name}
-use Rattle.wast_fields.specs.FieldViews.{local_tree}
+use Rattle.wast_fields.specs.FuncViews.{local_tree}
 use Rattle.wast_meaning.specs.Demands.{mention_demands}
 use Rattle.wast_meaning.specs.Mentions.{local_mentions, val_mentions}
 use Rattle.wast_bound.specs.Bound.{are_kept}

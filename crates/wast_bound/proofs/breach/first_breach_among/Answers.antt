@@ -2,7 +2,7 @@ use Rattle.std.proofs.Common.{◌||◌, false, map, slice_get, ap, ◌∙◌}
 use Rattle.wast_grammar.specs.Spelling.{same_name}
 use Rattle.wast_fields.specs.FieldTree.{is_start}
 use Rattle.wast_names.specs.Walk.{walked}
-use Rattle.wast_core.specs.ModuleViews.{field_tree}
+use Rattle.wast_core.specs.ModuleFieldViews.{field_tree}
 use Rattle.wast_meaning.specs.Scope.{scope_of}
 use Rattle.wast_meaning.specs.WellFormed.{breach}
 use Rattle.wast_meaning.specs.Made.{is_made}

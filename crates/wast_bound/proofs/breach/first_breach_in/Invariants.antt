@@ -3,7 +3,7 @@ use Rattle.std.specs.Prelude.{slice_get}
 use Rattle.wast_grammar.specs.Spelling.{same_name}
 use Rattle.wast_names.specs.Walk.{walked}
 use Rattle.wast_fields.specs.FieldTree.{is_start}
-use Rattle.wast_core.specs.ModuleViews.{field_tree}
+use Rattle.wast_core.specs.ModuleFieldViews.{field_tree}
 use Rattle.wast_meaning.specs.WellFormed.{breach}
 use Rattle.wast_meaning.specs.Made.{is_made}
 use Rattle.wast_bound.proofs.breach.first_breach_in.Given as goal

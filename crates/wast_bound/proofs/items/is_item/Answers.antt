@@ -1,6 +1,6 @@
 use Rattle.std.proofs.Common.{sym, ◌∙◌}
 use Rattle.wast_parser.specs.Identifiers.{identifier_tree}
-use Rattle.wast_core.specs.ModuleViews.{field_tree}
+use Rattle.wast_core.specs.ModuleFieldViews.{field_tree}
 use Rattle.wast_meaning.specs.Spaces.{items}
 use Rattle.wast_meaning.specs.Views.{space_view}
 use Rattle.wast_bound.specs.Bound.{joins}

@@ -1,6 +1,6 @@
 use Rattle.std.proofs.Common.{◌∙◌}
 use Rattle.wast_grammar.specs.Spelling.{same_name}
-use Rattle.wast_core.specs.ModuleViews.{field_tree}
+use Rattle.wast_core.specs.ModuleFieldViews.{field_tree}
 use Rattle.wast_meaning.specs.Demands.{part_demands}
 use Rattle.wast_meaning.specs.Mentions.{parts}
 use Rattle.wast_bound.proofs.Kept.{judged_all}

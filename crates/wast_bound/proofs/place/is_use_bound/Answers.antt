@@ -1,6 +1,6 @@
 use Rattle.std.proofs.Common.{◌∙◌}
 use Rattle.wast_grammar.specs.Spelling.{same_name}
-use Rattle.wast_core_types.specs.TypeViews.{use_tree}
+use Rattle.wast_signatures.specs.SignatureViews.{use_tree}
 use Rattle.wast_meaning.specs.Demands.{says_demands}
 use Rattle.wast_meaning.specs.Mentions.{use_mentions}
 use Rattle.wast_bound.proofs.Kept.{judged_all, use_kept}

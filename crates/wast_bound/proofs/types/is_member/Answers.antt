@@ -1,6 +1,6 @@
 use Rattle.std.proofs.Common.{map, ◌∙◌}
 use Rattle.wast_parser.specs.Identifiers.{identifier_tree}
-use Rattle.wast_core.specs.ModuleViews.{field_tree}
+use Rattle.wast_core.specs.ModuleFieldViews.{field_tree}
 use Rattle.wast_bound.proofs.TypesMeant.{member_numbered, member_named}
 use Rattle.wast_bound.proofs.types.is_member.Goals as goal
 

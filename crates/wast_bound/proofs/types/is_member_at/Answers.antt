@@ -2,7 +2,7 @@ use Rattle.std.proofs.Common.{ℕ, map, refl, ◌-◌, ◌+◌, ◌∙◌, ap, a
 use Rattle.std.specs.Prelude.{slice_get}
 use Rattle.std.specs.List.{flat_map}
 use Rattle.wast_parser.specs.Identifiers.{identifier_tree}
-use Rattle.wast_core.specs.ModuleViews.{field_tree}
+use Rattle.wast_core.specs.ModuleFieldViews.{field_tree}
 use Rattle.wast_bound.specs.Bound.{has, types}
 use Rattle.wast_bound.proofs.TypeWalk.{types_from, number_here, number_past}
 use Rattle.wast_bound.proofs.types.is_member_at.Goals as goal

@@ -1,7 +1,7 @@
 use Rattle.std.proofs.Common.{◌≡◌, map}
 use Rattle.std.specs.Prelude.{slice_get}
 use Rattle.std.specs.List.{flat_map}
-use Rattle.wast_core.specs.ModuleViews.{field_tree}
+use Rattle.wast_core.specs.ModuleFieldViews.{field_tree}
 use Rattle.wast_bound.specs.Bound.{types}
 use Rattle.wast_bound.proofs.TypeWalk.{types_from}
 use Rattle.wast_bound.proofs.types.is_member_at.Given as goal

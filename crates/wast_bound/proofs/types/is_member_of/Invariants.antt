@@ -3,8 +3,8 @@ use Rattle.std.specs.List.{find, flat_map}
 use Rattle.wast_grammar.specs.Tokens.{Name}
 use Rattle.wast_grammar.specs.Spelling.{same_name}
 use Rattle.wast_parser.specs.Identifiers.{identifier_tree}
-use Rattle.wast_core_types.specs.TypeTree.{TypeItem}
-use Rattle.wast_core.specs.ModuleViews.{field_tree}
+use Rattle.wast_signatures.specs.TypeTree.{TypeItem}
+use Rattle.wast_core.specs.ModuleFieldViews.{field_tree}
 use Rattle.wast_names.specs.Position.{bears}
 use Rattle.wast_names.specs.Space.{name_in}
 use Rattle.wast_bound.specs.Bound.{types}

@@ -2,7 +2,7 @@ use Rattle.std.proofs.Common.{◌≡◌, map, ap, subst, ◌∙◌}
 use Rattle.std.specs.List.{AllByRecursion}
 use Rattle.wasm_encoder_base.specs.Types.{IsValType}
 use Rattle.wasm_encoder_base.specs.Views.{val_view}
-use Rattle.wast_core_types.specs.TypeViews.{param_tree, sig_tree}
+use Rattle.wast_signatures.specs.SignatureViews.{param_tree, sig_tree}
 use Rattle.wast_value_types.specs.ValueViews.{val_tree}
 use Rattle.wast_conversions.specs.Types.{val_meant}
 use Rattle.wast_conversions.proofs.Each.{anyway}

@@ -1,7 +1,7 @@
 use Rattle.std.proofs.Common.{◌≡◌, ◌<◌, map, length, slice_index_or, arith}
 use Rattle.wasm_encoder_base.specs.Types.{IsValType}
 use Rattle.wasm_encoder_base.specs.Views.{val_view}
-use Rattle.wast_core_types.specs.TypeViews.{param_tree}
+use Rattle.wast_signatures.specs.SignatureViews.{param_tree}
 use Rattle.wast_conversions.specs.Types.{val_meant}
 use Rattle.wast_conversions.specs.Resolved.{ValResolved}
 use Rattle.wast_conversions.specs.Covered.{val_forms}

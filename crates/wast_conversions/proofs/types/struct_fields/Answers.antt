@@ -1,7 +1,7 @@
 use Rattle.std.proofs.Common.{◌≡◌, ◌<◌, map, length, slice_index_or, arith}
 use Rattle.wasm_encoder_base.specs.Types.{IsStorageType}
 use Rattle.wasm_encoder_base.specs.Views.{field_view}
-use Rattle.wast_core_types.specs.TypeViews.{struct_field_tree}
+use Rattle.wast_signatures.specs.SignatureViews.{struct_field_tree}
 use Rattle.wast_conversions.specs.Types.{field_meant}
 use Rattle.wast_conversions.specs.Resolved.{StorageResolved}
 use Rattle.wast_conversions.specs.Covered.{storage_forms}

@@ -1,6 +1,6 @@
 use Rattle.std.proofs.Common.{◌≡◌, map, drop, cond}
-use Rattle.wast_fields.specs.FieldTree.{one_start, no_start}
-use Rattle.wast_core.specs.ModuleViews.{field_tree}
+use Rattle.wast_module_fields.specs.FieldTree.{one_start, no_start}
+use Rattle.wast_module_fields.specs.ModuleFieldViews.{field_tree}
 use Rattle.wast_core.proofs.module.second_start.Given as goal
 
 abbrev pub invariant-loop-field : goal.invariant-loop-field

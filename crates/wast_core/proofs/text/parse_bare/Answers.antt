@@ -1,8 +1,8 @@
 use Rattle.std.proofs.Common.{map}
 use Rattle.wast_parser.specs.State.{ahead}
 use Rattle.wast_parser.specs.Grammar.{seq, many}
-use Rattle.wast_core.specs.ModuleSyntax.{field_starts, field}
-use Rattle.wast_core.specs.ModuleViews.{field_tree}
+use Rattle.wast_module_fields.specs.FieldSyntax.{field_starts, field}
+use Rattle.wast_module_fields.specs.ModuleFieldViews.{field_tree}
 use Rattle.wast_core.proofs.Alone.{of_list, none_listed}
 use Rattle.wast_core.proofs.text.parse_bare.Goals as goal
 

@@ -1,7 +1,7 @@
 use Rattle.std.proofs.Common.{◌≡◌, ℕ, Some, sym, subst, ap, ◌∙◌}
 use Rattle.wasm_encoder_base.specs.OperandSyntax.{MemLane}
-use Rattle.wast_parser.specs.State.{ahead}
-use Rattle.wast_parser.specs.Reading.{Refuses}
+use Rattle.wast_typed_operands.specs.State.{ahead}
+use Rattle.wast_typed_operands.specs.Reading.{Refuses}
 use Rattle.wast_operands.specs.OperandSyntax.{mem_arg_lane}
 use Rattle.wast_mnemonics.specs.TextTable.{Listed}
 use Rattle.wast_core_instr.specs.InstructionTree.{MemoryLane}

@@ -1,6 +1,6 @@
 use Rattle.std.proofs.Common.{◌≡◌, length}
 use Rattle.wast_parser.specs.State.{ahead, Keeps}
-use Rattle.wast_core_types.specs.TypeSyntax.{comp_type}
+use Rattle.wast_signatures.specs.TypeSyntax.{comp_type}
 use Rattle.wast_core_types.specs.Depths.{within}
 use Rattle.wast_core_types.proofs.composite.open_shared.Given as goal
 

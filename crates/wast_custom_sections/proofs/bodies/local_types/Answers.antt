@@ -1,5 +1,5 @@
 use Rattle.std.proofs.Common.{◌≡◌, ◌<◌, length, slice_index_or, arith}
-use Rattle.wast_fields.specs.FieldViews.{local_tree}
+use Rattle.wast_module_fields.specs.FuncViews.{local_tree}
 use Rattle.wast_conversions.specs.Resolved.{ValResolved}
 use Rattle.wast_conversions.specs.Covered.{val_forms}
 use Rattle.wast_conversions.proofs.Each.{of_item, none_of_item}

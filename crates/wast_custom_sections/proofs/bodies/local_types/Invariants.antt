@@ -1,6 +1,6 @@
 use Rattle.std.proofs.Common.{◌≡◌, map, take}
 use Rattle.wasm_encoder_base.specs.Views.{val_view}
-use Rattle.wast_fields.specs.FieldViews.{local_tree}
+use Rattle.wast_module_fields.specs.FuncViews.{local_tree}
 use Rattle.wast_conversions.specs.Types.{val_meant}
 use Rattle.wast_custom_sections.proofs.bodies.local_types.Given as goal
 

@@ -1,7 +1,7 @@
 use Rattle.std.proofs.Common.{◌∙◌, length, map, ap, arith}
 use Rattle.wast_expressions.specs.Partial.{hint_tree}
 use Rattle.wast_core_instr.specs.ExpressionViews.{expression_tree}
-use Rattle.wast_fields.specs.FieldViews.{local_tree}
+use Rattle.wast_module_fields.specs.FuncViews.{local_tree}
 use Rattle.wast_custom_sections.specs.Hinted.{places_of, among, body_meant}
 use Rattle.wast_custom_sections.proofs.Begin.{places_count, all_among}
 use Rattle.wast_custom_sections.proofs.bodies.placed_hints.Goals as goal

@@ -1,6 +1,6 @@
 use Rattle.std.proofs.Common.{[], ◌∷◌, ◌++◌, length, map, refl, ap, ◌∙◌, arith}
 use Rattle.std.proofs.lemmas.Result.{err_from_is_err_and}
-use Rattle.wast_fields.specs.FieldViews.{local_tree}
+use Rattle.wast_module_fields.specs.FuncViews.{local_tree}
 use Rattle.wast_conversions.specs.Types.{val_meant}
 use Rattle.wast_custom_sections.proofs.Begin.{all_places, end_fits, end_room}
 use Rattle.wast_custom_sections.proofs.Errors.{same_error}

@@ -3,7 +3,7 @@ use Rattle.wasm_encoder_base.specs.Views.{val_view}
 use Rattle.wasm_encoder_code.specs.Body.{locals_bytes}
 use Rattle.wasm_encoder_code.specs.Locals.{LocalsFit}
 use Rattle.wasm_encoder_code.specs.Sink.{IsMade}
-use Rattle.wast_fields.specs.FieldViews.{local_tree}
+use Rattle.wast_module_fields.specs.FuncViews.{local_tree}
 use Rattle.wast_conversions.specs.Types.{val_meant}
 use Rattle.wast_custom_sections.proofs.bodies.with_locals.Goals as goal
 

@@ -4,7 +4,7 @@ use Rattle.std.proofs.lemmas.Result.{err_from_is_err_and}
 use Rattle.wasm_layout.specs.Layout.{Free, piece_bytes}
 use Rattle.wast_customs.specs.CustomViews.{place_tree}
 use Rattle.wast_customs.proofs.Encodings.{encodes_as}
-use Rattle.wast_core.specs.ModuleViews.{field_tree}
+use Rattle.wast_module_fields.specs.ModuleFieldViews.{field_tree}
 use Rattle.wast_custom_sections.specs.Parts.{AreCustom, sections_at}
 use Rattle.wast_custom_sections.proofs.Errors.{same_error}
 use Rattle.wast_custom_sections.proofs.Placed.{are_custom, pieces_fit, customs_fit}

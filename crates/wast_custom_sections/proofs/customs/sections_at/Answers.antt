@@ -3,8 +3,8 @@ use Rattle.std.proofs.lemmas.Result.{err_from_is_err_and}
 use Rattle.wast_grammar.specs.Tokens.{Name}
 use Rattle.wasm_encoder_custom.specs.Custom.{Custom, CustomFits}
 use Rattle.wast_customs.specs.CustomViews.{place_tree}
-use Rattle.wast_fields.specs.FieldTree.{Field}
-use Rattle.wast_core.specs.ModuleViews.{field_tree}
+use Rattle.wast_module_fields.specs.FieldTree.{Field}
+use Rattle.wast_module_fields.specs.ModuleFieldViews.{field_tree}
 use Rattle.wast_custom_sections.specs.Parts.{section_bytes, sections_at}
 use Rattle.wast_custom_sections.proofs.Errors.{same_error}
 use Rattle.wast_custom_sections.proofs.Placed.{places_append}

@@ -2,7 +2,7 @@ use Rattle.std.proofs.Common.{◌≡◌, map, take, flat_map}
 use Rattle.std.specs.Prelude.{All}
 use Rattle.wasm_encoder_custom.specs.Custom.{CustomFits}
 use Rattle.wast_customs.specs.CustomViews.{place_tree}
-use Rattle.wast_core.specs.ModuleViews.{field_tree}
+use Rattle.wast_module_fields.specs.ModuleFieldViews.{field_tree}
 use Rattle.wast_custom_sections.specs.Parts.{section_bytes, sections_at}
 use Rattle.wast_custom_sections.proofs.customs.sections_at.Given as goal
 

@@ -1,6 +1,6 @@
 use Rattle.std.proofs.Common.{◌≡◌, ◌+◌, map, take, drop, flat_map}
 use Rattle.std.proofs.lemmas.Result.{err_from_is_err_and}
-use Rattle.wast_core.specs.ModuleViews.{field_tree}
+use Rattle.wast_module_fields.specs.ModuleFieldViews.{field_tree}
 use Rattle.wast_meant.specs.NamesMeant.{bodies_in}
 use Rattle.wast_conversions.proofs.Each.{of_item}
 use Rattle.wast_custom_sections.specs.Hints.{FieldReady}

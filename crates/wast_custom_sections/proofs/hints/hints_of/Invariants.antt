@@ -1,7 +1,7 @@
 use Rattle.std.proofs.Common.{◌≡◌, length, map, take, flat_map}
 use Rattle.std.specs.Prelude.{All}
 use Rattle.wasm_encoder_base.specs.Lists.{listed}
-use Rattle.wast_core.specs.ModuleViews.{field_tree}
+use Rattle.wast_module_fields.specs.ModuleFieldViews.{field_tree}
 use Rattle.wast_meant.specs.NamesMeant.{bodies_in}
 use Rattle.wast_custom_sections.specs.Hinted.{HintedFits, hinted_bytes, hinted_from}
 use Rattle.wast_custom_sections.proofs.Numbered.{capped}

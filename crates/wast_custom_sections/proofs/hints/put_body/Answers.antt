@@ -3,7 +3,7 @@ use Rattle.wasm_layout.specs.Layout.{if_there}
 use Rattle.wasm_layout.specs.Present.{has_any}
 use Rattle.wast_expressions.specs.Partial.{hint_tree}
 use Rattle.wast_core_instr.specs.ExpressionViews.{expression_tree}
-use Rattle.wast_fields.specs.FieldViews.{local_tree}
+use Rattle.wast_module_fields.specs.FuncViews.{local_tree}
 use Rattle.wast_custom_sections.specs.Hinted.{AddsHinted, with_hints}
 use Rattle.wast_custom_sections.proofs.Numbered.{adds_none, any_none, any_some}
 use Rattle.wast_custom_sections.proofs.hints.put_body.Goals as goal

@@ -2,8 +2,8 @@ use Rattle.std.proofs.Common.{List, map, subst, sym, ap, ◌∙◌, append-nil}
 use Rattle.wasm_layout.specs.Layout.{if_there}
 use Rattle.wasm_layout.specs.Present.{has_any}
 use Rattle.wast_core_instr.specs.ExpressionViews.{expression_tree}
-use Rattle.wast_fields.specs.FieldViews.{local_tree, defined_func}
-use Rattle.wast_fields.specs.declared.local.Local.{Local}
+use Rattle.wast_module_fields.specs.FuncViews.{local_tree, defined_func}
+use Rattle.wast_module_fields.specs.Local.{Local}
 use Rattle.wast_custom_sections.specs.Hints.{BodyReady, DefinedReady}
 use Rattle.wast_custom_sections.specs.Hinted.{AddsHinted, Hinted, with_hints}
 use Rattle.wast_custom_sections.proofs.Numbered.{adds_none}

@@ -2,7 +2,7 @@ use Rattle.std.proofs.Common.{[], ◌∙◌, map}
 use Rattle.std.proofs.lemmas.Result.{err_from_is_err_and}
 use Rattle.std.proofs.lemmas.List.Elements.{All-head}
 use Rattle.wast_core_instr.specs.ExpressionViews.{expression_tree}
-use Rattle.wast_fields.specs.FieldViews.{local_tree}
+use Rattle.wast_module_fields.specs.FuncViews.{local_tree}
 use Rattle.wast_custom_sections.specs.Hinted.{HintedFits, with_hints}
 use Rattle.wast_custom_sections.proofs.Errors.{same_error}
 use Rattle.wast_custom_sections.proofs.Numbered.{adds_one}

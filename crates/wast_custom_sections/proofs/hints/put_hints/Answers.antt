@@ -1,6 +1,6 @@
 use Rattle.std.proofs.Common.{◌<◌, map, refl, arith, true-eqb, false-eqb}
 use Rattle.std.proofs.lemmas.Result.{err_from_is_err_and}
-use Rattle.wast_core.specs.ModuleViews.{field_tree}
+use Rattle.wast_module_fields.specs.ModuleFieldViews.{field_tree}
 use Rattle.wast_custom_sections.proofs.Errors.{same_error}
 use Rattle.wast_custom_sections.proofs.Meant.{all_hinted, hinted_fit, bytes_of_fit, absent, present}
 use Rattle.wast_custom_sections.proofs.Numbered.{listed_none, listed_some}

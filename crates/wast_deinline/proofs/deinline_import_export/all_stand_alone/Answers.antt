@@ -1,6 +1,6 @@
 use Rattle.std.proofs.Common.{ap, sym, ◌∙◌}
 use Rattle.std.proofs.lemmas.List.Folds.{list_all-map, list_all_at}
-use Rattle.wast_core.specs.ModuleViews.{field_tree}
+use Rattle.wast_module_fields.specs.ModuleFieldViews.{field_tree}
 use Rattle.wast_deinline.specs.Definitions.{stands_alone}
 use Rattle.wast_deinline.proofs.deinline_import_export.all_stand_alone.Goals as goal
 

@@ -1,6 +1,6 @@
 use Rattle.std.proofs.Common.{◌≡◌, true, map, take}
 use Rattle.std.specs.List.{list_all}
-use Rattle.wast_core.specs.ModuleViews.{field_tree}
+use Rattle.wast_module_fields.specs.ModuleFieldViews.{field_tree}
 use Rattle.wast_deinline.specs.Definitions.{stands_alone}
 use Rattle.wast_deinline.proofs.deinline_import_export.all_stand_alone.Given as goal
 

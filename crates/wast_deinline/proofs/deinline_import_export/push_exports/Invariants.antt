@@ -1,7 +1,7 @@
 use Rattle.std.proofs.Common.{◌≡◌, ◌++◌, map}
 use Rattle.wast_parser.specs.Identifiers.{identifier_tree}
 use Rattle.wast_exports.specs.ExportViews.{export_name_tree, kind_view}
-use Rattle.wast_core.specs.ModuleViews.{field_tree}
+use Rattle.wast_module_fields.specs.ModuleFieldViews.{field_tree}
 use Rattle.wast_meaning.specs.Written.{export_of}
 use Rattle.wast_deinline.proofs.deinline_import_export.push_exports.Given as goal
 

@@ -1,5 +1,5 @@
 use Rattle.std.proofs.Common.{sym, append-nil, map}
-use Rattle.wast_core.specs.ModuleViews.{field_tree}
+use Rattle.wast_module_fields.specs.ModuleFieldViews.{field_tree}
 use Rattle.wast_deinline.proofs.deinline_import_export.push_some.Goals as goal
 
 pub returns-in-Some : goal.returns-in-Some

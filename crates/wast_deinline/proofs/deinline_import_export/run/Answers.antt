@@ -2,7 +2,7 @@ use Rattle.std.proofs.Common.{map, length, ap, sym, ◌∙◌}
 use Rattle.std.proofs.lemmas.Iterator.Adapters.{YieldsList-from_vec}
 use Rattle.std.proofs.lemmas.Iterator.Consumers.{YieldsList-turn, YieldsList-so_far}
 use Rattle.std.proofs.lemmas.List.{map-id}
-use Rattle.wast_core.specs.ModuleViews.{field_tree}
+use Rattle.wast_module_fields.specs.ModuleFieldViews.{field_tree}
 use Rattle.wast_meaning.specs.Made.{made}
 use Rattle.wast_deinline.proofs.Counting.{written_more, count_more, count_within}
 use Rattle.wast_deinline.proofs.deinline_import_export.run.Goals as goal

@@ -1,6 +1,6 @@
 use Rattle.std.proofs.Common.{◌≡◌, ◌+◌, map}
 use Rattle.std.specs.List.{count_by}
-use Rattle.wast_core.specs.ModuleViews.{field_tree}
+use Rattle.wast_module_fields.specs.ModuleFieldViews.{field_tree}
 use Rattle.wast_meaning.specs.Written.{by_counter, takes_name, written_out}
 use Rattle.wast_meaning.specs.Made.{made}
 use Rattle.wast_deinline.proofs.deinline_import_export.run.Given as goal

@@ -1,6 +1,6 @@
 use Rattle.std.proofs.Common.{◌≡◌, true, map, sym, subst, arith}
 use Rattle.std.specs.List.{list_all}
-use Rattle.wast_core.specs.ModuleViews.{field_tree}
+use Rattle.wast_module_fields.specs.ModuleFieldViews.{field_tree}
 use Rattle.wast_meaning.specs.Written.{by_counter}
 use Rattle.wast_meaning.specs.Made.{made}
 use Rattle.wast_deinline.specs.Definitions.{stands_alone}

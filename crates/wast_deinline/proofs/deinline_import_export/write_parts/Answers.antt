@@ -1,7 +1,7 @@
 use Rattle.std.proofs.Common.{◌++◌, map, ap, ◌∙◌}
 use Rattle.std.proofs.lemmas.Result.{on_ok_weaker}
 use Rattle.wast_parser.specs.Identifiers.{identifier_tree}
-use Rattle.wast_core.specs.ModuleViews.{field_tree}
+use Rattle.wast_module_fields.specs.ModuleFieldViews.{field_tree}
 use Rattle.wast_meaning.specs.Written.{has_segment}
 use Rattle.wast_deinline.specs.Definitions.{definition_view}
 use Rattle.wast_deinline.proofs.Parts.{alone_segment, parts_alike}

@@ -1,7 +1,7 @@
 use Rattle.std.proofs.Common.{map, ◌∙◌, ap}
 use Rattle.std.specs.List.{flat_map}
 use Rattle.wast_grammar.specs.Spelling.{same_name}
-use Rattle.wast_core.specs.ModuleViews.{field_tree}
+use Rattle.wast_module_fields.specs.ModuleFieldViews.{field_tree}
 use Rattle.wast_meaning.specs.Mentions.{parts}
 use Rattle.wast_meaning.specs.Demands.{field_demands, part_demands}
 use Rattle.wast_meaning.specs.Scope.{scope_of}

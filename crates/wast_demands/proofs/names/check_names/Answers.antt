@@ -2,7 +2,7 @@ use Rattle.std.proofs.Common.{◌++◌, map, sym, subst}
 use Rattle.std.specs.List.{flat_map}
 use Rattle.std.proofs.lemmas.List.{append_assoc}
 use Rattle.wast_grammar.specs.Spelling.{same_name}
-use Rattle.wast_core.specs.ModuleViews.{field_tree}
+use Rattle.wast_module_fields.specs.ModuleFieldViews.{field_tree}
 use Rattle.wast_names.specs.Demand.{Refuses}
 use Rattle.wast_names.proofs.Demands.{refuses_first}
 use Rattle.wast_meaning.specs.Demands.{order_demands, item_demands, field_demands}

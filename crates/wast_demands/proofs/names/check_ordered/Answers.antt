@@ -1,7 +1,7 @@
 use Rattle.std.proofs.Common.{map}
 use Rattle.std.specs.List.{flat_map}
 use Rattle.wast_grammar.specs.Spelling.{same_name}
-use Rattle.wast_core.specs.ModuleViews.{field_tree}
+use Rattle.wast_module_fields.specs.ModuleFieldViews.{field_tree}
 use Rattle.wast_names.proofs.Demands.{refuses_first}
 use Rattle.wast_meaning.specs.Demands.{item_demands, field_demands}
 use Rattle.wast_meaning.specs.Scope.{scope_of}

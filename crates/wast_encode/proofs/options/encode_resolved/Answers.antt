@@ -1,5 +1,6 @@
 use Rattle.std.proofs.Common.{map, ap}
-use Rattle.wast_core.specs.ModuleViews.{field_tree, content_tree, module_tree}
+use Rattle.wast_core.specs.ModuleFieldViews.{field_tree}
+use Rattle.wast_core.specs.ModuleViews.{content_tree, module_tree}
 use Rattle.wast_encode.proofs.Encoded.{match_of, text_encoded, text_unencoded, text_can, pieces_encoded, pieces_unencoded}
 use Rattle.wast_encode.proofs.options.encode_resolved.Goals as goal
 

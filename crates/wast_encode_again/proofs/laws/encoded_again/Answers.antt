@@ -1,6 +1,6 @@
 use Rattle.std.proofs.Common.{option_map}
 use Rattle.wast_parser.specs.Identifiers.{identifier_tree}
-use Rattle.wast_core_types.specs.TypeViews.{name_tree}
+use Rattle.wast_signatures.specs.SignatureViews.{name_tree}
 use Rattle.wast_encode_again.proofs.Again.{answered, stays_left}
 use Rattle.wast_encode_again.proofs.laws.encoded_again.Goals as goal
 

@@ -1,5 +1,5 @@
 use Rattle.std.proofs.Common.{◌≡◌, map, take}
-use Rattle.wast_core_types.specs.TypeViews.{param_tree}
+use Rattle.wast_signatures.specs.SignatureViews.{param_tree}
 use Rattle.wast_meaning.specs.Implied.{unnamed_local}
 use Rattle.wast_implied.proofs.gathered.unnamed_params.Given as goal
 

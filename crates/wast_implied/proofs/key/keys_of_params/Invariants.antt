@@ -1,5 +1,5 @@
 use Rattle.std.proofs.Common.{◌≡◌, map, take}
-use Rattle.wast_core_types.specs.TypeViews.{param_tree}
+use Rattle.wast_signatures.specs.SignatureViews.{param_tree}
 use Rattle.wast_implied.specs.Shapes.{value_of_key, value_shape}
 use Rattle.wast_implied.proofs.key.keys_of_params.Given as goal
 

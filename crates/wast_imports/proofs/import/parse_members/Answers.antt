@@ -1,7 +1,7 @@
 use Rattle.std.proofs.Common.{◌∷◌, map, ap}
 use Rattle.std.specs.Cow.{cow_str_bytes}
-use Rattle.wast_parser.specs.State.{ahead}
-use Rattle.wast_parser.specs.Grammar.{many}
+use Rattle.wast_signatures.specs.State.{ahead}
+use Rattle.wast_signatures.specs.Grammar.{many}
 use Rattle.wast_imports.specs.ImportTree.{Group1}
 use Rattle.wast_imports.specs.ImportSyntax.{member_starts, member}
 use Rattle.wast_imports.specs.ImportViews.{item_tree, member_tree}

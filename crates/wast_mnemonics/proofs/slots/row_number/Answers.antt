@@ -1,5 +1,5 @@
-use Rattle.std.proofs.Common.{◌≡◌, ap, refl, get_or, ◌%◌, ◌/◌, ◌+◌}
-use Rattle.wast_mnemonics.specs.Rows.{hash, row_number}
+use Rattle.std.proofs.Common.{ap, get_or, ◌%◌, ◌/◌, ◌+◌}
+use Rattle.wast_mnemonics.specs.Rows.{row_number}
 use Rattle.wast_mnemonics.specs.declared.slots.TheConstants.{SHIFTS, SLOTS}
 use Rattle.wast_mnemonics.proofs.slots.row_number.Goals as goal
 

@@ -1,5 +1,5 @@
 use Rattle.std.proofs.lemmas.Result.{err_from_is_err_and}
-use Rattle.wast_core.specs.ModuleViews.{field_tree}
+use Rattle.wast_module_fields.specs.ModuleFieldViews.{field_tree}
 use Rattle.wast_name_maps.specs.Gathered.{field_groups}
 use Rattle.wast_name_maps.specs.Kinds.{inside_view}
 use Rattle.wast_name_maps.proofs.Joining.{joined_all, joined_more, unfit_at, viewed}

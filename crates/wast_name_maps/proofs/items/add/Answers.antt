@@ -1,7 +1,7 @@
 use Rattle.std.proofs.Common.{sym, subst, ◌∙◌}
 use Rattle.std.specs.Prelude.{option_map}
 use Rattle.wast_parser.specs.Identifiers.{identifier_tree}
-use Rattle.wast_core_types.specs.TypeViews.{name_tree}
+use Rattle.wast_signatures.specs.SignatureViews.{name_tree}
 use Rattle.wast_meaning.specs.Spaces.{bound}
 use Rattle.wast_meaning.specs.Views.{space_view}
 use Rattle.wast_name_maps.specs.Numbered.{NamesJoin, NamesJoined}

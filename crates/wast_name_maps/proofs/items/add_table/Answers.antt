@@ -3,9 +3,9 @@ use Rattle.std.specs.Prelude.{option_map}
 use Rattle.std.proofs.lemmas.Result.{err_from_is_err_and}
 use Rattle.wasm_encoder_base.specs.Table as table
 use Rattle.wast_parser.specs.Identifiers.{identifier_tree}
-use Rattle.wast_core_types.specs.TypeViews.{name_tree}
-use Rattle.wast_fields.specs.ElemViews.{defined_table, table_definition}
-use Rattle.wast_fields.specs.FieldTree.{Define}
+use Rattle.wast_signatures.specs.SignatureViews.{name_tree}
+use Rattle.wast_module_fields.specs.ElemViews.{defined_table, table_definition}
+use Rattle.wast_module_fields.specs.FieldTree.{Define}
 use Rattle.wast_meaning.specs.Spaces.{bound, bound_segment, items}
 use Rattle.wast_meaning.specs.Views.{space_view}
 use Rattle.wast_spaces.proofs.Written.{table_items}

@@ -1,5 +1,5 @@
 use Rattle.std.proofs.lemmas.Result.{err_from_is_err_and}
-use Rattle.wast_fields.specs.FieldViews.{local_tree}
+use Rattle.wast_module_fields.specs.FuncViews.{local_tree}
 use Rattle.wast_name_maps.specs.Given.{given}
 use Rattle.wast_name_maps.proofs.Joining.{each_one, joined_all, joined_more, unfit_at}
 use Rattle.wast_name_maps.proofs.Gathering.{local_name}

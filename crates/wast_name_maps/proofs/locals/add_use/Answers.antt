@@ -1,7 +1,7 @@
 use Rattle.std.proofs.Common.{None, replicate, ap, sym, subst, ◌∙◌}
 use Rattle.std.specs.Prelude.{option_map}
 use Rattle.wast_parser.specs.Identifiers.{index_tree}
-use Rattle.wast_core_types.specs.TypeViews.{sig_tree}
+use Rattle.wast_signatures.specs.SignatureViews.{sig_tree}
 use Rattle.wast_name_maps.specs.Locals.{params_by}
 use Rattle.wast_name_maps.specs.Numbered.{NamesJoin}
 use Rattle.wast_name_maps.proofs.locals.add_use.Goals as goal

@@ -1,7 +1,7 @@
 use Rattle.std.proofs.Common.{map}
 use Rattle.std.proofs.lemmas.Result.{err_from_is_err_and}
-use Rattle.wast_core_types.specs.TypeViews.{use_tree}
-use Rattle.wast_fields.specs.FieldViews.{local_tree}
+use Rattle.wast_signatures.specs.SignatureViews.{use_tree}
+use Rattle.wast_module_fields.specs.FuncViews.{local_tree}
 use Rattle.wast_name_maps.specs.Given.{local_names}
 use Rattle.wast_name_maps.specs.Locals.{params_by}
 use Rattle.wast_name_maps.proofs.Joining.{built_back, built_both, built_front}

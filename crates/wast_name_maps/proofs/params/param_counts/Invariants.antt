@@ -1,6 +1,6 @@
 use Rattle.std.proofs.Common.{◌≡◌, map, take}
 use Rattle.std.specs.List.{flat_map}
-use Rattle.wast_core.specs.ModuleViews.{field_tree}
+use Rattle.wast_module_fields.specs.ModuleFieldViews.{field_tree}
 use Rattle.wast_meaning.specs.Implied.{written_types}
 use Rattle.wast_name_maps.specs.Locals.{param_count}
 use Rattle.wast_name_maps.proofs.params.param_counts.Given as goal

@@ -6,8 +6,8 @@ use Rattle.wasm_encoder_base.specs.Lists.{list_bytes}
 use Rattle.wasm_encoder_custom.specs.Names.{inner_number_of}
 use Rattle.wasm_layout.specs.IsModule.{AreInner}
 use Rattle.wast_parser.specs.Identifiers.{identifier_tree}
-use Rattle.wast_core_types.specs.TypeViews.{name_tree}
-use Rattle.wast_core.specs.ModuleViews.{field_tree}
+use Rattle.wast_signatures.specs.SignatureViews.{name_tree}
+use Rattle.wast_module_fields.specs.ModuleFieldViews.{field_tree}
 use Rattle.wast_meaning.specs.Implied.{written_types}
 use Rattle.wast_name_maps.specs.Gathered.{field_groups}
 use Rattle.wast_name_maps.specs.Kinds.{inside_view, maps_of}

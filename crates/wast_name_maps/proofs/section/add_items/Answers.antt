@@ -6,8 +6,8 @@ use Rattle.wasm_encoder_base.specs.Lists.{list_bytes}
 use Rattle.wasm_encoder_custom.specs.Names.{number_of}
 use Rattle.wasm_layout.specs.IsModule.{IsMap}
 use Rattle.wast_parser.specs.Identifiers.{identifier_tree}
-use Rattle.wast_core_types.specs.TypeViews.{name_tree}
-use Rattle.wast_core.specs.ModuleViews.{field_tree}
+use Rattle.wast_signatures.specs.SignatureViews.{name_tree}
+use Rattle.wast_module_fields.specs.ModuleFieldViews.{field_tree}
 use Rattle.wast_meaning.specs.Spaces.{items}
 use Rattle.wast_meaning.specs.Views.{space_view}
 use Rattle.wast_meant.specs.NamesMeant.{named}

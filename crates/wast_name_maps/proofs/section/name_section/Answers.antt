@@ -2,8 +2,8 @@ use Rattle.std.proofs.Common.{◌++◌, ap, ◌∙◌, map, length, arith}
 use Rattle.std.specs.Prelude.{option_map}
 use Rattle.wasm_layout.specs.Layout.{name_bytes}
 use Rattle.wast_parser.specs.Identifiers.{identifier_tree}
-use Rattle.wast_core_types.specs.TypeViews.{name_tree}
-use Rattle.wast_core.specs.ModuleViews.{field_tree}
+use Rattle.wast_signatures.specs.SignatureViews.{name_tree}
+use Rattle.wast_module_fields.specs.ModuleFieldViews.{field_tree}
 use Rattle.wast_name_maps.specs.Maps.{maps_in}
 use Rattle.wast_name_maps.specs.Subsections.{if_any}
 use Rattle.wast_name_maps.proofs.Ordered.{data_is}

@@ -1,5 +1,5 @@
 use Rattle.std.proofs.lemmas.Result.{err_from_is_err_and}
-use Rattle.wast_core_types.specs.TypeViews.{param_tree}
+use Rattle.wast_signatures.specs.SignatureViews.{param_tree}
 use Rattle.wast_name_maps.specs.Given.{given}
 use Rattle.wast_name_maps.proofs.Joining.{each_one, joined_all, joined_more, unfit_at}
 use Rattle.wast_name_maps.proofs.Gathering.{param_names}

@@ -1,5 +1,5 @@
 use Rattle.std.proofs.Common.{map, ap, ◌∙◌}
-use Rattle.wast_parser.specs.Identifiers.{index_tree}
+use Rattle.wast_vector_operands.specs.Identifiers.{index_tree}
 use Rattle.wast_operands.proofs.Labels.{last_is}
 use Rattle.wast_operands.proofs.index.last_apart.Goals as goal
 

@@ -1,8 +1,8 @@
 use Rattle.std.proofs.Common.{ℕ, sym, ◌∙◌, ap, Option, Some, None, inr, cond}
 use Rattle.std.specs.Prelude.{codes}
 use Rattle.std.specs.Int.{is_power_of_two}
-use Rattle.wast_parser.specs.State.{ahead}
-use Rattle.wast_parser_core.proofs.States.{refuses_all}
+use Rattle.wast_vector_operands.specs.State.{ahead}
+use Rattle.wast_vector_operands.proofs.States.{refuses_all}
 use Rattle.wast_operands.specs.OperandSyntax.{u64_number}
 use Rattle.wast_operands.proofs.Said.{says, told, untold, unread}
 use Rattle.wast_operands.proofs.mem_arg.begun_alignment.Goals as goal

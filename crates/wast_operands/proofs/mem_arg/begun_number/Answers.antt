@@ -1,7 +1,7 @@
 use Rattle.std.proofs.Common.{sym, ◌∙◌, ap, Some, inr}
-use Rattle.wast_parser.specs.Grammar.{begun}
-use Rattle.wast_parser.specs.State.{ahead}
-use Rattle.wast_parser_core.proofs.States.{refuses_all}
+use Rattle.wast_vector_operands.specs.Grammar.{begun}
+use Rattle.wast_vector_operands.specs.State.{ahead}
+use Rattle.wast_vector_operands.proofs.States.{refuses_all}
 use Rattle.wast_operands.specs.OperandSyntax.{u64_number}
 use Rattle.wast_operands.proofs.Said.{without_place, told, untold, unread}
 use Rattle.wast_operands.proofs.mem_arg.begun_number.Goals as goal

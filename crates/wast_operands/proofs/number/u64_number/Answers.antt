@@ -1,7 +1,7 @@
 use Rattle.std.proofs.Common.{sym, ◌∙◌, ap}
 use Rattle.std.specs.Prelude.{option_map}
-use Rattle.wast_parser.specs.Spelling.{after}
-use Rattle.wast_parser_core.proofs.Beginnings.{stripped}
+use Rattle.wast_vector_operands.specs.Spelling.{after}
+use Rattle.wast_vector_operands.proofs.Beginnings.{stripped}
 use Rattle.wast_operands.proofs.Digits.{behind_base}
 use Rattle.wast_operands.proofs.number.u64_number.Goals as goal
 

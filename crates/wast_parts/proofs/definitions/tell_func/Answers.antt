@@ -1,6 +1,6 @@
 use Rattle.std.proofs.Common.{List, [], ◌∷◌, subst}
 use Rattle.wast_meaning.specs.Mentions.{Body}
-use Rattle.wast_fields.specs.declared.local.Local.{Local}
+use Rattle.wast_module_fields.specs.Local.{Local}
 use Rattle.wast_mentions.specs.Judging.{Judged}
 use Rattle.wast_mentions.proofs.Judging.{judged_as}
 use Rattle.wast_parts.specs.Views.{function_tree}

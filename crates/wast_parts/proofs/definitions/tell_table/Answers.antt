@@ -2,7 +2,7 @@ use Rattle.std.proofs.Common.{map}
 use Rattle.std.specs.Prelude.{option_map, option_to_list}
 use Rattle.wast_value_types.specs.ValueViews.{ref_tree}
 use Rattle.wast_core_instr.specs.ExpressionViews.{expression_tree}
-use Rattle.wast_fields.specs.ElemViews.{elements_tree}
+use Rattle.wast_module_fields.specs.ElemViews.{elements_tree}
 use Rattle.wast_meaning.specs.Mentions.{Constant, elements_parts, ref_mentions, says}
 use Rattle.std.proofs.lemmas.Result.{err_from_is_err_and}
 use Rattle.wast_mentions.proofs.Judging.{judged_then, judged_stops}

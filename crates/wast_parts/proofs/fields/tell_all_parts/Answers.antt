@@ -1,5 +1,5 @@
 use Rattle.std.proofs.Common.{refl, ap, sym, ◌∙◌, subst}
-use Rattle.wast_core.specs.ModuleViews.{field_tree}
+use Rattle.wast_module_fields.specs.ModuleFieldViews.{field_tree}
 use Rattle.wast_meaning.specs.Mentions.{parts}
 use Rattle.wast_mentions.proofs.Judging.{each_seen, unmet, each_goes, each_ends, each_stops}
 use Rattle.wast_parts.proofs.fields.tell_all_parts.Goals as goal

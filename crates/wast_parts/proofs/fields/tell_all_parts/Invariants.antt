@@ -1,4 +1,4 @@
-use Rattle.wast_core.specs.ModuleViews.{field_tree}
+use Rattle.wast_module_fields.specs.ModuleFieldViews.{field_tree}
 use Rattle.wast_meaning.specs.Mentions.{parts}
 use Rattle.wast_mentions.proofs.Judging.{Left}
 use Rattle.wast_parts.proofs.fields.tell_all_parts.Given as goal

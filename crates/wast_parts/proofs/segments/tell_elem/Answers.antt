@@ -1,4 +1,4 @@
-use Rattle.wast_fields.specs.ElemViews.{elements_tree, mode_tree}
+use Rattle.wast_module_fields.specs.ElemViews.{elements_tree, mode_tree}
 use Rattle.wast_meaning.specs.Mentions.{elem_mode_parts, elements_parts}
 use Rattle.std.proofs.lemmas.Result.{err_from_is_err_and}
 use Rattle.wast_mentions.proofs.Judging.{judged_then, judged_stops}

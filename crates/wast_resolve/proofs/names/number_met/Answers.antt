@@ -1,7 +1,7 @@
 use Rattle.std.proofs.Common.{◌≡◌, None, map, subst, sym}
 use Rattle.std.specs.List.{flat_map}
 use Rattle.wast_grammar.specs.Spelling.{same_name}
-use Rattle.wast_core.specs.ModuleViews.{field_tree}
+use Rattle.wast_core.specs.ModuleFieldViews.{field_tree}
 use Rattle.wast_names.specs.Demand.{is_met}
 use Rattle.wast_names.specs.Walk.{first_unmet}
 use Rattle.wast_meaning.specs.Demands.{item_demands, demands}

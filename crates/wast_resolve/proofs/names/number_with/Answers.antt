@@ -1,5 +1,5 @@
 use Rattle.std.proofs.Common.{map}
-use Rattle.wast_core.specs.ModuleViews.{field_tree}
+use Rattle.wast_core.specs.ModuleFieldViews.{field_tree}
 use Rattle.wast_resolve.proofs.Telling.{told, items_told}
 use Rattle.wast_resolve.proofs.names.number_with.Goals as goal
 

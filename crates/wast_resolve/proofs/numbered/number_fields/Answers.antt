@@ -1,12 +1,12 @@
 use Rattle.std.proofs.Common.{◌≡◌, ℕ, List, map, ap, ◌∙◌}
 use Rattle.wast_grammar.specs.Spelling.{same_name}
-use Rattle.wast_core.specs.ModuleViews.{field_tree}
+use Rattle.wast_core.specs.ModuleFieldViews.{field_tree}
 use Rattle.wast_meaning.specs.Changed.{field_changed}
 use Rattle.wast_meaning.specs.Numbered.{numbered}
-use Rattle.wast_resolve.specs.Params.{param_counts}
-use Rattle.wast_resolve.specs.Place.{numberings_by}
+use Rattle.wast_numbered.specs.Params.{param_counts}
+use Rattle.wast_numbered.specs.Place.{numberings_by}
 use Rattle.wast_resolve.proofs.Agree.{as_numbered}
-use Rattle.wast_resolve.proofs.Given.{gives}
+use Rattle.wast_expanded.proofs.Given.{gives}
 use Rattle.wast_resolve.proofs.numbered.number_fields.Goals as goal
 
 pub returns-in-Ok : goal.returns-in-Ok

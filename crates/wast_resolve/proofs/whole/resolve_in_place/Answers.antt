@@ -2,7 +2,7 @@ use Rattle.std.proofs.Common.{map, sym, ap, ◌∙◌}
 use Rattle.std.proofs.lemmas.Bool.{false≢true}
 use Rattle.std.proofs.lemmas.Result.{IfOk-weaker}
 use Rattle.wast_parser.specs.Problem.{Problem, is_memory}
-use Rattle.wast_core.specs.ModuleViews.{field_tree}
+use Rattle.wast_core.specs.ModuleFieldViews.{field_tree}
 use Rattle.wast_resolve.specs.Resolving.{Means}
 use Rattle.wast_resolve.specs.Whole.{names_spaces, written_by}
 use Rattle.wast_resolve.proofs.Wholly.{if_refused, answers_before, numbers_before, means_before}

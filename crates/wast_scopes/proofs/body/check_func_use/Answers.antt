@@ -1,5 +1,5 @@
 use Rattle.std.proofs.Common.{ap}
-use Rattle.wast_core_types.specs.TypeViews.{use_tree}
+use Rattle.wast_signatures.specs.SignatureViews.{use_tree}
 use Rattle.wast_scopes.specs.Known.{use_by}
 use Rattle.wast_scopes.proofs.Judged.{answers_as}
 use Rattle.wast_scopes.proofs.Scopes.{outside}

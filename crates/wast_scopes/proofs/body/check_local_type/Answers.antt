@@ -1,6 +1,6 @@
 use Rattle.std.proofs.Common.{ap}
 use Rattle.std.specs.List.{flat_map}
-use Rattle.wast_fields.specs.FieldViews.{local_tree}
+use Rattle.wast_module_fields.specs.FuncViews.{local_tree}
 use Rattle.wast_meaning.specs.Mentions.{val_mentions}
 use Rattle.wast_scopes.specs.Known.{mention_by}
 use Rattle.wast_scopes.proofs.Judged.{answers_as, answers_all}

@@ -1,4 +1,4 @@
-use Rattle.wast_fields.specs.FieldViews.{local_tree}
+use Rattle.wast_module_fields.specs.FuncViews.{local_tree}
 use Rattle.wast_meaning.specs.Mentions.{val_mentions}
 use Rattle.wast_names.specs.Demand.{is_met}
 use Rattle.wast_mentions.proofs.Judging.{Left}

@@ -1,8 +1,8 @@
 use Rattle.std.proofs.Common.{map}
 use Rattle.std.specs.List.{flat_map}
 use Rattle.wasm_encoder_base.specs.Table as table
-use Rattle.wast_core_types.specs.TypeViews.{use_tree}
-use Rattle.wast_fields.specs.FieldViews.{local_tree}
+use Rattle.wast_signatures.specs.SignatureViews.{use_tree}
+use Rattle.wast_module_fields.specs.FuncViews.{local_tree}
 use Rattle.wast_names.specs.Space as names
 use Rattle.wast_meaning.specs.Mentions.{local_mentions}
 use Rattle.wast_scopes.specs.Known.{use_by, mention_by}

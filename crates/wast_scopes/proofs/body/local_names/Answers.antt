@@ -4,8 +4,8 @@ use Rattle.std.proofs.lemmas.List.{map-append}
 use Rattle.wasm_encoder_base.specs.Table as table
 use Rattle.wast_grammar.specs.Spelling.{same_name}
 use Rattle.wast_parser.specs.Identifiers.{identifier_tree}
-use Rattle.wast_core_types.specs.TypeViews.{use_tree}
-use Rattle.wast_fields.specs.FieldViews.{local_tree}
+use Rattle.wast_signatures.specs.SignatureViews.{use_tree}
+use Rattle.wast_module_fields.specs.FuncViews.{local_tree}
 use Rattle.wast_names.specs.Space as names
 use Rattle.wast_meaning.specs.Spaces.{space_word}
 use Rattle.wast_scopes.specs.Known.{params_by}

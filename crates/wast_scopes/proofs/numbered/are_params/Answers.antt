@@ -1,5 +1,5 @@
 use Rattle.std.proofs.Common.{◌≡◌, false, sym, ◌∙◌, arith, rules}
-use Rattle.wast_core_types.specs.TypeViews.{param_tree}
+use Rattle.wast_signatures.specs.SignatureViews.{param_tree}
 use Rattle.wast_names.specs.Views.{space}
 use Rattle.wast_scopes.specs.Numbered.{numbered_value}
 use Rattle.wast_scopes.proofs.Pairs.{alike, param_value, two_views, alike_stops, alike_ends}

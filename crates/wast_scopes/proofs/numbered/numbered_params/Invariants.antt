@@ -1,5 +1,5 @@
 use Rattle.std.proofs.Common.{◌≡◌, map, take}
-use Rattle.wast_core_types.specs.TypeViews.{param_tree}
+use Rattle.wast_signatures.specs.SignatureViews.{param_tree}
 use Rattle.wast_names.specs.Views.{space}
 use Rattle.wast_scopes.specs.Numbered.{numbered_value}
 use Rattle.wast_scopes.specs.NumberedViews.{value_of_numbered}

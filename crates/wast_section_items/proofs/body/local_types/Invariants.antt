@@ -1,7 +1,7 @@
 use Rattle.std.proofs.Common.{◌≡◌, map, take, All}
 use Rattle.wasm_encoder_base.specs.Types.{IsValType}
 use Rattle.wasm_encoder_base.specs.Views.{val_view}
-use Rattle.wast_fields.specs.FieldViews.{local_tree}
+use Rattle.wast_fields.specs.FuncViews.{local_tree}
 use Rattle.wast_conversions.specs.Types.{val_meant}
 use Rattle.wast_section_items.proofs.body.local_types.Given as goal
 

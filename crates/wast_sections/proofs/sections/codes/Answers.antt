@@ -1,7 +1,7 @@
 use Rattle.std.proofs.Common.{map}
 use Rattle.wasm_encoder_code.specs.Body.{body_bytes}
 use Rattle.wasm_encoder_sections.specs.Codes.{function_item}
-use Rattle.wast_core.specs.ModuleViews.{field_tree}
+use Rattle.wast_module_fields.specs.ModuleFieldViews.{field_tree}
 use Rattle.wast_meant.specs.FieldsMeant.{functions_of}
 use Rattle.wast_section_items.specs.Fits.{BodyFits}
 use Rattle.wast_section_items.specs.Sound.{BodySound}

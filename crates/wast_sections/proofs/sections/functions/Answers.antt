@@ -1,6 +1,6 @@
 use Rattle.std.proofs.Common.{map}
 use Rattle.wasm_encoder_base.specs.Leb.{uleb}
-use Rattle.wast_core.specs.ModuleViews.{field_tree}
+use Rattle.wast_module_fields.specs.ModuleFieldViews.{field_tree}
 use Rattle.wast_meant.specs.FieldsMeant.{functions_of}
 use Rattle.wast_section_items.specs.Fits.{NoCounts}
 use Rattle.wast_section_items.specs.Sound.{TypeSound}

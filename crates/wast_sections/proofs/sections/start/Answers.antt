@@ -1,6 +1,6 @@
 use Rattle.std.proofs.Common.{sym, ap, ◌∙◌, subst, Some}
 use Rattle.wasm_layout.specs.IsModule.{IfThere, IsU32}
-use Rattle.wast_core.specs.ModuleViews.{field_tree}
+use Rattle.wast_module_fields.specs.ModuleFieldViews.{field_tree}
 use Rattle.wast_meant.specs.FieldsMeant.{starts_of}
 use Rattle.wast_sections.proofs.Starts.{first_item}
 use Rattle.wast_sections.proofs.sections.start.Goals as goal

@@ -1,7 +1,7 @@
 use Rattle.std.proofs.Common.{map}
 use Rattle.wasm_encoder_items.specs.EntityTypes.{tag_bytes}
 use Rattle.wasm_layout.specs.IsModule.{IsU32}
-use Rattle.wast_core.specs.ModuleViews.{field_tree}
+use Rattle.wast_module_fields.specs.ModuleFieldViews.{field_tree}
 use Rattle.wast_meant.specs.FieldsMeant.{tags_of}
 use Rattle.wast_section_items.specs.Fits.{NoCounts}
 use Rattle.wast_sections.proofs.AllDefined.{holds_defined}

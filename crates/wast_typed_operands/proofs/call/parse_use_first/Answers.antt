@@ -1,6 +1,6 @@
 use Rattle.std.proofs.Common.{subst, sym}
-use Rattle.wast_parser.specs.State.{ahead}
-use Rattle.wast_parser.specs.Reading.{Gives}
+use Rattle.wast_signatures.specs.State.{ahead}
+use Rattle.wast_signatures.specs.Reading.{Gives}
 use Rattle.wast_typed_operands.specs.TypedViews.{indirect_tree}
 use Rattle.wast_typed_operands.proofs.Calls.{use_first_reads}
 use Rattle.wast_typed_operands.proofs.call.parse_use_first.Goals as goal

@@ -1,6 +1,6 @@
 use Rattle.std.proofs.Common.{sym, ◌∙◌, ap, Some, map}
 use Rattle.std.specs.Prelude.{◌==◌}
-use Rattle.wast_value_types.specs.ValueViews.{val_tree}
+use Rattle.wast_signatures.specs.ValueViews.{val_tree}
 use Rattle.wast_typed_operands.proofs.Selects.{types_joined}
 use Rattle.wast_typed_operands.proofs.select.all_types.Goals as goal
 

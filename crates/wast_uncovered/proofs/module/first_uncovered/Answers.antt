@@ -1,5 +1,5 @@
 use Rattle.std.proofs.Common.{Some, sym, ◌∙◌, ap}
-use Rattle.wast_core.specs.ModuleViews.{field_tree}
+use Rattle.wast_core.specs.ModuleFieldViews.{field_tree}
 use Rattle.wast_uncovered.proofs.EachField.{each_goes, each_ends, each_stops}
 use Rattle.wast_uncovered.proofs.module.first_uncovered.Goals as goal
 

@@ -1,4 +1,4 @@
-use Rattle.wast_core.specs.ModuleViews.{field_tree}
+use Rattle.wast_core.specs.ModuleFieldViews.{field_tree}
 use Rattle.wast_uncovered.proofs.EachField.{Left}
 use Rattle.wast_uncovered.proofs.module.first_uncovered.Given as goal
 

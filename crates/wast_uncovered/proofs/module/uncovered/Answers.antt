@@ -1,5 +1,6 @@
 use Rattle.std.proofs.Common.{map, sym, ◌∙◌, ap}
-use Rattle.wast_core.specs.ModuleViews.{field_tree, content_tree}
+use Rattle.wast_core.specs.ModuleFieldViews.{field_tree}
+use Rattle.wast_core.specs.ModuleViews.{content_tree}
 use Rattle.wast_meaning.specs.Modules.{content_fields}
 use Rattle.wast_meant.specs.Covered.{uncovered}
 use Rattle.wast_uncovered.proofs.Written.{written_forms}

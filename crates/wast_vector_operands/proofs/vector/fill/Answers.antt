@@ -1,7 +1,7 @@
 use Rattle.std.proofs.Common.{◌∙◌}
 use Rattle.std.proofs.lemmas.List.{length-set}
 use Rattle.wast_parser.specs.State.{ahead}
-use Rattle.wast_parser_core.proofs.States.{keeps_trans, keeps_plain, read_plain}
+use Rattle.wast_parser.proofs.States.{keeps_trans, keeps_plain, read_plain}
 use Rattle.wast_vector_operands.proofs.Filling.{one_more}
 use Rattle.wast_vector_operands.proofs.vector.fill.Goals as goal
 

@@ -1,6 +1,6 @@
 use Rattle.std.proofs.Common.{◌≡◌, ◌-◌, map, take, length}
-use Rattle.wast_grammar.specs.Grammar.{times_reads}
-use Rattle.wast_grammar.proofs.Repeats.{with_front}
+use Rattle.wast_parser.specs.Grammar.{times_reads}
+use Rattle.wast_parser.proofs.Repeats.{with_front}
 use Rattle.wast_parser.specs.State.{ahead, Keeps}
 use Rattle.wast_vector_operands.proofs.vector.fill.Given as goal
 

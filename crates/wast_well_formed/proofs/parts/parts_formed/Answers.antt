@@ -1,4 +1,4 @@
-use Rattle.wast_core.specs.ModuleViews.{field_tree}
+use Rattle.wast_module_fields.specs.ModuleFieldViews.{field_tree}
 use Rattle.wast_meaning.specs.Mentions.{parts}
 use Rattle.wast_meaning.specs.WellFormed.{part_formed}
 use Rattle.wast_well_formed.proofs.Formed.{all_hold, one_fails}

@@ -1,6 +1,6 @@
 use Rattle.std.proofs.Common.{[]}
 use Rattle.wast_grammar.specs.Tokens.{as_read}
-use Rattle.wast_core_types.proofs.Samples.{index_spelled}
+use Rattle.wast_signatures.proofs.SignatureSamples.{index_spelled}
 use Rattle.wast_core_types.proofs.composite.ContTypeBody.spelled.Goals as goal
 
 pub returns : goal.returns

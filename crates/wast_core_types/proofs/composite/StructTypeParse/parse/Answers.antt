@@ -1,10 +1,10 @@
 use Rattle.std.proofs.Common.{[], ◌∷◌, codes}
 use Rattle.wast_parser.specs.Look.{this_group}
 use Rattle.wast_parser.specs.Grammar.{many}
-use Rattle.wast_core_types.specs.TypeSyntax.{fields}
+use Rattle.wast_signatures.specs.TypeSyntax.{fields}
 use Rattle.wast_parser.specs.State.{ahead}
-use Rattle.wast_core_types.specs.TypeViews.{struct_field_tree}
-use Rattle.wast_core_types.proofs.Lists.{joined_read}
+use Rattle.wast_signatures.specs.SignatureViews.{struct_field_tree}
+use Rattle.wast_signatures.proofs.Lists.{joined_read}
 use Rattle.wast_core_types.proofs.composite.StructTypeParse.parse.Goals as goal
 
 pub returns-clause-read : goal.returns-clause-read

@@ -2,8 +2,8 @@ use Rattle.std.proofs.Common.{ℕ, sym, ap, ◌∙◌, subst}
 use Rattle.std.specs.Prelude.{option_map}
 use Rattle.wast_grammar.specs.Tokens.{Name}
 use Rattle.wast_parser.specs.Identifiers.{identifier_tree}
-use Rattle.wast_core_types.specs.TypeViews.{name_tree}
-use Rattle.wast_fields.specs.FieldTree.{Module}
+use Rattle.wast_signatures.specs.SignatureViews.{name_tree}
+use Rattle.wast_module_fields.specs.FieldTree.{Module}
 use Rattle.wast_core.specs.ModuleViews.{content_tree, module_tree}
 use Rattle.wast_uncovered.specs.First.{placed}
 use Rattle.wast_encode.specs.Encoded.{naming}

@@ -1,7 +1,7 @@
 use Rattle.std.proofs.Common.{◌++◌, ap, sym}
 use Rattle.std.specs.List.{flat_map}
 use Rattle.std.proofs.lemmas.List.Concat.{flat_map-append}
-use Rattle.wast_fields.specs.ElemViews.{elements_tree, mode_tree}
+use Rattle.wast_module_fields.specs.ElemViews.{elements_tree, mode_tree}
 use Rattle.wast_meaning.specs.Mentions.{elem_mode_parts, elements_parts, part_mentions}
 use Rattle.wast_implied.specs.Views.{known}
 use Rattle.wast_implied.proofs.Quiet.{used}

@@ -1,10 +1,10 @@
 use Rattle.std.proofs.Common.{ℕ, [], ◌∷◌, map, sym}
 use Rattle.std.specs.List.{flat_map}
 use Rattle.wast_grammar.specs.Tokens.{Name}
-use Rattle.wast_core_types.specs.TypeViews.{use_tree}
+use Rattle.wast_signatures.specs.SignatureViews.{use_tree}
 use Rattle.wast_core_instr.specs.ExpressionViews.{expression_tree}
-use Rattle.wast_fields.specs.FieldTree.{Function}
-use Rattle.wast_fields.specs.FieldViews.{local_tree}
+use Rattle.wast_module_fields.specs.FieldTree.{Function}
+use Rattle.wast_module_fields.specs.FuncViews.{local_tree}
 use Rattle.wast_meaning.specs.Mentions.{Uses, Body, expr_mentions, part_mentions}
 use Rattle.wast_implied.specs.Views.{known}
 use Rattle.wast_implied.proofs.Quiet.{used_body}

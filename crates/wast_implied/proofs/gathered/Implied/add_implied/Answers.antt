@@ -1,4 +1,4 @@
-use Rattle.wast_core.specs.ModuleViews.{field_tree}
+use Rattle.wast_module_fields.specs.ModuleFieldViews.{field_tree}
 use Rattle.wast_implied.specs.Known.{after_field}
 use Rattle.wast_implied.specs.Views.{known}
 use Rattle.wast_implied.proofs.Steps.{step}

@@ -1,5 +1,5 @@
 use Rattle.std.proofs.Common.{◌≡◌, take}
-use Rattle.wast_core.specs.ModuleViews.{field_tree}
+use Rattle.wast_module_fields.specs.ModuleFieldViews.{field_tree}
 use Rattle.wast_names.specs.Walk.{reached}
 use Rattle.wast_implied.specs.Known.{after_field}
 use Rattle.wast_implied.specs.Views.{known}

@@ -1,7 +1,7 @@
 use Rattle.std.proofs.Common.{◌≡◌, [], ◌∷◌, subst, ◌∙◌}
 use Rattle.std.specs.Prelude.{OnOk}
 use Rattle.std.proofs.lemmas.Result.{on_ok_weaker}
-use Rattle.wast_core_types.specs.TypeViews.{use_tree}
+use Rattle.wast_signatures.specs.SignatureViews.{use_tree}
 use Rattle.wast_typed_operands.specs.declared.block.BlockType.{BlockType}
 use Rattle.wast_meaning.specs.Mentions.{UsesInBlock}
 use Rattle.wast_implied.specs.Known.{after_mentions}

@@ -1,6 +1,6 @@
 use Rattle.std.proofs.Common.{sym, ◌∙◌}
 use Rattle.std.proofs.lemmas.Result.{on_ok_weaker}
-use Rattle.wast_core_types.specs.TypeViews.{sig_tree}
+use Rattle.wast_signatures.specs.SignatureViews.{sig_tree}
 use Rattle.wast_implied.specs.Views.{known}
 use Rattle.wast_implied.proofs.Instructions.{short_uses, long_uses}
 use Rattle.wast_implied.proofs.gathered.Implied.add_long.Goals as goal

@@ -3,7 +3,7 @@ use Rattle.std.proofs.lemmas.Grind.{common_steps}
 use Rattle.std.proofs.lemmas.List.{map-append}
 use Rattle.std.proofs.lemmas.Result.{on_ok_weaker}
 use Rattle.wast_names.specs.Space.{grown}
-use Rattle.wast_core_types.specs.TypeViews.{sig_tree}
+use Rattle.wast_signatures.specs.SignatureViews.{sig_tree}
 use Rattle.wast_implied.specs.declared.gathered.ImpliedType.{ImpliedType}
 use Rattle.wast_implied.specs.Shapes.{same_shape}
 use Rattle.wast_implied.specs.Views.{known, implied_tree}

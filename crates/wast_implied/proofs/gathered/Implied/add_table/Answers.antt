@@ -3,7 +3,7 @@ use Rattle.std.specs.Prelude.{option_map, option_to_list}
 use Rattle.std.specs.List.{flat_map}
 use Rattle.wast_value_types.specs.ValueViews.{ref_tree}
 use Rattle.wast_core_instr.specs.ExpressionViews.{expression_tree}
-use Rattle.wast_fields.specs.ElemViews.{elements_tree}
+use Rattle.wast_module_fields.specs.ElemViews.{elements_tree}
 use Rattle.wast_meaning.specs.Mentions.{Constant, says, ref_mentions, elements_parts, part_mentions}
 use Rattle.wast_implied.specs.Views.{known}
 use Rattle.wast_implied.proofs.Quiet.{quiet_heap, quiet_said, quiet_before}

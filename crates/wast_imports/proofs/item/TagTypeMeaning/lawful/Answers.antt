@@ -1,4 +1,4 @@
-use Rattle.wast_core_types.proofs.TypeLaws.{type_use_laws}
+use Rattle.wast_signatures.proofs.SignatureLaws.{type_use_laws}
 use Rattle.wast_imports.proofs.item.TagTypeMeaning.lawful.Goals as goal
 
 pub returns : goal.returns

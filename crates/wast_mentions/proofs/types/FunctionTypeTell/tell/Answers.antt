@@ -1,7 +1,7 @@
 use Rattle.std.proofs.Common.{ap, sym, ◌∙◌, subst}
 use Rattle.std.proofs.lemmas.Result.{err_from_is_err_and}
 use Rattle.wast_value_types.specs.ValueViews.{val_tree}
-use Rattle.wast_core_types.specs.TypeViews.{param_tree}
+use Rattle.wast_signatures.specs.SignatureViews.{param_tree}
 use Rattle.wast_meaning.specs.Mentions.{val_mentions}
 use Rattle.wast_mentions.proofs.Judging.{each_seen, unmet, judged_as, judged_then, judged_stops}
 use Rattle.wast_mentions.proofs.types.FunctionTypeTell.tell.Goals as goal

@@ -1,4 +1,4 @@
-use Rattle.wast_core_types.specs.TypeViews.{struct_field_tree}
+use Rattle.wast_signatures.specs.SignatureViews.{struct_field_tree}
 use Rattle.wast_meaning.specs.Mentions.{storage_mentions}
 use Rattle.wast_mentions.proofs.Judging.{each_seen, judged_as}
 use Rattle.wast_mentions.proofs.types.InnerTypeKindTell.tell.Goals as goal

@@ -1,4 +1,4 @@
-use Rattle.wast_parser.proofs.IdentifierLaws.{index_laws}
+use Rattle.wast_vector_operands.proofs.IdentifierLaws.{index_laws}
 use Rattle.wast_operands.proofs.index.ArrayFillMeaning.lawful.Goals as goal
 
 pub returns : goal.returns

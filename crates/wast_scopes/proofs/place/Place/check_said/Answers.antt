@@ -1,4 +1,4 @@
-use Rattle.wast_core_types.specs.TypeViews.{use_tree}
+use Rattle.wast_signatures.specs.SignatureViews.{use_tree}
 use Rattle.wast_meaning.specs.Mentions.{use_mentions}
 use Rattle.wast_scopes.specs.Known.{says_by}
 use Rattle.wast_scopes.specs.Views.{known_here}

@@ -2,7 +2,7 @@ use Rattle.std.proofs.Common.{ap, sym, ◌∙◌}
 use Rattle.std.specs.Prelude.{option_and_then}
 use Rattle.wasm_encoder_base.specs.Table as table
 use Rattle.wast_grammar.specs.Tokens.{Name}
-use Rattle.wast_core_types.specs.TypeViews.{sig_tree}
+use Rattle.wast_signatures.specs.SignatureViews.{sig_tree}
 use Rattle.wast_names.specs.Space as names
 use Rattle.wast_scopes.specs.Numbered.{same_sig_by}
 use Rattle.wast_scopes.specs.Signatures.{signatures, sig_in}

@@ -4,8 +4,8 @@ use Rattle.std.specs.List.{flat_map}
 use Rattle.std.proofs.lemmas.List.{map-append}
 use Rattle.wasm_encoder_base.specs.Table as table
 use Rattle.wast_grammar.specs.Tokens.{Name}
-use Rattle.wast_core_types.specs.TypeTree.{Sig}
-use Rattle.wast_core.specs.ModuleViews.{field_tree}
+use Rattle.wast_signatures.specs.TypeTree.{Sig}
+use Rattle.wast_module_fields.specs.ModuleFieldViews.{field_tree}
 use Rattle.wast_names.specs.Space as names
 use Rattle.wast_names.specs.Views.{space}
 use Rattle.wast_meaning.specs.Implied.{written_types}

@@ -1,5 +1,5 @@
 use Rattle.wast_core_instr.specs.ExpressionViews.{expression_tree}
-use Rattle.wast_core_types.specs.TypeViews.{use_tree}
+use Rattle.wast_signatures.specs.SignatureViews.{use_tree}
 use Rattle.wast_conversions.specs.Types.{use_meant}
 use Rattle.wast_meant.specs.FieldsMeant.{expr_meant}
 use Rattle.wast_section_items.proofs.Bodies.{adds_locals_of}

@@ -1,6 +1,6 @@
 use Rattle.std.proofs.Common.{inl, inr, subst, sym}
 use Rattle.std.specs.Prelude.{option_map}
-use Rattle.wast_core_types.specs.TypeViews.{name_tree}
+use Rattle.wast_signatures.specs.SignatureViews.{name_tree}
 use Rattle.wast_spaces.specs.Joins.{Joined, Joins}
 use Rattle.wast_spaces.proofs.Fields.{field_items}
 use Rattle.wast_spaces.proofs.Joins.{joined_none}

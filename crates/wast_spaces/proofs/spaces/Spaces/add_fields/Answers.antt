@@ -1,7 +1,7 @@
 use Rattle.std.proofs.Common.{subst}
 use Rattle.std.proofs.lemmas.Result.{err_from_is_err_and}
 use Rattle.wast_names.specs.Demand.{Refuses}
-use Rattle.wast_core.specs.ModuleViews.{field_tree}
+use Rattle.wast_module_fields.specs.ModuleFieldViews.{field_tree}
 use Rattle.wast_meaning.specs.Spaces.{items}
 use Rattle.wast_spaces.specs.Joins.{Joined, joining}
 use Rattle.wast_spaces.specs.Views.{spaces_of}

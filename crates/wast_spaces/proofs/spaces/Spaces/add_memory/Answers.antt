@@ -3,8 +3,8 @@ use Rattle.std.specs.Prelude.{option_map}
 use Rattle.std.proofs.lemmas.Result.{err_from_is_err_and}
 use Rattle.wasm_encoder_base.specs.Table as table
 use Rattle.wast_parser.specs.Identifiers.{identifier_tree}
-use Rattle.wast_core_types.specs.TypeViews.{name_tree}
-use Rattle.wast_fields.specs.FieldViews.{defined_memory}
+use Rattle.wast_signatures.specs.SignatureViews.{name_tree}
+use Rattle.wast_module_fields.specs.MemoryViews.{defined_memory}
 use Rattle.wast_names.specs.Demand.{Refuses}
 use Rattle.wast_meaning.specs.Spaces.{bound, bound_segment}
 use Rattle.wast_spaces.specs.Joins.{Joined, Joins, joining}

@@ -1,5 +1,5 @@
 use Rattle.std.proofs.Common.{[]}
-use Rattle.wast_grammar.specs.Tokens.{as_read}
+use Rattle.wast_signatures.specs.Tokens.{as_read}
 use Rattle.wast_typed_operands.proofs.TypedLaws.{clause_leads}
 use Rattle.wast_typed_operands.proofs.catch.TryTableCatchPeek.leads.Goals as goal
 

@@ -1,6 +1,6 @@
 use Rattle.std.proofs.Common.{refl, [], ◌∷◌}
 use Rattle.std.specs.Prelude.{codes}
-use Rattle.wast_parser.specs.Look.{this_group}
+use Rattle.wast_signatures.specs.Look.{this_group}
 use Rattle.wast_typed_operands.proofs.catch.TryTableCatchPeek.peek.Goals as goal
 
 pub returns : goal.returns

@@ -1,5 +1,5 @@
 use Rattle.std.proofs.Common.{[]}
-use Rattle.wast_grammar.specs.Tokens.{as_read}
+use Rattle.wast_words.specs.Tokens.{as_read}
 use Rattle.wast_value_types.proofs.ValueLaws.{heap_type_leads}
 use Rattle.wast_value_types.proofs.heap_type.HeapTypePeek.leads.Goals as goal
 

@@ -1,6 +1,6 @@
 use Rattle.std.proofs.Common.{[], ◌∷◌, refl}
 use Rattle.std.specs.Prelude.{codes}
-use Rattle.wast_parser.specs.Look.{this_group}
+use Rattle.wast_words.specs.Look.{this_group}
 use Rattle.wast_value_types.proofs.ref_type.RefTypePeek.peek.Goals as goal
 
 pub returns : goal.returns

@@ -1,5 +1,5 @@
 use Rattle.std.proofs.Common.{refl}
-use Rattle.wast_parser.specs.Look.{join}
+use Rattle.wast_words.specs.Look.{join}
 use Rattle.wast_words.specs.WordSyntax.{keywords}
 use Rattle.wast_value_types.specs.ValueSyntax.{packed_words, mut_starts}
 use Rattle.wast_value_types.proofs.storage_type.FieldTypePeek.peek.Goals as goal

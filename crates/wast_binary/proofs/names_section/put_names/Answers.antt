@@ -1,0 +1,10 @@
+use Rattle.std.proofs.Common.{sym, ◌∙◌}
+use Rattle.wast_binary.specs.Sources.{maps_of}
+use Rattle.wast_binary.proofs.NamesPut.{taken_put, free_put}
+use Rattle.wast_binary.proofs.names_section.put_names.Goals as goal
+
+pub returns-then-is_name_taken : goal.returns-then-is_name_taken
+returns-then-is_name_taken c = taken_put (maps_of c.args.id.now c.args.name.now c.args.fields.now) _ _ (sym c.is_name_taken.ensures ∙ c.if-is_name_taken.true)
+
+pub returns-else-is_name_taken : goal.returns-else-is_name_taken
+returns-else-is_name_taken c = free_put (maps_of c.args.id.now c.args.name.now c.args.fields.now) _ _ _ c.put_names_of.result (sym c.is_name_taken.ensures ∙ c.if-is_name_taken.false) c.put_names_of.ensures

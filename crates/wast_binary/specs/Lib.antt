@@ -1,0 +1,7 @@
+pub mod Can
+pub mod DataCount
+pub mod Parts
+pub mod Puts
+pub mod Sources
+pub mod Views
+pub mod Weight

@@ -1,0 +1,39 @@
+//! What becomes of the indices of whole fields.
+ghost use Rattle.std.specs.Prelude.{◌≡◌, ℕ, IfOk};
+ghost use Rattle.wast_grammar.specs.Tokens.{Name};
+ghost use Rattle.wast_core_instr.specs.ExpressionViews.{expression_tree};
+ghost use Rattle.wast_fields.specs.FieldTree as spec;
+ghost use Rattle.wast_changed.specs.Rewritten.{ByPlace, expr_changed, function_of};
+
+use crate::changing::Changing;
+use std::alloc::{AllocError, Global};
+use wast_core_instr::Expression;
+use wast_fields::Local;
+use wast_signatures::{FunctionType, TypeUse};
+
+/// What becomes of the indices of whole fields. Outside of expressions it is what it does as [`Changing`].
+pub trait Rewriting<'a>: Changing<'a> {
+    /// What becomes of the indices of an instruction in a constant expression.
+    ghost in_constant: { Self → ByPlace };
+
+    /// The same in the body of a function, which is given as it was.
+    ghost in_function: { Self → spec.Function Name ℕ → ByPlace };
+
+    /// Rewrites a constant expression. Fails only for want of memory.
+    fn constant(
+        &self,
+        alloc: Global,
+        expression: Expression<'a>,
+    ) -> Result<Expression<'a>, AllocError>
+        ensures { IfOk result (λ new. expression_tree new ≡ expr_changed (in_constant self.now) (expression_tree expression.entry)) };
+
+    /// Rewrites the body of a function, whose type use and locals are those from before. Fails only for want of memory.
+    fn body(
+        &self,
+        alloc: Global,
+        ty: &TypeUse<'a, FunctionType<'a>>,
+        locals: &[Local<'a>],
+        body: Expression<'a>,
+    ) -> Result<Expression<'a>, AllocError>
+        ensures { IfOk result (λ new. expression_tree new ≡ expr_changed (in_function self.now (function_of ty.now locals.now body.entry)) (expression_tree body.entry)) };
+}

@@ -1,0 +1,2 @@
+mod Everywhere
+mod Defined

@@ -1,7 +1,0 @@
-use Rattle.std.proofs.Common.{[]}
-use Rattle.wast_grammar.specs.Tokens.{as_read}
-use Rattle.wast_core_types.proofs.Samples.{index_spelled}
-use Rattle.wast_core_types.proofs.composite.IndexBody.spelled.Goals as goal
-
-pub returns : goal.returns
-returns c = index_spelled (as_read []) 0

@@ -1,0 +1,2 @@
+mod Expands
+pub mod Given

@@ -1,5 +1,0 @@
-use Rattle.wast_fields.proofs.FieldLaws.{elem_laws}
-use Rattle.wast_fields.proofs.elem.ElemMeaning.lawful.Goals as goal
-
-pub returns : goal.returns
-returns c = elem_laws

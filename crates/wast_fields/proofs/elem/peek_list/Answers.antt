@@ -1,6 +1,0 @@
-use Rattle.std.proofs.Common.{[], ◌∷◌, refl, codes}
-use Rattle.wast_parser.specs.Look.{this_word}
-use Rattle.wast_fields.proofs.elem.peek_list.Goals as goal
-
-pub returns : goal.returns
-returns c = c.or_begins.ensures (this_word (codes "func") ∷ []) refl c.peek.ensures

@@ -1,6 +1,0 @@
-use Rattle.std.proofs.Common.{[], ◌∷◌, refl, codes}
-use Rattle.wast_parser.specs.Look.{this_group}
-use Rattle.wast_fields.proofs.element.peek_element.Goals as goal
-
-pub returns : goal.returns
-returns c = c.or_begins.ensures (this_group (codes "item") ∷ []) refl c.peek.ensures

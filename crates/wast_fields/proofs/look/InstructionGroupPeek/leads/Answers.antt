@@ -1,5 +1,0 @@
-use Rattle.wast_fields.proofs.FieldLeads.{lone_instruction_leads}
-use Rattle.wast_fields.proofs.look.InstructionGroupPeek.leads.Goals as goal
-
-pub returns : goal.returns
-returns c = lone_instruction_leads

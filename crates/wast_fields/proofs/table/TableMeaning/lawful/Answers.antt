@@ -1,5 +1,0 @@
-use Rattle.wast_fields.proofs.FieldLaws.{table_laws}
-use Rattle.wast_fields.proofs.table.TableMeaning.lawful.Goals as goal
-
-pub returns : goal.returns
-returns c = table_laws

@@ -1,0 +1,4 @@
+mod Joined
+mod Labelled
+pub mod Unnamed
+mod Places

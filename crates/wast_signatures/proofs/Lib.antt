@@ -1,0 +1,12 @@
+pub use Rattle.wast_value_types.proofs.ValueLaws
+pub mod Lists
+pub mod Readings
+pub mod SignatureLaws
+pub mod SignatureSamples
+pub mod Uses
+pub use Rattle.wast_value_types.proofs.Looks
+pub use Rattle.wast_value_types.proofs.GrammarLaws
+pub use Rattle.wast_value_types.proofs.IdentifierLaws
+pub use Rattle.wast_value_types.proofs.LeadLaws
+pub use Rattle.wast_value_types.proofs.IntegerLaws
+pub use Rattle.wast_value_types.proofs.States

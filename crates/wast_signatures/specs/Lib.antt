@@ -1,0 +1,17 @@
+pub use Rattle.wast_value_types.specs.ValueTree
+pub use Rattle.wast_value_types.specs.ValueSyntax
+pub use Rattle.wast_value_types.specs.ValueViews
+pub mod TypeTree
+pub mod TypeSyntax
+pub mod SignatureViews
+pub use Rattle.wast_value_types.specs.Tokens
+pub use Rattle.wast_value_types.specs.Cursors
+pub use Rattle.wast_value_types.specs.Grammar
+pub use Rattle.wast_value_types.specs.Identifiers
+pub use Rattle.wast_value_types.specs.Lawful
+pub use Rattle.wast_value_types.specs.Look
+pub use Rattle.wast_value_types.specs.Reading
+pub use Rattle.wast_value_types.specs.Spelling
+pub use Rattle.wast_value_types.specs.State
+pub use Rattle.wast_value_types.specs.Productions
+pub use Rattle.wast_parser_base.specs.Problem
