@@ -1,64 +1,84 @@
 //! What a line of the input asks for, and the answer.
 
-use crate::row::spelled;
-use std::alloc::{AllocError, AllocGlobal, Global};
-use std::io::{self, Print};
-use wasm_encoder_base::{encoding_size, read_s33, read_u32};
+use crate::row::print_spelled;
+use row_page::Page;
+use std::alloc::{AllocError, Global};
+use std::fmt::Display;
+use wasm_encoder_base::{Encode, encoding_size, read_s33, read_u32};
 use wasm_encoder_code::ConstExpr;
 
 /// The answer to a line: its first word says what the rest is.
-pub fn answer(rt: &(impl Print + AllocGlobal), line: &str) -> io::Result<()> {
+pub fn answer(page: &Page, line: &str) {
     let (word, rest) = line.split_once(' ').unwrap_or((line, ""));
-    if word == "unsigned" {
-        unsigned(rt, rest.parse().unwrap_or(0))
-    } else if word == "signed" {
-        signed(rt, rest.parse().unwrap_or(0))
-    } else if word == "name" {
-        println!(rt; "name {rest}:{}", spelled(rt, &rest))
-    } else {
-        numbers(rt, rest)
+    match word {
+        "unsigned" => unsigned(page, rest.parse().unwrap_or(0)),
+        "signed" => signed(page, rest.parse().unwrap_or(0)),
+        "name" => named(page, rest),
+        _ => numbers(page, rest),
     }
 }
 
 /// Of a number of 64 bits, as a count, and, where it has 32, of 32 bits.
-fn unsigned(rt: &(impl Print + AllocGlobal), number: u64) -> io::Result<()> {
-    let count = number as usize;
-    println!(rt;
-        "unsigned {number}: u64{}, usize{}",
-        spelled(rt, &number),
-        spelled(rt, &count)
-    )?;
-    let Ok(number) = u32::try_from(number) else {
-        return Ok(());
-    };
-    let size = encoding_size(number);
-    println!(rt;
-        "unsigned {number}: u32{}, size {size}",
-        spelled(rt, &number)
-    )
+fn unsigned(page: &Page, number: u64) {
+    print_number(page, "unsigned", &number, "u64");
+    page.put(", usize");
+    print_spelled(page, &(number as usize));
+    page.put("\n");
+    if let Ok(number) = u32::try_from(number) {
+        print_number(page, "unsigned", &number, "u32");
+        writeln!(page, ", size {}", encoding_size(number));
+    }
 }
 
 /// Of a number of 64 bits, and, where it has 32, of 32 bits.
-fn signed(rt: &(impl Print + AllocGlobal), number: i64) -> io::Result<()> {
-    println!(rt; "signed {number}: i64{}", spelled(rt, &number))?;
-    let Ok(number) = i32::try_from(number) else {
-        return Ok(());
-    };
-    println!(rt; "signed {number}: i32{}", spelled(rt, &number))
+fn signed(page: &Page, number: i64) {
+    print_number(page, "signed", &number, "i64");
+    page.put("\n");
+    if let Ok(number) = i32::try_from(number) {
+        print_number(page, "signed", &number, "i32");
+        page.put("\n");
+    }
+}
+
+/// A number, and its bytes, as it is of this type.
+fn print_number<N: Encode + Display>(page: &Page, word: &str, number: &N, name: &str)
+    requires { N.can_encode number.now }
+{
+    write!(page, "{word} {number}: {name}");
+    print_spelled(page, number);
+}
+
+/// Of a name.
+fn named(page: &Page, name: &str) {
+    write!(page, "name {name}:");
+    print_spelled(page, &name);
+    page.put("\n");
 }
 
 /// The numbers at the front, and the function's index where the bytes begin with a `ref.func`.
-fn numbers(rt: &(impl Print + AllocGlobal), words: &str) -> io::Result<()> {
-    let bytes = bytes_of(rt.alloc(), words)?;
-    let unsigned = read_u32(bytes.as_slice());
-    let signed = read_s33(bytes.as_slice());
-    let function = match ConstExpr::raw(rt.alloc(), bytes.as_slice()) {
+fn numbers(page: &Page, words: &str) {
+    match bytes_of(page.alloc(), words) {
+        Ok(bytes) => print_numbers(page, words, bytes.as_slice()),
+        Err(error) => page.fail(error),
+    }
+}
+
+fn print_numbers(page: &Page, words: &str, bytes: &[u8]) {
+    let unsigned = read_u32(bytes);
+    let signed = read_s33(bytes);
+    let function = function_of(page.alloc(), bytes);
+    writeln!(
+        page,
+        "bytes {words}: read_u32 {unsigned:?}, read_s33 {signed:?}, get_ref_func {function:?}"
+    );
+}
+
+/// The function's index where the bytes begin with a `ref.func`.
+fn function_of(alloc: Global, bytes: &[u8]) -> Option<u32> {
+    match ConstExpr::raw(alloc, bytes) {
         Ok(expression) => expression.get_ref_func(),
         Err(_) => None,
-    };
-    println!(rt;
-        "bytes {words}: read_u32 {unsigned:?}, read_s33 {signed:?}, get_ref_func {function:?}"
-    )
+    }
 }
 
 /// The bytes that words in hexadecimal stand for.

@@ -1,39 +1,32 @@
 //! Bodies of functions and constant expressions.
 
 use crate::callers::{close, push_root, push_sum};
-use crate::row::Shown;
-use std::alloc::{AllocGlobal, Global};
-use std::io::{self, Print};
-use wasm_encoder_base::{Encode, EncodeError, RefType, ValType};
+use crate::row::{print_made, spelled};
+use row_page::Page;
+use std::alloc::Global;
+use wasm_encoder_base::{EncodeError, RefType, ValType};
 use wasm_encoder_code::{ConstExpr, Function, GcOp, Instruction, NumericOp};
 
-pub fn print_bodies(rt: &(impl Print + AllocGlobal)) -> io::Result<()> {
-    println!(rt; "runs of locals:{}", shown(rt, locals(rt.alloc())))?;
-    println!(rt; "locals joined:{}", shown(rt, joined(rt.alloc())))?;
-    println!(rt; "a body:{}", shown(rt, body(rt.alloc())))?;
-    println!(rt; "calls of a sink:{}", shown(rt, lent(rt.alloc())))?;
-    println!(rt; "an expression:{}", shown(rt, expression(rt.alloc())))
+pub fn print_bodies(page: &Page) {
+    print_body(page, "runs of locals", locals(page.alloc()));
+    print_body(page, "locals joined", joined(page.alloc()));
+    print_body(page, "a body", body(page.alloc()));
+    print_body(page, "calls of a sink", lent(page.alloc()));
+    print_body(page, "an expression", expression(page.alloc()));
 }
 
-fn shown(rt: &impl AllocGlobal, made: Result<Vec<u8>, EncodeError>) -> Shown {
-    match made {
-        Ok(bytes) => Shown {
-            bytes,
-            answer: Ok(()),
-        },
-        Err(error) => Shown {
-            bytes: Vec::new(rt.alloc()),
-            answer: Err(error),
-        },
-    }
+fn print_body(page: &Page, name: &str, made: Result<Vec<u8>, EncodeError>) {
+    page.put(name);
+    page.put(":");
+    print_made(page, made);
+    page.put("\n");
 }
 
 fn locals(alloc: Global) -> Result<Vec<u8>, EncodeError> {
-    let function = Function::new(
+    raw_body(Function::new(
         alloc,
         &[(2, ValType::I32), (300, ValType::Ref(RefType::FUNCREF))],
-    )?;
-    Ok(function.into_raw_body())
+    ))
 }
 
 fn joined(alloc: Global) -> Result<Vec<u8>, EncodeError> {
@@ -51,7 +44,14 @@ fn joined(alloc: Global) -> Result<Vec<u8>, EncodeError> {
         ValType::Ref(RefType::FUNCREF),
         ValType::Ref(RefType::EXTERNREF),
     ];
-    Ok(Function::new_with_locals_types(alloc, &types)?.into_raw_body())
+    raw_body(Function::new_with_locals_types(alloc, &types))
+}
+
+fn raw_body(made: Result<Function, EncodeError>) -> Result<Vec<u8>, EncodeError> {
+    match made {
+        Ok(function) => Ok(function.into_raw_body()),
+        Err(error) => Err(error),
+    }
 }
 
 /// The empty body, and more bytes behind it.
@@ -71,15 +71,22 @@ fn lent(alloc: Global) -> Result<Vec<u8>, EncodeError> {
     Ok(function.into_raw_body())
 }
 
-/// The second global, doubled, as an `i31`.
 fn expression(alloc: Global) -> Result<Vec<u8>, EncodeError> {
-    let instructions = [
-        Instruction::GlobalGet(1),
-        Instruction::I32Const(2),
-        Instruction::Numeric(NumericOp::I32Mul),
-        Instruction::Gc(GcOp::RefI31),
-    ];
-    let mut sink = Vec::new(alloc);
-    ConstExpr::extended(alloc, &instructions)?.encode(&mut sink)?;
-    Ok(sink)
+    match doubled(alloc) {
+        Ok(expression) => spelled(alloc, &expression),
+        Err(error) => Err(error),
+    }
+}
+
+/// The second global, doubled, as an `i31`.
+fn doubled(alloc: Global) -> Result<ConstExpr, EncodeError> {
+    ConstExpr::extended(
+        alloc,
+        &[
+            Instruction::GlobalGet(1),
+            Instruction::I32Const(2),
+            Instruction::Numeric(NumericOp::I32Mul),
+            Instruction::Gc(GcOp::RefI31),
+        ],
+    )
 }

@@ -9,15 +9,17 @@ mod opcodes;
 mod row;
 mod types;
 
+use row_page::Page;
 use std::io;
 
 fn main(rt: HostRuntime) -> io::Result<()> {
-    types::print(&rt)?;
-    opcodes::print(&rt)?;
-    instructions::print(&rt)?;
-    bodies::print_bodies(&rt)?;
+    let page = Page::new(rt);
+    types::print(&page);
+    opcodes::print(&page);
+    instructions::print(&page);
+    bodies::print_bodies(&page);
     for line in rt.lines(rt.alloc()) {
-        answers::answer(&rt, line?.as_str())?;
+        answers::answer(&page, line?.as_str());
     }
-    Ok(())
+    page.outcome()
 }

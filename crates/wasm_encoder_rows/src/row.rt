@@ -2,48 +2,57 @@
 
 ghost use Rattle.std.specs.Prelude.{All};
 
-use std::alloc::AllocGlobal;
-use std::fmt::{self, Debug, Display, Formatter, Write};
-use std::io::{self, Print};
+use row_page::Page;
+use std::alloc::Global;
+use std::fmt::Debug;
 use wasm_encoder_base::{Encode, EncodeError};
 
-/// What a sink has after a call that answered so: its bytes in hexadecimal, a space before each, or the error.
-#[derive(Drop)]
-pub struct Shown {
-    pub bytes: Vec<u8>,
-    pub answer: Result<(), EncodeError>,
-}
-
-impl Display for Shown {
-    fn fmt<W: Write>(&self, f: &mut Formatter<W>) -> fmt::Result {
-        if let Err(error) = self.answer {
-            return write!(f, " {error}");
-        }
-        for byte in self.bytes.as_slice() {
-            write!(f, " {byte:02x}")?;
-        }
-        Ok(())
-    }
+/// Prints the value's bytes, or the error.
+pub fn print_spelled<T: Encode>(page: &Page, value: &T)
+    requires { T.can_encode value.now }
+{
+    print_made(page, spelled(page.alloc(), value));
 }
 
 /// The value's bytes.
-pub fn spelled<T: Encode>(rt: &impl AllocGlobal, value: &T) -> Shown
+pub fn spelled<T: Encode>(alloc: Global, value: &T) -> Result<Vec<u8>, EncodeError>
     requires { T.can_encode value.now }
 {
-    let mut bytes = Vec::new(rt.alloc());
-    let answer = value.encode(&mut bytes);
-    Shown { bytes, answer }
+    let mut bytes = Vec::new(alloc);
+    match value.encode(&mut bytes) {
+        Ok(()) => Ok(bytes),
+        Err(error) => Err(error),
+    }
 }
 
-/// A row for each value: it, and its bytes.
-pub fn print_values<T: Encode + Debug>(
-    rt: &(impl Print + AllocGlobal),
-    values: &[T],
-) -> io::Result<()>
+/// Prints the bytes that were made in hexadecimal, a space before each, or why there are none.
+pub fn print_made(page: &Page, made: Result<Vec<u8>, EncodeError>) {
+    match made {
+        Ok(bytes) => print_bytes(page, bytes.as_slice()),
+        Err(error) => write!(page, " {error}"),
+    }
+}
+
+fn print_bytes(page: &Page, bytes: &[u8]) {
+    for byte in bytes {
+        write!(page, " {byte:02x}");
+    }
+}
+
+/// A row: the value, and its bytes.
+pub fn print_value<T: Encode + Debug>(page: &Page, value: &T)
+    requires { T.can_encode value.now }
+{
+    write!(page, "{value:?}");
+    print_spelled(page, value);
+    page.put("\n");
+}
+
+/// A row for each value.
+pub fn print_values<T: Encode + Debug>(page: &Page, values: &[T])
     requires { All T.can_encode values.now }
 {
     for value in values {
-        println!(rt; "{value:?}{}", spelled(rt, value))?;
+        print_value(page, value);
     }
-    Ok(())
 }

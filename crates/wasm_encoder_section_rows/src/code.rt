@@ -1,28 +1,25 @@
 //! Bodies, the start function and the count of data segments.
 
 use crate::calls::Calls;
-use crate::{encoded, print_row};
+use crate::{encoded, print_number, print_row};
+use row_page::Page;
 use std::alloc::Global;
-use std::io;
 use wasm_encoder::{CodeSection, DataCountSection, EncodeError, Function, StartSection};
 
-pub fn print_rows(rt: &HostRuntime) -> io::Result<()> {
-    let alloc = rt.alloc();
-    print_row(rt, "code", code(alloc))?;
-    match raw_length(alloc) {
-        Ok(length) => println!(rt; "bytes of a raw body: {length}")?,
-        Err(error) => println!(rt; "bytes of a raw body: {error}")?,
-    }
+pub fn print_rows(page: &Page) {
+    let alloc = page.alloc();
+    print_row(page, "code", code(alloc));
+    print_number(page, "bytes of a raw body", raw_length(alloc));
     let start = StartSection {
         function_index: 128,
     };
-    print_row(rt, "start", encoded(alloc, &start))?;
+    print_row(page, "start", encoded(alloc, &start));
     print_row(
-        rt,
+        page,
         "data count",
         encoded(alloc, &DataCountSection { count: 3 }),
-    )?;
-    print_row(rt, "a raw instruction", raw_instruction(alloc))
+    );
+    print_row(page, "a raw instruction", raw_instruction(alloc));
 }
 
 fn code(alloc: Global) -> Result<Vec<u8>, EncodeError> {
@@ -34,8 +31,10 @@ fn code(alloc: Global) -> Result<Vec<u8>, EncodeError> {
 
 fn body(alloc: Global) -> Result<Function, EncodeError> {
     let mut function = Function::new(alloc, &[])?;
-    function.instructions().nop()?.end()?;
-    Ok(function)
+    let mut calls = Calls::new();
+    calls.note(function.instructions().nop());
+    calls.note(function.instructions().end());
+    calls.with(function)
 }
 
 /// This body, and a raw one.
@@ -51,9 +50,10 @@ fn code_of(alloc: Global, function: &Function) -> Result<Vec<u8>, EncodeError> {
 
 /// How many bytes a section has after a raw body of two.
 fn raw_length(alloc: Global) -> Result<usize, EncodeError> {
+    let mut calls = Calls::new();
     let mut section = CodeSection::new(alloc);
-    section.raw(&[0x00, 0x0B])?;
-    Ok(section.byte_len())
+    calls.note(section.raw(&[0x00, 0x0B]));
+    calls.with(section.byte_len())
 }
 
 /// The bytes of a body without locals, behind which `nop` was added as a byte.

@@ -2,24 +2,24 @@
 
 use crate::calls::Calls;
 use crate::print_row;
+use row_page::Page;
 use std::alloc::Global;
-use std::io;
 use wasm_encoder_base::{EncodeError, Ieee32, Ieee64};
 use wasm_encoder_custom::{
     CoreDumpInstancesSection, CoreDumpModulesSection, CoreDumpSection, CoreDumpStackSection,
     CoreDumpValue, CustomSection,
 };
 
-pub fn print_rows(rt: &HostRuntime) -> io::Result<()> {
-    let alloc = rt.alloc();
-    print_row(rt, "process", process(alloc))?;
-    print_row(rt, "modules", modules(alloc, false))?;
-    print_row(rt, "modules as custom", modules(alloc, true))?;
-    print_row(rt, "instances", instances(alloc, false))?;
-    print_row(rt, "instances as custom", instances(alloc, true))?;
-    print_row(rt, "stack", stack(alloc))?;
-    print_row(rt, "stack as custom", stack_as_custom(alloc))?;
-    print_row(rt, "values", values(alloc))
+pub fn print_rows(page: &Page) {
+    let alloc = page.alloc();
+    print_row(page, "process", process(alloc));
+    print_row(page, "modules", modules(alloc, false));
+    print_row(page, "modules as custom", modules(alloc, true));
+    print_row(page, "instances", instances(alloc, false));
+    print_row(page, "instances as custom", instances(alloc, true));
+    print_row(page, "stack", stack(alloc));
+    print_row(page, "stack as custom", stack_as_custom(alloc));
+    print_row(page, "values", values(alloc));
 }
 
 /// The custom section that a section is made.

@@ -2,21 +2,21 @@
 
 use crate::calls::Calls;
 use crate::print_row;
+use row_page::Page;
 use std::alloc::Global;
-use std::io;
 use wasm_encoder::{
     AbstractHeapType, ConstExpr, EncodeError, FunctionSection, GlobalSection, GlobalType, HeapType,
     Ieee32, Ieee64, MemorySection, MemoryType, RefType, TableSection, TableType, TagKind,
     TagSection, TagType, ValType,
 };
 
-pub fn print_rows(rt: &HostRuntime) -> io::Result<()> {
-    let alloc = rt.alloc();
-    print_row(rt, "functions", functions(alloc))?;
-    print_row(rt, "tables", tables(alloc))?;
-    print_row(rt, "memories", memories(alloc))?;
-    print_row(rt, "tags", tags(alloc))?;
-    print_row(rt, "globals", globals(alloc))
+pub fn print_rows(page: &Page) {
+    let alloc = page.alloc();
+    print_row(page, "functions", functions(alloc));
+    print_row(page, "tables", tables(alloc));
+    print_row(page, "memories", memories(alloc));
+    print_row(page, "tags", tags(alloc));
+    print_row(page, "globals", globals(alloc));
 }
 
 fn functions(alloc: Global) -> Result<Vec<u8>, EncodeError> {
@@ -29,40 +29,46 @@ fn functions(alloc: Global) -> Result<Vec<u8>, EncodeError> {
 }
 
 /// A table of 32-bit indices that isn't shared.
-fn table(element_type: RefType, minimum: u64, maximum: Option<u64>) -> TableType {
-    TableType {
-        element_type,
-        table64: false,
-        minimum,
-        maximum,
-        shared: false,
-    }
-}
-
-/// A table of 64-bit indices.
-const WIDE_TABLE: TableType = TableType {
-    element_type: RefType {
-        nullable: true,
-        heap_type: HeapType::Abstract(AbstractHeapType::Any),
-    },
-    table64: true,
+const TABLE: TableType = TableType {
+    element_type: RefType::FUNCREF,
+    table64: false,
     minimum: 0,
     maximum: None,
     shared: false,
 };
 
-const SHARED_TABLE: TableType = TableType {
-    element_type: RefType::FUNCREF,
-    table64: false,
-    minimum: 0,
-    maximum: Some(5),
-    shared: true,
-};
+/// The last but one has 64-bit indices.
+const TABLES: &[TableType] = &[
+    TABLE,
+    TableType {
+        element_type: RefType::EXTERNREF,
+        minimum: 1,
+        maximum: Some(2),
+        ..TABLE
+    },
+    TableType {
+        element_type: RefType {
+            nullable: true,
+            heap_type: HeapType::Abstract(AbstractHeapType::Any),
+        },
+        table64: true,
+        ..TABLE
+    },
+    TableType {
+        maximum: Some(5),
+        shared: true,
+        ..TABLE
+    },
+];
 
-/// References that aren't null.
-const FUNCTION: RefType = RefType {
-    nullable: false,
-    heap_type: HeapType::Abstract(AbstractHeapType::Func),
+/// A table of references that aren't null.
+const FUNCTIONS: TableType = TableType {
+    element_type: RefType {
+        nullable: false,
+        heap_type: HeapType::Abstract(AbstractHeapType::Func),
+    },
+    minimum: 1,
+    ..TABLE
 };
 
 fn tables(alloc: Global) -> Result<Vec<u8>, EncodeError> {
@@ -76,61 +82,63 @@ fn tables(alloc: Global) -> Result<Vec<u8>, EncodeError> {
 fn tables_with(alloc: Global, init: &ConstExpr) -> Result<Vec<u8>, EncodeError> {
     let mut calls = Calls::new();
     let mut section = TableSection::new(alloc);
-    calls.note(section.table(table(RefType::FUNCREF, 0, None)));
-    calls.note(section.table(table(RefType::EXTERNREF, 1, Some(2))));
-    calls.note(section.table(WIDE_TABLE));
-    calls.note(section.table(SHARED_TABLE));
-    calls.note(section.table_with_init(table(FUNCTION, 1, None), init));
+    for table in TABLES {
+        calls.note(section.table(*table));
+    }
+    calls.note(section.table_with_init(FUNCTIONS, init));
     calls.note_copy(init.clone());
     calls.note_copy(section.clone());
     calls.encoded(alloc, section)
 }
 
 /// A memory of 32-bit addresses.
-fn memory(minimum: u64, maximum: Option<u64>) -> MemoryType {
-    MemoryType {
-        minimum,
-        maximum,
-        memory64: false,
-        shared: false,
-        page_size_log2: None,
-    }
-}
-
-/// A memory of 64-bit addresses.
-fn wide_memory(minimum: u64, maximum: Option<u64>) -> MemoryType {
-    MemoryType {
-        memory64: true,
-        ..memory(minimum, maximum)
-    }
-}
-
-/// A memory with pages of this size.
-fn paged_memory(maximum: Option<u64>, page_size_log2: u32) -> MemoryType {
-    MemoryType {
-        page_size_log2: Some(page_size_log2),
-        ..memory(1, maximum)
-    }
-}
-
-fn shared_memory() -> MemoryType {
-    MemoryType {
-        shared: true,
-        ..memory(1, Some(2))
-    }
-}
+const MEMORY: MemoryType = MemoryType {
+    minimum: 1,
+    maximum: None,
+    memory64: false,
+    shared: false,
+    page_size_log2: None,
+};
 
 /// Each flag of limits.
+const MEMORIES: &[MemoryType] = &[
+    MEMORY,
+    MemoryType {
+        maximum: Some(256),
+        ..MEMORY
+    },
+    MemoryType {
+        maximum: Some(2),
+        shared: true,
+        ..MEMORY
+    },
+    MemoryType {
+        minimum: 0,
+        memory64: true,
+        ..MEMORY
+    },
+    MemoryType {
+        maximum: Some(2),
+        memory64: true,
+        ..MEMORY
+    },
+    MemoryType {
+        page_size_log2: Some(0),
+        ..MEMORY
+    },
+    MemoryType {
+        maximum: Some(2),
+        page_size_log2: Some(16),
+        ..MEMORY
+    },
+];
+
 fn memories(alloc: Global) -> Result<Vec<u8>, EncodeError> {
     let mut calls = Calls::new();
     let mut section = MemorySection::new(alloc);
-    calls.note(section.memory(memory(1, None)));
-    calls.note(section.memory(memory(1, Some(256))));
-    calls.note(section.memory(shared_memory()));
-    calls.note(section.memory(wide_memory(0, None)));
-    calls.note(section.memory(wide_memory(1, Some(2))));
-    calls.note(section.memory(paged_memory(None, 0)));
-    calls.note(section.memory(paged_memory(Some(2), 16)));
+    for memory in MEMORIES {
+        calls.note(section.memory(*memory));
+    }
     calls.note_copy(section.clone());
     calls.encoded(alloc, section)
 }

@@ -2,31 +2,45 @@
 
 use crate::calls::Calls;
 use crate::print_row;
-use std::alloc::Global;
-use std::io;
+use row_page::Page;
+use std::alloc::{AllocError, Global};
 use wasm_encoder::{
     EncodeError, EntityType, ExportKind, ExportSection, GlobalType, Import, ImportCompact,
     ImportSection, Imports, Items, MemoryType, RefType, TableType, TagKind, TagType, ValType,
 };
 
-pub fn print_rows(rt: &HostRuntime) -> io::Result<()> {
-    let alloc = rt.alloc();
-    print_row(rt, "imports", imports(alloc))?;
-    print_row(rt, "imports of a module", group(alloc))?;
-    print_row(rt, "imports of a type", typed_group(alloc))?;
-    print_row(rt, "exports", exports(alloc))
+pub fn print_rows(page: &Page) {
+    let alloc = page.alloc();
+    print_row(page, "imports", imports(alloc));
+    print_row(page, "imports of a module", group(alloc));
+    print_row(page, "imports of a type", typed_group(alloc));
+    print_row(page, "exports", exports(alloc));
 }
 
 fn imports(alloc: Global) -> Result<Vec<u8>, EncodeError> {
     let mut calls = Calls::new();
     let mut section = ImportSection::new(alloc);
-    calls.note(section.import("m", "f", EntityType::Function(0)));
-    calls.note(section.import("m", "t", TABLE));
-    calls.note(section.import("m", "e", MEMORY));
-    calls.note(section.import("m", "g", global(true)));
-    calls.note(section.import("m", "x", TAG));
+    add_imports(&mut section, &mut calls);
     calls.note_copy(section.clone());
     calls.encoded(alloc, section)
+}
+
+/// One of each kind.
+fn add_imports(section: &mut ImportSection, calls: &mut Calls) {
+    add_import(section, calls, "f", EntityType::Function(0));
+    add_import(section, calls, "t", TABLE);
+    add_import(section, calls, "e", MEMORY);
+    add_import(section, calls, "g", VARIABLE);
+    add_import(section, calls, "x", TAG);
+}
+
+fn add_import<T: Into<EntityType>>(
+    section: &mut ImportSection,
+    calls: &mut Calls,
+    name: &str,
+    ty: T,
+) {
+    calls.note(section.import("m", name, ty));
 }
 
 const TABLE: TableType = TableType {
@@ -50,53 +64,62 @@ const TAG: TagType = TagType {
     func_type_idx: 1,
 };
 
-fn global(mutable: bool) -> GlobalType {
-    GlobalType {
-        val_type: ValType::I32,
-        mutable,
-        shared: false,
-    }
-}
+const GLOBAL: GlobalType = GlobalType {
+    val_type: ValType::I32,
+    mutable: false,
+    shared: false,
+};
 
-/// Of a list that is borrowed; one that is owned is copied.
+const VARIABLE: GlobalType = GlobalType {
+    mutable: true,
+    ..GLOBAL
+};
+
+/// Of a list that is borrowed; one that is owned is copied, and an import alone.
 fn group(alloc: Global) -> Result<Vec<u8>, EncodeError> {
-    let items = [
-        ImportCompact {
-            name: "a",
-            ty: EntityType::Function(0),
-        },
-        ImportCompact {
-            name: "b",
-            ty: global(false).into(),
-        },
-    ];
     let mut calls = Calls::new();
     let mut section = ImportSection::new(alloc);
-    calls.note(section.imports(compact(Items::borrowed(&items))));
-    note_copies(&mut calls, owned_items(alloc));
+    add_group(&mut section, &mut calls, compact(Items::borrowed(ITEMS)));
+    note_copy_of_owned(&mut calls, owned_items(alloc));
+    note_copy_of(&mut calls, &Imports::Single(FUNCTION));
     calls.encoded(alloc, section)
 }
 
-fn compact<'a>(items: Items<'a, ImportCompact<'a>>) -> Imports<'a> {
+const ITEM: ImportCompact<'static> = ImportCompact {
+    name: "a",
+    ty: EntityType::Function(0),
+};
+
+const ITEMS: &[ImportCompact<'static>] = &[
+    ITEM,
+    ImportCompact {
+        name: "b",
+        ty: EntityType::Global(GLOBAL),
+    },
+];
+
+fn add_group(section: &mut ImportSection, calls: &mut Calls, imports: Imports<'static>) {
+    calls.note(section.imports(imports));
+}
+
+fn compact(items: Items<'static, ImportCompact<'static>>) -> Imports<'static> {
     Imports::Compact1 { module: "m", items }
 }
 
-fn owned_items(alloc: Global) -> Result<Vec<ImportCompact<'static>>, EncodeError> {
-    let mut items = Vec::new(alloc);
-    items.push(ImportCompact {
-        name: "a",
-        ty: EntityType::Function(0),
-    })?;
-    Ok(items)
+fn owned_items(alloc: Global) -> Result<Vec<ImportCompact<'static>>, AllocError> {
+    Ok(Vec::from_array(alloc, [ITEM])?)
 }
 
-/// Copies a group that owns its list, and an import alone.
-fn note_copies(calls: &mut Calls, items: Result<Vec<ImportCompact<'static>>, EncodeError>) {
+/// Copies a group that owns its list.
+fn note_copy_of_owned(calls: &mut Calls, items: Result<Vec<ImportCompact<'static>>, AllocError>) {
     match items {
-        Ok(items) => calls.note_copy(compact(Items::owned(items)).clone()),
-        Err(error) => calls.note::<()>(Err(error)),
+        Ok(items) => note_copy_of(calls, &compact(Items::owned(items))),
+        Err(error) => calls.note_copy::<()>(Err(error)),
     }
-    calls.note_copy(Imports::Single(FUNCTION).clone());
+}
+
+fn note_copy_of(calls: &mut Calls, imports: &Imports<'static>) {
+    calls.note_copy(imports.clone());
 }
 
 const FUNCTION: Import<'static> = Import {
@@ -108,23 +131,33 @@ const FUNCTION: Import<'static> = Import {
 fn typed_group(alloc: Global) -> Result<Vec<u8>, EncodeError> {
     let mut calls = Calls::new();
     let mut section = ImportSection::new(alloc);
-    calls.note(section.imports(Imports::Compact2 {
-        module: "m",
-        ty: global(false).into(),
-        names: Items::borrowed(&["a", "b"]),
-    }));
-    calls.note(section.imports(Imports::Single(FUNCTION)));
+    add_group(&mut section, &mut calls, typed(&["a", "b"]));
+    add_group(&mut section, &mut calls, Imports::Single(FUNCTION));
     calls.encoded(alloc, section)
+}
+
+fn typed(names: &'static [&'static str]) -> Imports<'static> {
+    Imports::Compact2 {
+        module: "m",
+        ty: GLOBAL.into(),
+        names: Items::borrowed(names),
+    }
 }
 
 fn exports(alloc: Global) -> Result<Vec<u8>, EncodeError> {
     let mut calls = Calls::new();
     let mut section = ExportSection::new(alloc);
-    calls.note(section.export("f", ExportKind::Func, 0));
-    calls.note(section.export("t", ExportKind::Table, 1));
-    calls.note(section.export("m", ExportKind::Memory, 2));
-    calls.note(section.export("g", ExportKind::Global, 3));
-    calls.note(section.export("x", ExportKind::Tag, 4));
+    for (name, kind, index) in EXPORTS {
+        calls.note(section.export(name, *kind, *index));
+    }
     calls.note_copy(section.clone());
     calls.encoded(alloc, section)
 }
+
+const EXPORTS: &[(&str, ExportKind, u32)] = &[
+    ("f", ExportKind::Func, 0),
+    ("t", ExportKind::Table, 1),
+    ("m", ExportKind::Memory, 2),
+    ("g", ExportKind::Global, 3),
+    ("x", ExportKind::Tag, 4),
+];

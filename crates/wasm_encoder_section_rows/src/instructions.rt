@@ -2,30 +2,30 @@
 
 use crate::calls::Calls;
 use crate::print_row;
+use row_page::Page;
 use std::alloc::Global;
-use std::io;
 use wasm_encoder::{
     BlockType, ConstExpr, Encode, EncodeError, HeapType, Ieee32, Ieee64, Instruction,
     InstructionSink,
 };
 
-pub fn print_rows(rt: &HostRuntime) -> io::Result<()> {
+pub fn print_rows(page: &Page) {
     for number in 0..33 {
-        print_row(rt, "call of a sink", sunk(rt.alloc(), number))?;
+        print_row(page, "call of a sink", sunk(page.alloc(), number));
     }
     for number in 0..14 {
-        print_row(rt, "call of an expression", grown(rt.alloc(), number))?;
+        print_row(page, "call of an expression", grown(page.alloc(), number));
     }
     print_row(
-        rt,
+        page,
         "a global",
-        spelled(rt.alloc(), ConstExpr::global_get(rt.alloc(), 7)),
-    )?;
+        spelled(page.alloc(), ConstExpr::global_get(page.alloc(), 7)),
+    );
     print_row(
-        rt,
+        page,
         "a vector",
-        spelled(rt.alloc(), ConstExpr::v128_const(rt.alloc(), 1)),
-    )
+        spelled(page.alloc(), ConstExpr::v128_const(page.alloc(), 1)),
+    );
 }
 
 /// What the call of this number adds.
@@ -41,8 +41,10 @@ fn call(sink: InstructionSink<'_>, number: u32) -> Result<InstructionSink<'_>, E
         control(sink, number)
     } else if number < 20 {
         variable(sink, number)
-    } else {
+    } else if number < 31 {
         numeric(sink, number)
+    } else {
+        listed(sink, number)
     }
 }
 
@@ -88,10 +90,20 @@ fn numeric(sink: InstructionSink<'_>, number: u32) -> Result<InstructionSink<'_>
         27 => sink.i32_mul(),
         28 => sink.i64_add(),
         29 => sink.i64_sub(),
-        30 => sink.i64_mul(),
-        31 => sink.instruction(&Instruction::Nop),
-        _ => sink.instruction(&Instruction::End),
+        _ => sink.i64_mul(),
     }
+}
+
+fn listed(sink: InstructionSink<'_>, number: u32) -> Result<InstructionSink<'_>, EncodeError> {
+    if number == 31 { nop(sink) } else { end(sink) }
+}
+
+fn nop(sink: InstructionSink<'_>) -> Result<InstructionSink<'_>, EncodeError> {
+    sink.instruction(&Instruction::Nop)
+}
+
+fn end(sink: InstructionSink<'_>) -> Result<InstructionSink<'_>, EncodeError> {
+    sink.instruction(&Instruction::End)
 }
 
 /// The expression that the call of this number makes of an empty one.

@@ -17,38 +17,51 @@ mod tools;
 mod types;
 mod whole;
 
+use row_page::Page;
 use std::alloc::Global;
 use std::io;
 use wasm_encoder::{Encode, EncodeError, Section};
 
 fn main(rt: HostRuntime) -> io::Result<()> {
-    whole::print_rows(&rt)?;
-    types::print_rows(&rt)?;
-    imports::print_rows(&rt)?;
-    entities::print_rows(&rt)?;
-    segments::print_rows(&rt)?;
-    code::print_rows(&rt)?;
-    names::print_rows(&rt)?;
-    tools::print_rows(&rt)?;
-    dump::print_rows(&rt)?;
-    counts::print_rows(&rt)?;
-    instructions::print_rows(&rt)
+    let page = Page::new(rt);
+    whole::print_rows(&page);
+    types::print_rows(&page);
+    imports::print_rows(&page);
+    entities::print_rows(&page);
+    segments::print_rows(&page);
+    code::print_rows(&page);
+    names::print_rows(&page);
+    tools::print_rows(&page);
+    dump::print_rows(&page);
+    counts::print_rows(&page);
+    instructions::print_rows(&page);
+    page.outcome()
 }
 
 /// Prints a row: its name, then the bytes, or why there are none.
-fn print_row(rt: &HostRuntime, name: &str, bytes: Result<Vec<u8>, EncodeError>) -> io::Result<()> {
-    print!(rt; "{name}:")?;
+fn print_row(page: &Page, name: &str, bytes: Result<Vec<u8>, EncodeError>) {
+    page.put(name);
     match bytes {
-        Ok(bytes) => print_bytes(rt, bytes.as_slice()),
-        Err(error) => println!(rt; " {error}"),
+        Ok(bytes) => print_bytes(page, bytes.as_slice()),
+        Err(error) => writeln!(page, ": {error}"),
     }
 }
 
-fn print_bytes(rt: &HostRuntime, bytes: &[u8]) -> io::Result<()> {
+fn print_bytes(page: &Page, bytes: &[u8]) {
+    page.put(":");
     for byte in bytes {
-        print!(rt; " {byte:02x}")?;
+        write!(page, " {byte:02x}");
     }
-    println!(rt)
+    page.put("\n");
+}
+
+/// Prints a row: its name, then the number, or why there is none.
+fn print_number(page: &Page, name: &str, number: Result<usize, EncodeError>) {
+    page.put(name);
+    match number {
+        Ok(number) => writeln!(page, ": {number}"),
+        Err(error) => writeln!(page, ": {error}"),
+    }
 }
 
 /// The number of the section, and what follows it.

@@ -2,20 +2,20 @@
 
 use crate::calls::Calls;
 use crate::print_row;
+use row_page::Page;
 use std::alloc::Global;
 use std::borrow::CowStr;
-use std::io;
 use wasm_encoder_base::{Bytes, EncodeError};
 use wasm_encoder_custom::{CustomSection, IndirectNameMap, NameMap, NameSection, RawCustomSection};
 
-pub fn print_rows(rt: &HostRuntime) -> io::Result<()> {
-    let alloc = rt.alloc();
-    print_row(rt, "custom", custom(alloc))?;
-    print_row(rt, "raw custom", raw_custom(alloc))?;
-    print_row(rt, "function names", function_names(alloc))?;
-    print_row(rt, "names by an index", names_by_an_index(alloc))?;
-    print_row(rt, "names by two indices", names_by_two_indices(alloc))?;
-    print_row(rt, "raw subsection", raw_subsection(alloc))
+pub fn print_rows(page: &Page) {
+    let alloc = page.alloc();
+    print_row(page, "custom", custom(alloc));
+    print_row(page, "raw custom", raw_custom(alloc));
+    print_row(page, "function names", function_names(alloc));
+    print_row(page, "names by an index", names_by_an_index(alloc));
+    print_row(page, "names by two indices", names_by_two_indices(alloc));
+    print_row(page, "raw subsection", raw_subsection(alloc));
 }
 
 fn custom(alloc: Global) -> Result<Vec<u8>, EncodeError> {
@@ -81,9 +81,11 @@ fn names_by_two_indices(alloc: Global) -> Result<Vec<u8>, EncodeError> {
 }
 
 fn two_names(alloc: Global) -> Result<NameMap, EncodeError> {
+    let mut calls = Calls::new();
     let mut names = NameMap::new(alloc);
-    names.append(0, "p")?.target.append(1, "q")?;
-    Ok(names)
+    calls.note(names.append(0, "p"));
+    calls.note(names.append(1, "q"));
+    calls.with(names)
 }
 
 /// These names by the first index 2.

@@ -2,18 +2,19 @@
 
 use crate::calls::Calls;
 use crate::print_row;
+use row_page::Page;
 use std::alloc::Global;
-use std::{io, slice};
+use std::slice;
 use wasm_encoder::{
     AbstractHeapType, ConstExpr, DataSection, DataSegment, DataSegmentMode, ElementMode,
     ElementSection, ElementSegment, Elements, EncodeError, HeapType, Items, RefType,
 };
 
-pub fn print_rows(rt: &HostRuntime) -> io::Result<()> {
-    let alloc = rt.alloc();
-    print_row(rt, "segments of functions", of_functions(alloc))?;
-    print_row(rt, "segments of values", of_values(alloc))?;
-    print_row(rt, "data segments", data(alloc))
+pub fn print_rows(page: &Page) {
+    let alloc = page.alloc();
+    print_row(page, "segments of functions", of_functions(alloc));
+    print_row(page, "segments of values", of_values(alloc));
+    print_row(page, "data segments", data(alloc));
 }
 
 fn of_functions(alloc: Global) -> Result<Vec<u8>, EncodeError> {
@@ -31,18 +32,48 @@ fn functions(list: &[u32]) -> Elements<'_> {
 fn of_functions_at(alloc: Global, zero: &ConstExpr) -> Result<Vec<u8>, EncodeError> {
     let mut calls = Calls::new();
     let mut section = ElementSection::new(alloc);
-    calls.note(section.active(None, zero, functions(&[0, 1])));
-    calls.note(section.passive(functions(&[1])));
-    calls.note(section.segment(ElementSegment {
+    add_functions(&mut section, &mut calls, zero);
+    note_copy_of_elements(&mut calls, &functions(&[3]));
+    calls.encoded(alloc, section)
+}
+
+fn add_functions(section: &mut ElementSection, calls: &mut Calls, zero: &ConstExpr) {
+    add_active(section, calls, None, zero, functions(&[0, 1]));
+    add_passive(section, calls, functions(&[1]));
+    calls.note(section.segment(in_a_table(zero)));
+    add_declared(section, calls, functions(&[3]));
+}
+
+fn in_a_table(offset: &ConstExpr) -> ElementSegment<'_> {
+    ElementSegment {
         mode: ElementMode::Active {
             table: Some(0),
-            offset: zero,
+            offset,
         },
         elements: functions(&[2]),
-    }));
-    calls.note(section.declared(functions(&[3])));
-    calls.note_copy(functions(&[3]).clone());
-    calls.encoded(alloc, section)
+    }
+}
+
+fn note_copy_of_elements(calls: &mut Calls, elements: &Elements<'_>) {
+    calls.note_copy(elements.clone());
+}
+
+fn add_active(
+    section: &mut ElementSection,
+    calls: &mut Calls,
+    table: Option<u32>,
+    offset: &ConstExpr,
+    elements: Elements<'_>,
+) {
+    calls.note(section.active(table, offset, elements));
+}
+
+fn add_passive(section: &mut ElementSection, calls: &mut Calls, elements: Elements<'_>) {
+    calls.note(section.passive(elements));
+}
+
+fn add_declared(section: &mut ElementSection, calls: &mut Calls, elements: Elements<'_>) {
+    calls.note(section.declared(elements));
 }
 
 /// An offset, and values of elements.
@@ -72,18 +103,34 @@ fn of_values(alloc: Global) -> Result<Vec<u8>, EncodeError> {
 
 /// Active segments without a table are of `funcref` or not.
 fn of_these_values(alloc: Global, values: &Values) -> Result<Vec<u8>, EncodeError> {
-    let zero = &values.zero;
     let mut calls = Calls::new();
     let mut section = ElementSection::new(alloc);
-    calls.note(section.active(None, zero, one(RefType::FUNCREF, &values.function)));
-    calls.note(section.passive(one(RefType::EXTERNREF, &values.null)));
-    calls.note(section.active(Some(1), zero, none(RefType::FUNCREF)));
-    calls.note(section.active(None, zero, one(RefType::EXTERNREF, &values.null)));
-    calls.note(section.declared(one(RefType::FUNCREF, &values.declared)));
-    calls.note(section.raw(&[0x01, 0x00, 0x00]));
-    note_copy_of(&mut calls, owned_values(alloc));
+    add_values(&mut section, &mut calls, values);
+    note_copy_of_owned(&mut calls, owned_values(alloc));
     calls.note_copy(section.clone());
     calls.encoded(alloc, section)
+}
+
+fn add_values(section: &mut ElementSection, calls: &mut Calls, values: &Values) {
+    let zero = &values.zero;
+    add_active(
+        section,
+        calls,
+        None,
+        zero,
+        one(RefType::FUNCREF, &values.function),
+    );
+    add_passive(section, calls, one(RefType::EXTERNREF, &values.null));
+    add_active(section, calls, Some(1), zero, none(RefType::FUNCREF));
+    add_active(
+        section,
+        calls,
+        None,
+        zero,
+        one(RefType::EXTERNREF, &values.null),
+    );
+    add_declared(section, calls, one(RefType::FUNCREF, &values.declared));
+    calls.note(section.raw(&[0x01, 0x00, 0x00]));
 }
 
 fn one<'a>(ty: RefType, value: &'a ConstExpr) -> Elements<'a> {
@@ -101,11 +148,15 @@ fn owned_values(alloc: Global) -> Result<Vec<ConstExpr>, EncodeError> {
 }
 
 /// Copies a segment that owns its values.
-fn note_copy_of(calls: &mut Calls, values: Result<Vec<ConstExpr>, EncodeError>) {
+fn note_copy_of_owned(calls: &mut Calls, values: Result<Vec<ConstExpr>, EncodeError>) {
     match values {
-        Ok(values) => calls.note_copy(declared(values).clone()),
+        Ok(values) => note_copy_of(calls, &declared(values)),
         Err(error) => calls.note::<()>(Err(error)),
     }
+}
+
+fn note_copy_of(calls: &mut Calls, segment: &ElementSegment<'_>) {
+    calls.note_copy(segment.clone());
 }
 
 fn declared(values: Vec<ConstExpr>) -> ElementSegment<'static> {

@@ -2,23 +2,23 @@
 
 use crate::calls::Calls;
 use crate::{print_bytes, print_row};
+use row_page::Page;
 use std::alloc::Global;
-use std::io;
 use wasm_encoder_base::EncodeError;
 use wasm_encoder_custom::{
     BranchHint, BranchHints, DataSymbolDefinition, LinkingSection, ProducersField,
     ProducersSection, SymbolTable,
 };
 
-pub fn print_rows(rt: &HostRuntime) -> io::Result<()> {
-    let alloc = rt.alloc();
-    print_row(rt, "producers", producers(alloc))?;
-    print_row(rt, "linking", linking(alloc))?;
-    print_row(rt, "symbols", symbols(alloc))?;
-    print_row(rt, "architecture", architecture(alloc))?;
-    print_row(rt, "hints", hints(alloc))?;
-    print!(rt; "flags of symbols:")?;
-    print_bytes(rt, &FLAGS)
+pub fn print_rows(page: &Page) {
+    let alloc = page.alloc();
+    print_row(page, "producers", producers(alloc));
+    print_row(page, "linking", linking(alloc));
+    print_row(page, "symbols", symbols(alloc));
+    print_row(page, "architecture", architecture(alloc));
+    print_row(page, "hints", hints(alloc));
+    page.put("flags of symbols");
+    print_bytes(page, &FLAGS);
 }
 
 /// The flags of symbols.
@@ -38,8 +38,17 @@ fn producers(alloc: Global) -> Result<Vec<u8>, EncodeError> {
     calls.note(field.value("clang", "14.0.4"));
     calls.note(field.value("rustc", "1.66.1"));
     calls.note_copy(field.clone());
+    produced(alloc, calls, &field)
+}
+
+/// A section with this field.
+fn produced(
+    alloc: Global,
+    mut calls: Calls,
+    field: &ProducersField,
+) -> Result<Vec<u8>, EncodeError> {
     let mut section = ProducersSection::new(alloc);
-    calls.note(section.field("processed-by", &field));
+    calls.note(section.field("processed-by", field));
     calls.note_copy(section.clone());
     calls.encoded(alloc, section)
 }
@@ -61,17 +70,18 @@ fn symbols(alloc: Global) -> Result<Vec<u8>, EncodeError> {
 
 /// A function, a global and a table, and data that is defined here and that isn't.
 fn add_symbols(symbols: &mut SymbolTable, calls: &mut Calls) {
-    let place = DataSymbolDefinition {
-        index: 4,
-        offset: 5,
-        size: 6,
-    };
-    calls.note(symbols.data(1, "d", Some(place)));
+    calls.note(symbols.data(1, "d", Some(PLACE)));
     calls.note(symbols.data(16, "u", None));
     calls.note(symbols.function(16, 1, None));
     calls.note(symbols.global(0, 200, Some("g")));
     calls.note(symbols.table(128, 3, Some("t")));
 }
+
+const PLACE: DataSymbolDefinition = DataSymbolDefinition {
+    index: 4,
+    offset: 5,
+    size: 6,
+};
 
 /// A section with these symbols.
 fn linked(alloc: Global, mut calls: Calls, symbols: &SymbolTable) -> Result<Vec<u8>, EncodeError> {

@@ -2,16 +2,16 @@
 
 use crate::calls::Calls;
 use crate::print_row;
+use row_page::Page;
 use std::alloc::Global;
-use std::io;
 use wasm_encoder::{
     ArrayType, CompositeType, EncodeError, FieldType, FuncType, OwnedItems, StorageType,
     StructType, SubType, TypeSection, ValType,
 };
 
-pub fn print_rows(rt: &HostRuntime) -> io::Result<()> {
-    print_row(rt, "types", types(rt.alloc()))?;
-    print_row(rt, "types and groups", groups(rt.alloc()))
+pub fn print_rows(page: &Page) {
+    print_row(page, "types", types(page.alloc()));
+    print_row(page, "types and groups", groups(page.alloc()));
 }
 
 fn types(alloc: Global) -> Result<Vec<u8>, EncodeError> {
@@ -23,26 +23,26 @@ fn types(alloc: Global) -> Result<Vec<u8>, EncodeError> {
 
 /// The second is this one.
 fn types_with(alloc: Global, func_type: &FuncType) -> Result<Vec<u8>, EncodeError> {
-    let fields = [
-        field(StorageType::I16, false),
-        field(StorageType::Val(ValType::F64), true),
-    ];
     let mut calls = Calls::new();
     let mut section = TypeSection::new(alloc);
     calls.note(section.ty().function(&[ValType::I32], &[ValType::I64]));
     calls.note(section.ty().func_type(func_type));
     calls.note(section.ty().array(&StorageType::I8, true));
-    calls.note(section.ty().struct_(&fields));
+    calls.note(section.ty().struct_(FIELDS));
     calls.note_copy(section.clone());
     calls.encoded(alloc, section)
 }
 
-fn field(element_type: StorageType, mutable: bool) -> FieldType {
+const FIELDS: &[FieldType] = &[
     FieldType {
-        element_type,
-        mutable,
-    }
-}
+        element_type: StorageType::I16,
+        mutable: false,
+    },
+    FieldType {
+        element_type: StorageType::Val(ValType::F64),
+        mutable: true,
+    },
+];
 
 /// A type below another, a final one, and a group of two.
 fn groups(alloc: Global) -> Result<Vec<u8>, EncodeError> {
@@ -79,12 +79,14 @@ fn array_type() -> SubType {
     SubType {
         is_final: true,
         supertype_idx: Some(0),
-        composite_type: CompositeType::Array(ArrayType(field(
-            StorageType::Val(ValType::I32),
-            false,
-        ))),
+        composite_type: CompositeType::Array(ArrayType(ELEMENT)),
     }
 }
+
+const ELEMENT: FieldType = FieldType {
+    element_type: StorageType::Val(ValType::I32),
+    mutable: false,
+};
 
 /// A type by itself, which is copied too.
 fn add_type(section: &mut TypeSection, calls: &mut Calls, made: Result<SubType, EncodeError>) {

@@ -2,19 +2,19 @@
 
 use crate::calls::Calls;
 use crate::print_row;
+use row_page::Page;
 use std::alloc::Global;
 use std::borrow::CowStr;
-use std::io;
 use wasm_encoder::{
     Bytes, CodeSection, ConstExpr, CustomSection, DataCountSection, DataSection, ElementSection,
     Elements, EncodeError, EntityType, ExportKind, ExportSection, FunctionSection, GlobalSection,
-    GlobalType, ImportSection, Items, MemorySection, MemoryType, Module, RefType, StartSection,
-    TableSection, TableType, TagKind, TagSection, TagType, TypeSection, ValType,
+    GlobalType, ImportSection, Items, MemorySection, MemoryType, Module, RefType, Section,
+    StartSection, TableSection, TableType, TagKind, TagSection, TagType, TypeSection, ValType,
 };
 
-pub fn print_rows(rt: &HostRuntime) -> io::Result<()> {
-    print_row(rt, "no sections", no_sections(rt.alloc()))?;
-    print_row(rt, "every section", every_section(rt.alloc()))
+pub fn print_rows(page: &Page) {
+    print_row(page, "no sections", no_sections(page.alloc()));
+    print_row(page, "every section", every_section(page.alloc()));
 }
 
 fn no_sections(alloc: Global) -> Result<Vec<u8>, EncodeError> {
@@ -50,74 +50,88 @@ fn every_section_with(alloc: Global, zero: &ConstExpr) -> Result<Vec<u8>, Encode
     calls.with(module.finish())
 }
 
+/// Adds a section.
+fn add<S: Section + Drop>(module: &mut Module, calls: &mut Calls, section: S)
+    requires { S.Encode.can_encode section }
+{
+    calls.note(module.section(&section));
+}
+
 fn add_types(alloc: Global, module: &mut Module, calls: &mut Calls) {
     let mut section = TypeSection::new(alloc);
     calls.note(section.ty().function(&[], &[]));
-    calls.note(module.section(&section));
+    add(module, calls, section);
 }
 
 fn add_imports(alloc: Global, module: &mut Module, calls: &mut Calls) {
     let mut section = ImportSection::new(alloc);
     calls.note(section.import("m", "f", EntityType::Function(0)));
-    calls.note(module.section(&section));
+    add(module, calls, section);
 }
 
 fn add_functions(alloc: Global, module: &mut Module, calls: &mut Calls) {
     let mut section = FunctionSection::new(alloc);
     calls.note(section.function(0));
-    calls.note(module.section(&section));
+    add(module, calls, section);
 }
 
 fn add_tables(alloc: Global, module: &mut Module, calls: &mut Calls) {
     let mut section = TableSection::new(alloc);
-    calls.note(section.table(TableType {
-        element_type: RefType::FUNCREF,
-        table64: false,
-        minimum: 1,
-        maximum: None,
-        shared: false,
-    }));
-    calls.note(module.section(&section));
+    calls.note(section.table(TABLE));
+    add(module, calls, section);
 }
+
+const TABLE: TableType = TableType {
+    element_type: RefType::FUNCREF,
+    table64: false,
+    minimum: 1,
+    maximum: None,
+    shared: false,
+};
 
 fn add_memories(alloc: Global, module: &mut Module, calls: &mut Calls) {
     let mut section = MemorySection::new(alloc);
-    calls.note(section.memory(MemoryType {
-        minimum: 1,
-        maximum: None,
-        memory64: false,
-        shared: false,
-        page_size_log2: None,
-    }));
-    calls.note(module.section(&section));
+    calls.note(section.memory(MEMORY));
+    add(module, calls, section);
 }
+
+const MEMORY: MemoryType = MemoryType {
+    minimum: 1,
+    maximum: None,
+    memory64: false,
+    shared: false,
+    page_size_log2: None,
+};
 
 fn add_tags(alloc: Global, module: &mut Module, calls: &mut Calls) {
     let mut section = TagSection::new(alloc);
-    calls.note(section.tag(TagType {
-        kind: TagKind::Exception,
-        func_type_idx: 0,
-    }));
-    calls.note(module.section(&section));
+    calls.note(section.tag(TAG));
+    add(module, calls, section);
 }
+
+const TAG: TagType = TagType {
+    kind: TagKind::Exception,
+    func_type_idx: 0,
+};
 
 fn add_globals(alloc: Global, module: &mut Module, calls: &mut Calls, zero: &ConstExpr) {
     let mut section = GlobalSection::new(alloc);
-    let global_type = GlobalType {
-        val_type: ValType::I32,
-        mutable: false,
-        shared: false,
-    };
-    calls.note(section.global(global_type, zero));
-    calls.note(module.section(&section));
+    calls.note(section.global(GLOBAL, zero));
+    add(module, calls, section);
 }
+
+const GLOBAL: GlobalType = GlobalType {
+    val_type: ValType::I32,
+    mutable: false,
+    shared: false,
+};
 
 /// Behind exports stands the start function.
 fn add_exports(alloc: Global, module: &mut Module, calls: &mut Calls) {
     let mut section = ExportSection::new(alloc);
     calls.note(section.export("g", ExportKind::Func, 1));
-    calls.note(module.section(&section));
-    calls.note(module.section(&StartSection { function_index: 1 }));
+    add(module, calls, section);
+    add(module, calls, StartSection { function_index: 1 });
 }
 
 /// Behind element segments stands the count of data segments.
@@ -125,25 +139,26 @@ fn add_elements(alloc: Global, module: &mut Module, calls: &mut Calls, zero: &Co
     let mut section = ElementSection::new(alloc);
     let functions = Elements::Functions(Items::borrowed(&[1]));
     calls.note(section.active(None, zero, functions));
-    calls.note(module.section(&section));
-    calls.note(module.section(&DataCountSection { count: 1 }));
+    add(module, calls, section);
+    add(module, calls, DataCountSection { count: 1 });
 }
 
 fn add_code(alloc: Global, module: &mut Module, calls: &mut Calls) {
     let mut section = CodeSection::new(alloc);
     calls.note(section.raw(&[0x00, 0x0B]));
-    calls.note(module.section(&section));
+    add(module, calls, section);
 }
 
 fn add_data(alloc: Global, module: &mut Module, calls: &mut Calls, zero: &ConstExpr) {
     let mut section = DataSection::new(alloc);
     calls.note(section.active(0, zero, b"a"));
-    calls.note(module.section(&section));
+    add(module, calls, section);
 }
 
 fn add_custom(module: &mut Module, calls: &mut Calls) {
-    calls.note(module.section(&CustomSection {
+    let section = CustomSection {
         name: CowStr::Borrowed("x"),
         bytes: Bytes::borrowed(&[]),
-    }));
+    };
+    add(module, calls, section);
 }

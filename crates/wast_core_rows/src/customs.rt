@@ -1,79 +1,53 @@
 //! Custom fields.
-use crate::fields::{print_bytes, refused};
-use std::io;
-use wast_customs::{Custom, Dylink0, Dylink0Subsection, Producer, Producers, RawCustomSection};
-use wast_parser::{Encode, Error, Parse, ParseBuffer, Parser};
+use crate::show::{Show, show_bytes, show_each};
+use row_page::Page;
+use wast_customs::{Custom, Dylink0Subsection, Producer, RawCustomSection};
+use wast_parser::Encode;
 
-/// Prints a custom field.
-pub fn print<'a>(rt: &HostRuntime, buffer: &'a ParseBuffer<'a>) -> io::Result<()> {
-    let mut parser = Parser::new(buffer);
-    match register(&mut parser) {
-        Ok(()) => print_whole(rt, &mut parser),
-        Err(error) => refused(rt, &error),
+impl<'a> Show for Custom<'a> {
+    fn show(&self, page: &Page) {
+        page.put(self.name());
+        let place = self.place();
+        write!(page, " {place:?} at ");
+        page.write_fmt(self.span().offset());
+        print_inside(self, page);
     }
 }
 
-/// The annotations of custom fields.
-fn register(parser: &mut Parser<'_>) -> Result<(), Error> {
-    parser.register_annotation("custom")?;
-    parser.register_annotation("producers")?;
-    parser.register_annotation("dylink.0")
-}
-
-/// Nothing stands behind the field, which is lent where it is read.
-fn print_whole(rt: &HostRuntime, parser: &mut Parser<'_>) -> io::Result<()> {
-    match Custom::parse(parser) {
-        Ok(custom) => match parser.end() {
-            Ok(_) => print_custom(rt, &custom),
-            Err(error) => refused(rt, &error),
-        },
-        Err(error) => refused(rt, &error),
-    }
-}
-
-fn print_custom(rt: &HostRuntime, custom: &Custom) -> io::Result<()> {
-    let (name, place, offset) = (custom.name(), custom.place(), custom.span().offset());
-    println!(rt; "{name} {place:?} at {offset}")?;
+fn print_inside(custom: &Custom<'_>, page: &Page) {
     match custom {
-        Custom::Raw(section) => print_raw(rt, section),
-        Custom::Producers(producers) => print_producers(rt, producers),
-        Custom::Dylink0(dylink) => print_dylink(rt, dylink),
+        Custom::Raw(section) => print_raw(section, page),
+        Custom::Producers(producers) => show_each(page, "\n", &producers.fields, ""),
+        Custom::Dylink0(dylink) => show_each(page, "\n", &dylink.subsections, ""),
     }
 }
 
-fn print_raw(rt: &HostRuntime, section: &RawCustomSection) -> io::Result<()> {
-    for bytes in section.bytes.as_slice() {
-        rt.print("bytes")?;
-        print_bytes(rt, bytes.as_slice())?;
+fn print_raw(section: &RawCustomSection<'_>, page: &Page) {
+    for bytes in &section.bytes {
+        page.put("\nbytes");
+        show_bytes(page, bytes.as_slice());
     }
-    Ok(())
 }
 
-fn print_producers(rt: &HostRuntime, producers: &Producers) -> io::Result<()> {
-    for producer in producers.fields.as_slice() {
-        print_producer(rt, producer)?;
+impl<'a> Show for Producer<'a> {
+    fn show(&self, page: &Page) {
+        let kind = self.kind;
+        write!(page, "{kind:?} ");
+        page.put(self.name.as_str());
+        page.put(" ");
+        page.put(self.version.as_str());
     }
-    Ok(())
 }
 
-fn print_dylink(rt: &HostRuntime, dylink: &Dylink0) -> io::Result<()> {
-    for subsection in dylink.subsections.as_slice() {
-        print_subsection(rt, subsection)?;
-    }
-    Ok(())
-}
-
-fn print_producer(rt: &HostRuntime, producer: &Producer) -> io::Result<()> {
-    let (name, version) = (producer.name.as_str(), producer.version.as_str());
-    println!(rt; "{:?} {name} {version}", producer.kind)
-}
-
-fn print_subsection(rt: &HostRuntime, subsection: &Dylink0Subsection) -> io::Result<()> {
-    let mut sink = Vec::new(rt.alloc());
-    let answer = subsection.encode(&mut sink);
-    print!(rt; "{}:", subsection.id())?;
-    match answer {
-        Ok(_) => print_bytes(rt, &sink),
-        Err(error) => println!(rt; " {error}"),
+/// Its number, and its bytes or why it has none.
+impl<'a> Show for Dylink0Subsection<'a> {
+    fn show(&self, page: &Page) {
+        page.write_fmt(self.id());
+        page.put(":");
+        let mut bytes = Vec::new(page.alloc());
+        match self.encode(&mut bytes) {
+            Ok(_) => show_bytes(page, &bytes),
+            Err(error) => write!(page, " {error}"),
+        }
     }
 }

@@ -1,80 +1,77 @@
 //! Exports, and what stands inline.
-use crate::fields::refused;
-use std::io;
-use wast_exports::{Export, InlineExport, InlineImport};
-use wast_parser::{Index, Parse, ParseBuffer, Parser, parse};
+use crate::show::{Show, refused_at, show_between, show_each};
+use row_page::Page;
+use wast_exports::{Export, ExportName, InlineExport, InlineImport};
+use wast_parser::{Parse, Parser};
 
-/// Prints an export.
-pub fn print<'a>(rt: &HostRuntime, buffer: &'a ParseBuffer<'a>) -> io::Result<()> {
-    match parse::<Export<'a>>(buffer) {
-        Ok(export) => print_export(rt, &export),
-        Err(error) => refused(rt, &error),
+impl<'a> Show for Export<'a> {
+    fn show(&self, page: &Page) {
+        page.put(self.name.as_str());
+        let kind = self.kind;
+        write!(page, " {kind:?} at ");
+        page.write_fmt(self.span.offset());
+        page.put(": ");
+        self.item.show(page);
+        page.put(" at ");
+        page.write_fmt(self.item.span().offset());
     }
 }
 
-fn print_export(rt: &HostRuntime, export: &Export) -> io::Result<()> {
-    let (name, offset) = (export.name.as_str(), export.span.offset());
-    print!(rt; "{name} {:?} at {offset}: ", export.kind)?;
-    match &export.item {
-        Index::Num(number, span) => println!(rt; "{number} at {}", span.offset()),
-        Index::Id(id) => println!(rt; "${} at {}", id.name(), id.span().offset()),
+impl<'a> Show for ExportName<'a> {
+    fn show(&self, page: &Page) {
+        page.put(self.name.as_str());
     }
 }
 
 /// Prints inline exports, and the inline import behind them. What is read is lent where it is read.
-pub fn print_inline<'a>(rt: &HostRuntime, buffer: &'a ParseBuffer<'a>) -> io::Result<()> {
-    let mut parser = Parser::new(buffer);
-    match InlineExport::parse(&mut parser) {
-        Ok(exports) => print_behind(rt, &mut parser, &exports),
-        Err(error) => refused(rt, &error),
+pub fn print_inline(page: &Page, parser: &mut Parser<'_>) {
+    match InlineExport::parse(parser) {
+        Ok(exports) => print_behind(page, parser, &exports),
+        Err(error) => refused_at(page, &error),
     }
 }
 
-fn print_behind(
-    rt: &HostRuntime,
-    parser: &mut Parser<'_>,
-    exports: &InlineExport<'_>,
-) -> io::Result<()> {
+fn print_behind(page: &Page, parser: &mut Parser<'_>, exports: &InlineExport<'_>) {
     match parser.peek::<InlineImport>() {
-        Ok(true) => match InlineImport::parse(parser) {
-            Ok(import) => print_imported(rt, parser, exports, &import),
-            Err(error) => refused(rt, &error),
-        },
-        Ok(false) => print_alone(rt, parser, exports),
-        Err(error) => refused(rt, &error),
+        Ok(true) => print_import(page, parser, exports),
+        Ok(false) => print_end(page, parser, exports, &Alone),
+        Err(error) => refused_at(page, &error),
     }
 }
 
-/// Nothing stands behind the exports.
-fn print_alone(
-    rt: &HostRuntime,
-    parser: &mut Parser<'_>,
-    exports: &InlineExport<'_>,
-) -> io::Result<()> {
-    if let Err(error) = parser.end() {
-        return refused(rt, &error);
+fn print_import(page: &Page, parser: &mut Parser<'_>, exports: &InlineExport<'_>) {
+    match InlineImport::parse(parser) {
+        Ok(import) => print_end(page, parser, exports, &import),
+        Err(error) => refused_at(page, &error),
     }
-    print_names(rt, exports)?;
-    rt.println("alone")
 }
 
-/// Nothing stands behind the import.
-fn print_imported(
-    rt: &HostRuntime,
-    parser: &mut Parser<'_>,
-    exports: &InlineExport<'_>,
-    import: &InlineImport<'_>,
-) -> io::Result<()> {
-    if let Err(error) = parser.end() {
-        return refused(rt, &error);
+/// Nothing stands behind what is read last.
+fn print_end<T: Show>(page: &Page, parser: &Parser<'_>, exports: &InlineExport<'_>, last: &T) {
+    match parser.end() {
+        Ok(()) => {
+            show_each(page, "", &exports.names, " ");
+            show_between(page, "", last, "\n");
+        }
+        Err(error) => refused_at(page, &error),
     }
-    print_names(rt, exports)?;
-    println!(rt; "from {} {}", import.module.as_str(), import.field.as_str())
 }
 
-fn print_names(rt: &HostRuntime, exports: &InlineExport<'_>) -> io::Result<()> {
-    for export in exports.names.as_slice() {
-        print!(rt; "{} ", export.name.as_str())?;
+/// No import stands behind exports.
+#[derive(Drop)]
+struct Alone;
+
+impl Show for Alone {
+    fn show(&self, page: &Page) {
+        page.put("alone");
     }
-    Ok(())
+}
+
+impl<'a> Show for InlineImport<'a> {
+    fn show(&self, page: &Page) {
+        page.put("from ");
+        page.put(self.module.as_str());
+        page.put(" ");
+        page.put(self.field.as_str());
+    }
 }

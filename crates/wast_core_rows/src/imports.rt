@@ -1,129 +1,49 @@
 //! Imports, items, and types of exports.
-use crate::types::{Show, print_head, shown};
-use crate::values::{print_global, print_memory, print_table};
-use std::io;
+use crate::show::{Show, show_each, show_head, show_place, shown};
+use row_page::Page;
 use wast_imports::{
     ExportType, Head, ImportGroup1Item, ImportGroup2Item, ImportItems, Imports, ItemKind, ItemSig,
     TagType,
 };
-use wast_parser::ParseBuffer;
+use wast_parser::Parser;
 
-/// Prints what a text is, read as one of a production, whose name stands before it.
-pub fn read(rt: HostRuntime, words: &str) -> io::Result<()> {
-    let (kind, text) = words.split_once(' ').unwrap_or((words, ""));
-    if 4_294_967_295 < text.len() {
-        return println!(rt; "too long");
-    }
-    match ParseBuffer::new(rt.alloc(), text) {
-        Ok(buffer) => read_value(rt, kind, &buffer),
-        Err(_) => println!(rt; "no tokens"),
-    }
-}
-
-fn read_value<'a>(rt: HostRuntime, kind: &str, buffer: &'a ParseBuffer<'a>) -> io::Result<()> {
-    if kind == "imports" {
-        shown::<Imports>(rt, buffer)
-    } else if kind == "item" {
-        shown::<ItemSig>(rt, buffer)
-    } else if kind == "export" {
-        shown::<ExportType>(rt, buffer)
-    } else if kind == "tag" {
-        shown::<TagType>(rt, buffer)
-    } else if kind == "head" {
-        shown::<Head>(rt, buffer)
-    } else {
-        println!(rt; "no such part")
+/// Prints what a text is, read as one of a production.
+pub fn print(page: &Page, kind: &str, parser: &mut Parser<'_>) {
+    match kind {
+        "imports" => shown::<Imports>(page, parser),
+        "item" => shown::<ItemSig>(page, parser),
+        "export" => shown::<ExportType>(page, parser),
+        "tag" => shown::<TagType>(page, parser),
+        "head" => shown::<Head>(page, parser),
+        _ => page.put("no such part\n"),
     }
 }
 
 impl<'a> Show for Head<'a> {
-    fn show(&self, rt: HostRuntime) -> io::Result<()> {
-        print_head(rt, &self.id, &self.name)?;
-        rt.print("head")
+    fn show(&self, page: &Page) {
+        show_head(page, &self.id, &self.name);
+        page.put("head");
     }
 }
 
 impl<'a> Show for TagType<'a> {
-    fn show(&self, rt: HostRuntime) -> io::Result<()> {
+    fn show(&self, page: &Page) {
         match self {
-            TagType::Exception(ty) => ty.show(rt),
+            TagType::Exception(ty) => ty.show(page),
         }
     }
 }
 
 impl<'a> Show for ItemSig<'a> {
-    fn show(&self, rt: HostRuntime) -> io::Result<()> {
-        print!(rt; "{}: ", self.span.offset())?;
-        print_head(rt, &self.id, &self.name)?;
-        print_kind(rt, &self.kind)
+    fn show(&self, page: &Page) {
+        show_place(page, self.span);
+        show_head(page, &self.id, &self.name);
+        page.put(word_of(&self.kind));
+        self.kind.show(page);
     }
 }
 
-impl<'a> Show for ExportType<'a> {
-    fn show(&self, rt: HostRuntime) -> io::Result<()> {
-        print!(rt; "{}: \"{}\" ", self.span.offset(), self.name.as_str())?;
-        self.item.show(rt)
-    }
-}
-
-impl<'a> Show for Imports<'a> {
-    fn show(&self, rt: HostRuntime) -> io::Result<()> {
-        print!(rt; "{}: {} of ", self.span.offset(), self.num_items())?;
-        print_items(rt, &self.items)?;
-        rt.print("; at")?;
-        for sig in self.item_sigs(rt.alloc())? {
-            print!(rt; " {}", sig.span.offset())?;
-        }
-        Ok(())
-    }
-}
-
-fn print_items(rt: HostRuntime, items: &ImportItems) -> io::Result<()> {
-    match items {
-        ImportItems::Single { module, name, sig } => {
-            print!(rt; "\"{}\": \"{}\" ", module.as_str(), name.as_str())?;
-            sig.show(rt)
-        }
-        ImportItems::Group1 { module, items } => {
-            print!(rt; "\"{}\", each:", module.as_str())?;
-            print_each(rt, items.as_slice())
-        }
-        ImportItems::Group2 { module, sig, items } => {
-            print!(rt; "\"{}\", all:", module.as_str())?;
-            print_names(rt, items.as_slice())?;
-            sig.show(rt)
-        }
-    }
-}
-
-fn print_each(rt: HostRuntime, items: &[ImportGroup1Item]) -> io::Result<()> {
-    for item in items {
-        print!(rt; " \"{}\" ", item.name.as_str())?;
-        item.sig.show(rt)?;
-    }
-    Ok(())
-}
-
-fn print_names(rt: HostRuntime, items: &[ImportGroup2Item]) -> io::Result<()> {
-    for item in items {
-        print!(rt; " \"{}\"", item.name.as_str())?;
-    }
-    rt.print(" ")
-}
-
-fn print_kind(rt: HostRuntime, kind: &ItemKind) -> io::Result<()> {
-    rt.print(word_of(kind))?;
-    match kind {
-        ItemKind::Func(ty) => ty.show(rt),
-        ItemKind::FuncExact(ty) => ty.show(rt),
-        ItemKind::Table(ty) => print_table(rt, ty),
-        ItemKind::Memory(ty) => print_memory(rt, ty),
-        ItemKind::Global(ty) => print_global(rt, ty),
-        ItemKind::Tag(ty) => ty.show(rt),
-    }
-}
-
-fn word_of(kind: &ItemKind) -> &'static str {
+fn word_of(kind: &ItemKind<'_>) -> &'static str {
     match kind {
         ItemKind::Func(_) => "func ",
         ItemKind::FuncExact(_) => "exact func ",
@@ -131,5 +51,91 @@ fn word_of(kind: &ItemKind) -> &'static str {
         ItemKind::Memory(_) => "memory ",
         ItemKind::Global(_) => "global ",
         ItemKind::Tag(_) => "tag ",
+    }
+}
+
+impl<'a> Show for ItemKind<'a> {
+    fn show(&self, page: &Page) {
+        match self {
+            ItemKind::Func(ty) | ItemKind::FuncExact(ty) => ty.show(page),
+            ItemKind::Table(ty) => ty.show(page),
+            ItemKind::Memory(ty) => ty.show(page),
+            ItemKind::Global(ty) => ty.show(page),
+            ItemKind::Tag(ty) => ty.show(page),
+        }
+    }
+}
+
+impl<'a> Show for ExportType<'a> {
+    fn show(&self, page: &Page) {
+        show_place(page, self.span);
+        print_quoted(page, self.name.as_str(), " ");
+        self.item.show(page);
+    }
+}
+
+/// Prints a name in quotes, and a text behind it.
+fn print_quoted(page: &Page, name: &str, after: &str) {
+    page.put("\"");
+    page.put(name);
+    page.put("\"");
+    page.put(after);
+}
+
+impl<'a> Show for Imports<'a> {
+    fn show(&self, page: &Page) {
+        show_place(page, self.span);
+        page.write_fmt(self.num_items());
+        page.put(" of ");
+        self.items.show(page);
+        page.put("; at");
+        print_places(self, page);
+    }
+}
+
+fn print_places(imports: &Imports<'_>, page: &Page) {
+    match imports.item_sigs(page.alloc()) {
+        Ok(sigs) => {
+            for sig in sigs {
+                page.put(" ");
+                page.write_fmt(sig.span.offset());
+            }
+        }
+        Err(error) => page.fail(error),
+    }
+}
+
+impl<'a> Show for ImportItems<'a> {
+    fn show(&self, page: &Page) {
+        match self {
+            ImportItems::Single { module, name, sig } => {
+                print_quoted(page, module.as_str(), ": ");
+                print_quoted(page, name.as_str(), " ");
+                sig.show(page);
+            }
+            ImportItems::Group1 { module, items } => {
+                print_quoted(page, module.as_str(), ", each:");
+                show_each(page, " ", items, "");
+            }
+            ImportItems::Group2 { module, sig, items } => {
+                print_quoted(page, module.as_str(), ", all:");
+                show_each(page, " ", items, "");
+                page.put(" ");
+                sig.show(page);
+            }
+        }
+    }
+}
+
+impl<'a> Show for ImportGroup1Item<'a> {
+    fn show(&self, page: &Page) {
+        print_quoted(page, self.name.as_str(), " ");
+        self.sig.show(page);
+    }
+}
+
+impl<'a> Show for ImportGroup2Item<'a> {
+    fn show(&self, page: &Page) {
+        print_quoted(page, self.name.as_str(), "");
     }
 }

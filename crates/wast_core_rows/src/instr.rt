@@ -1,158 +1,136 @@
 //! Instructions, unfolded.
-use crate::values::print_heap;
-use std::alloc::Global;
-use std::io;
-use wast_core_instr::{Expression, GcOp, Instruction};
-use wast_parser::{Error, Index, Parse, ParseBuffer, Parser};
+use crate::show::{Show, refused, show_each, show_if};
+use row_page::Page;
+use std::fmt::{Debug, Display};
+use wast_core_instr::{BranchHint, Expression, GcOp, Instruction};
+use wast_parser::{Error, Parse, Parser};
 use wast_typed_operands::{BlockType, CallIndirect};
 use wast_value_types::HeapType;
 
-/// Prints what the items of a text unfold to, with the hints; or that they are refused.
-pub fn unfold(rt: HostRuntime, text: &str, folded: bool) -> io::Result<()> {
-    if 4_294_967_295 < text.len() {
-        return println!(rt; "too long");
-    }
-    match ParseBuffer::new(rt.alloc(), text) {
-        Ok(buffer) => unfold_whole(rt, &mut Parser::new(&buffer), folded),
-        Err(_) => println!(rt; "no tokens"),
-    }
-}
-
-/// All of a text, with hints registered. The expression is lent where it is read.
-fn unfold_whole(rt: HostRuntime, parser: &mut Parser<'_>, folded: bool) -> io::Result<()> {
-    if parser
-        .register_annotation("metadata.code.branch_hint")
-        .is_err()
-    {
-        return println!(rt; "out of memory");
-    }
-    match read(parser, folded) {
-        Ok(expression) => print_whole(rt, parser, &expression),
-        Err(_) => println!(rt; "refused"),
-    }
-}
-
-/// Items, or an instruction behind its operands.
-fn read<'a>(parser: &mut Parser<'a>, folded: bool) -> Result<Expression<'a>, Error> {
-    if folded {
+/// Prints what the items of a text unfold to, or an instruction behind its operands, with the hints; or that they are refused.
+pub fn unfold(page: &Page, parser: &mut Parser<'_>, folded: bool) {
+    let read = if folded {
         Expression::parse_folded_instruction(parser)
     } else {
         Expression::parse(parser)
+    };
+    print_read(page, parser, read);
+}
+
+/// Prints what was read, unless more stands behind it.
+fn print_read<T: Show + Drop>(page: &Page, parser: &Parser<'_>, read: Result<T, Error>) {
+    match read {
+        Ok(value) => print_last(page, parser, &value),
+        Err(error) => refused(page, &error),
     }
 }
 
-/// Prints an expression, unless more stands behind it.
-fn print_whole(
-    rt: HostRuntime,
-    parser: &mut Parser<'_>,
-    expression: &Expression<'_>,
-) -> io::Result<()> {
+fn print_last<T: Show>(page: &Page, parser: &Parser<'_>, value: &T) {
     match parser.end() {
-        Ok(_) => print_expression(rt, expression),
-        Err(_) => println!(rt; "refused"),
+        Ok(()) => value.show(page),
+        Err(error) => refused(page, &error),
     }
 }
 
 /// Prints whether a text is one instruction.
-pub fn mnemonic(rt: HostRuntime, text: &str) -> io::Result<()> {
-    if 4_294_967_295 < text.len() {
-        return println!(rt; "too long");
-    }
-    match ParseBuffer::new(rt.alloc(), text) {
-        Ok(buffer) => {
-            if is_one(rt.alloc(), &mut Parser::new(&buffer)) {
-                println!(rt; "mnemonic ok")
-            } else {
-                println!(rt; "refused")
-            }
-        }
-        Err(_) => println!(rt; "no tokens"),
+pub fn mnemonic(page: &Page, parser: &mut Parser<'_>) {
+    if takes_one(parser) && parser.end().is_ok() {
+        page.put("mnemonic ok\n");
+    } else {
+        page.put("refused\n");
     }
 }
 
-/// Whether all of a text is one instruction. It is let go in an expression, whose drop is proved where that stands.
-fn is_one(alloc: Global, parser: &mut Parser<'_>) -> bool {
+/// Whether an instruction is read. It is let go in an expression, whose drop is proved where that stands.
+fn takes_one(parser: &mut Parser<'_>) -> bool {
     match Instruction::parse(parser) {
-        Ok(instruction) => Expression::one(alloc, instruction).is_ok() && parser.end().is_ok(),
-        Err(_error) => false,
+        Ok(instruction) => is_made(Expression::one(parser.alloc(), instruction)),
+        Err(_) => false,
     }
 }
 
-fn print_expression(rt: HostRuntime, expression: &Expression) -> io::Result<()> {
-    for instruction in &expression.instrs {
-        print_instruction(rt, instruction)?;
-    }
-    for hint in expression.branch_hints.as_slice() {
-        println!(rt; "hint {} at instruction {}", hint.value, hint.instr_index)?;
-    }
-    Ok(())
+fn is_made<T: Drop, E: Drop>(made: Result<T, E>) -> bool {
+    made.is_ok()
 }
 
-/// Prints an instruction by its mnemonic and its operands; of some that have no operands, by what the encoder calls them.
-fn print_instruction(rt: HostRuntime, instruction: &Instruction) -> io::Result<()> {
-    match instruction {
-        Instruction::Nop => rt.println("nop"),
-        Instruction::Drop => rt.println("drop"),
-        Instruction::Block(block) => print_block(rt, "block", &block),
-        Instruction::Loop(block) => print_block(rt, "loop", &block),
-        Instruction::If(block) => print_block(rt, "if", &block),
-        Instruction::Else(_) => rt.println("else"),
-        Instruction::End(_) => rt.println("end"),
-        Instruction::TryTable(table) => print_clauses(rt, table.catches.len()),
-        Instruction::Br(label) => print_indexed(rt, "br", label),
-        Instruction::Catch(tag) => print_indexed(rt, "catch", tag),
-        Instruction::CallIndirect(call) => print_call(rt, &call),
-        Instruction::I32Const(value) => println!(rt; "i32.const {value}"),
-        Instruction::I64Const(value) => println!(rt; "i64.const {value}"),
-        Instruction::Numeric(op) => println!(rt; "{op:?}"),
-        Instruction::Compare(op) => println!(rt; "{op:?}"),
-        Instruction::Access(op, memarg) => {
-            println!(rt; "{op:?} offset={} align={}", memarg.offset, memarg.align)
+/// Its instructions, and then its hints, each with the end of its line.
+impl<'a> Show for Expression<'a> {
+    fn show(&self, page: &Page) {
+        for instruction in &self.instrs {
+            instruction.show(page);
+            page.put("\n");
         }
-        Instruction::Gc(GcOp::RefNull(heap)) => print_null(rt, heap),
-        _ => rt.println("another"),
+        show_each(page, "hint ", &self.branch_hints, "\n");
     }
 }
 
-fn print_clauses(rt: HostRuntime, count: usize) -> io::Result<()> {
-    println!(rt; "try_table with {count} clauses")
-}
-
-fn print_null(rt: HostRuntime, heap: &HeapType) -> io::Result<()> {
-    rt.print("ref.null ")?;
-    print_heap(rt, heap)?;
-    println!(rt)
-}
-
-fn print_block(rt: HostRuntime, word: &str, block: &BlockType) -> io::Result<()> {
-    match &block.label {
-        Some(id) => print!(rt; "{word} ${}", id.name())?,
-        None => rt.print(word)?,
-    }
-    print_type(rt, &block.ty.index)
-}
-
-fn print_indexed(rt: HostRuntime, word: &str, index: &Index) -> io::Result<()> {
-    match index {
-        Index::Num(number, _) => println!(rt; "{word} {number}"),
-        Index::Id(id) => println!(rt; "{word} ${}", id.name()),
+impl Show for BranchHint {
+    fn show(&self, page: &Page) {
+        page.write_fmt(self.value);
+        page.put(" at instruction ");
+        page.write_fmt(self.instr_index);
     }
 }
 
-fn print_call(rt: HostRuntime, call: &CallIndirect) -> io::Result<()> {
-    match &call.table {
-        Some(Index::Num(number, _)) => print!(rt; "call_indirect {number}")?,
-        Some(Index::Id(id)) => print!(rt; "call_indirect ${}", id.name())?,
-        None => rt.print("call_indirect")?,
+/// Its mnemonic and its operands; of some that have no operands, what the encoder calls them.
+impl<'a> Show for Instruction<'a> {
+    fn show(&self, page: &Page) {
+        match self {
+            Instruction::Nop => page.put("nop"),
+            Instruction::Drop => page.put("drop"),
+            Instruction::Block(block) => print_block(page, "block", block),
+            Instruction::Loop(block) => print_block(page, "loop", block),
+            Instruction::If(block) => print_block(page, "if", block),
+            Instruction::Else(_) => page.put("else"),
+            Instruction::End(_) => page.put("end"),
+            Instruction::TryTable(table) => print_clauses(page, table.catches.len()),
+            Instruction::Br(label) => print_operand(page, "br ", label),
+            Instruction::Catch(tag) => print_operand(page, "catch ", tag),
+            Instruction::CallIndirect(call) => print_call(page, call),
+            Instruction::I32Const(value) => print_value(page, "i32.const ", value),
+            Instruction::I64Const(value) => print_value(page, "i64.const ", value),
+            Instruction::Numeric(op) => print_name(page, op),
+            Instruction::Compare(op) => print_name(page, op),
+            Instruction::Access(op, memarg) => {
+                print_name(page, op);
+                print_value(page, " offset=", &memarg.offset);
+                print_value(page, " align=", &memarg.align);
+            }
+            Instruction::Gc(GcOp::RefNull(heap)) => {
+                print_operand::<HeapType>(page, "ref.null ", heap)
+            }
+            _ => page.put("another"),
+        }
     }
-    print_type(rt, &call.ty.index)
 }
 
-/// Prints the index of a type use, and ends the line.
-fn print_type(rt: HostRuntime, index: &Option<Index>) -> io::Result<()> {
-    match index {
-        Some(Index::Num(number, _)) => println!(rt; " (type {number})"),
-        Some(Index::Id(id)) => println!(rt; " (type ${})", id.name()),
-        None => println!(rt),
-    }
+fn print_clauses(page: &Page, count: usize) {
+    print_value(page, "try_table with ", &count);
+    page.put(" clauses");
+}
+
+fn print_block(page: &Page, word: &str, block: &BlockType<'_>) {
+    page.put(word);
+    show_if(page, " ", &block.label, "");
+    show_if(page, " (type ", &block.ty.index, ")");
+}
+
+fn print_call(page: &Page, call: &CallIndirect<'_>) {
+    page.put("call_indirect");
+    show_if(page, " ", &call.table, "");
+    show_if(page, " (type ", &call.ty.index, ")");
+}
+
+fn print_operand<T: Show>(page: &Page, word: &str, operand: &T) {
+    page.put(word);
+    operand.show(page);
+}
+
+fn print_value<T: Display>(page: &Page, before: &str, value: &T) {
+    page.put(before);
+    page.write_fmt(value);
+}
+
+fn print_name<T: Debug>(page: &Page, op: &T) {
+    write!(page, "{op:?}");
 }

@@ -17,41 +17,92 @@
 mod customs;
 mod data;
 mod exports;
-mod fields;
 mod imports;
 mod instr;
+mod show;
 mod types;
 mod values;
 
+use row_page::Page;
 use std::io;
+use wast_customs::Custom;
+use wast_data::DataVal;
+use wast_exports::Export;
+use wast_parser::{Error, ParseBuffer, Parser};
 
 fn main(rt: HostRuntime) -> io::Result<()> {
+    let page = Page::new(rt);
     for line in rt.lines(rt.alloc()) {
-        let line = line?;
-        println!(rt; "> {line}")?;
-        answer(rt, line.as_str())?;
+        answer(&page, line?.as_str());
     }
-    Ok(())
+    page.outcome()
 }
 
-/// Prints what a line asks for.
-fn answer(rt: HostRuntime, line: &str) -> io::Result<()> {
-    let (word, rest) = line.split_once(' ').unwrap_or((line, ""));
-    if word == "type" {
-        types::read(rt, rest)
-    } else if word == "data" {
-        data::read(rt, rest)
-    } else if word == "import" {
-        imports::read(rt, rest)
-    } else if word == "instr" {
-        instr::unfold(rt, rest, false)
-    } else if word == "folded" {
-        instr::unfold(rt, rest, true)
-    } else if word == "mnemonic" {
-        instr::mnemonic(rt, rest)
-    } else if word == "custom" || word == "export" || word == "inline" {
-        fields::read(&rt, word, rest)
+/// Prints a line, and what it asks for.
+fn answer(page: &Page, line: &str) {
+    page.put("> ");
+    page.put(line);
+    page.put("\n");
+    let (word, rest) = parted(line);
+    if word == "type" || word == "import" {
+        let (kind, text) = parted(rest);
+        answer_of(page, word, kind, text);
     } else {
-        println!(rt; "no such word")
+        answer_of(page, word, "", rest);
+    }
+}
+
+/// A word, and what stands behind the space behind it.
+fn parted(text: &str) -> (&str, &str) {
+    text.split_once(' ').unwrap_or((text, ""))
+}
+
+/// Prints what a word asks of a text, and a kind where it asks for one of several.
+fn answer_of(page: &Page, word: &str, kind: &str, text: &str) {
+    if 4_294_967_295 < text.len() {
+        page.put("too long\n");
+    } else {
+        match ParseBuffer::new(page.alloc(), text) {
+            Ok(buffer) => read(page, word, kind, &mut Parser::new(&buffer)),
+            Err(error) => show::refused(page, &error),
+        }
+    }
+}
+
+fn read(page: &Page, word: &str, kind: &str, parser: &mut Parser<'_>) {
+    match register(parser, word) {
+        Ok(()) => print(page, word, kind, parser),
+        Err(error) => show::refused(page, &error),
+    }
+}
+
+/// The annotations of what a word asks for.
+fn register(parser: &mut Parser<'_>, word: &str) -> Result<(), Error> {
+    match word {
+        "type" | "import" => parser.register_annotation("name"),
+        "instr" | "folded" => parser.register_annotation("metadata.code.branch_hint"),
+        "custom" => register_customs(parser),
+        _ => Ok(()),
+    }
+}
+
+fn register_customs(parser: &mut Parser<'_>) -> Result<(), Error> {
+    parser.register_annotation("custom")?;
+    parser.register_annotation("producers")?;
+    parser.register_annotation("dylink.0")
+}
+
+fn print(page: &Page, word: &str, kind: &str, parser: &mut Parser<'_>) {
+    match word {
+        "type" => types::print(page, kind, parser),
+        "import" => imports::print(page, kind, parser),
+        "data" => show::shown::<DataVal>(page, parser),
+        "instr" => instr::unfold(page, parser, false),
+        "folded" => instr::unfold(page, parser, true),
+        "mnemonic" => instr::mnemonic(page, parser),
+        "custom" => show::placed::<Custom>(page, parser),
+        "export" => show::placed::<Export>(page, parser),
+        "inline" => exports::print_inline(page, parser),
+        _ => page.put("no such word\n"),
     }
 }

@@ -1,25 +1,10 @@
 //! Types of values, heaps, tables, memories and globals, as they are printed.
-use std::io;
-use wast_parser::Index;
+use crate::show::{Show, show_between};
+use row_page::Page;
 use wast_value_types::{
-    AbstractHeapType, GlobalType, HeapType, Limits, MemoryType, RefType, StorageType, TableType,
-    ValType,
+    AbstractHeapType, FieldType, GlobalType, HeapType, Limits, MemoryType, RefType, StorageType,
+    TableType, ValType,
 };
-
-pub fn print_index(rt: HostRuntime, index: &Index) -> io::Result<()> {
-    match index {
-        Index::Num(number, _) => print!(rt; "{number}"),
-        Index::Id(id) => print!(rt; "${}", id.name()),
-    }
-}
-
-/// Prints a word and an index in parentheses.
-pub fn print_named(rt: HostRuntime, word: &str, index: &Index) -> io::Result<()> {
-    match index {
-        Index::Num(number, _) => print!(rt; "({word} {number})"),
-        Index::Id(id) => print!(rt; "({word} ${})", id.name()),
-    }
-}
 
 fn abstract_word(ty: AbstractHeapType) -> &'static str {
     match ty {
@@ -40,83 +25,105 @@ fn abstract_word(ty: AbstractHeapType) -> &'static str {
     }
 }
 
-fn print_abstract(rt: HostRuntime, shared: bool, word: &str) -> io::Result<()> {
+fn print_abstract(page: &Page, shared: bool, word: &str) {
     if shared {
-        print!(rt; "(shared {word})")
+        page.put("(shared ");
+        page.put(word);
+        page.put(")");
     } else {
-        rt.print(word)
+        page.put(word);
     }
 }
 
-pub fn print_heap(rt: HostRuntime, heap: &HeapType) -> io::Result<()> {
-    match heap {
-        HeapType::Abstract { shared, ty } => print_abstract(rt, *shared, abstract_word(*ty)),
-        HeapType::Concrete(index) => print_index(rt, index),
-        HeapType::Exact(index) => print_named(rt, "exact", index),
+impl<'a> Show for HeapType<'a> {
+    fn show(&self, page: &Page) {
+        match self {
+            HeapType::Abstract { shared, ty } => print_abstract(page, *shared, abstract_word(*ty)),
+            HeapType::Concrete(index) => index.show(page),
+            HeapType::Exact(index) => show_between(page, "(exact ", index, ")"),
+        }
     }
 }
 
-pub fn print_ref(rt: HostRuntime, ty: &RefType) -> io::Result<()> {
-    rt.print(if ty.nullable { "(ref null " } else { "(ref " })?;
-    print_heap(rt, &ty.heap)?;
-    rt.print(")")
-}
-
-pub fn print_val(rt: HostRuntime, ty: &ValType) -> io::Result<()> {
-    match ty {
-        ValType::I32 => rt.print("i32"),
-        ValType::I64 => rt.print("i64"),
-        ValType::F32 => rt.print("f32"),
-        ValType::F64 => rt.print("f64"),
-        ValType::V128 => rt.print("v128"),
-        ValType::Ref(ty) => print_ref(rt, ty),
+impl<'a> Show for RefType<'a> {
+    fn show(&self, page: &Page) {
+        let before = if self.nullable { "(ref null " } else { "(ref " };
+        show_between(page, before, &self.heap, ")");
     }
 }
 
-fn print_storage(rt: HostRuntime, ty: &StorageType) -> io::Result<()> {
-    match ty {
-        StorageType::I8 => rt.print("i8"),
-        StorageType::I16 => rt.print("i16"),
-        StorageType::Val(ty) => print_val(rt, ty),
+impl<'a> Show for ValType<'a> {
+    fn show(&self, page: &Page) {
+        match self {
+            ValType::I32 => page.put("i32"),
+            ValType::I64 => page.put("i64"),
+            ValType::F32 => page.put("f32"),
+            ValType::F64 => page.put("f64"),
+            ValType::V128 => page.put("v128"),
+            ValType::Ref(ty) => ty.show(page),
+        }
     }
 }
 
-pub fn print_field_type(rt: HostRuntime, mutable: bool, ty: &StorageType) -> io::Result<()> {
-    if !mutable {
-        return print_storage(rt, ty);
-    }
-    rt.print("(mut ")?;
-    print_storage(rt, ty)?;
-    rt.print(")")
-}
-
-/// Prints limits between two words.
-fn print_limits(rt: HostRuntime, before: &str, limits: &Limits, after: &str) -> io::Result<()> {
-    let width = if limits.is64 { "i64" } else { "i32" };
-    match limits.max {
-        Some(max) => print!(rt; "{before}{width} {} {max}{after}", limits.min),
-        None => print!(rt; "{before}{width} {}{after}", limits.min),
+impl<'a> Show for StorageType<'a> {
+    fn show(&self, page: &Page) {
+        match self {
+            StorageType::I8 => page.put("i8"),
+            StorageType::I16 => page.put("i16"),
+            StorageType::Val(ty) => ty.show(page),
+        }
     }
 }
 
-pub fn print_table(rt: HostRuntime, ty: &TableType) -> io::Result<()> {
-    let shared = if ty.shared { "shared " } else { "" };
-    print_limits(rt, shared, &ty.limits, " ")?;
-    print_ref(rt, &ty.elem)
-}
-
-pub fn print_memory(rt: HostRuntime, ty: &MemoryType) -> io::Result<()> {
-    let shared = if ty.shared { " shared" } else { "" };
-    print_limits(rt, "", &ty.limits, shared)?;
-    match ty.page_size_log2 {
-        Some(exponent) => print!(rt; " pages of 2^{exponent}"),
-        None => Ok(()),
+/// Prints what a field holds, and whether it can be set.
+pub fn print_field_type(page: &Page, mutable: bool, ty: &StorageType<'_>) {
+    if mutable {
+        show_between(page, "(mut ", ty, ")");
+    } else {
+        ty.show(page);
     }
 }
 
-pub fn print_global(rt: HostRuntime, ty: &GlobalType) -> io::Result<()> {
-    let shared = if ty.shared { "shared " } else { "" };
-    let mutable = if ty.mutable { "mut " } else { "" };
-    print!(rt; "{shared}{mutable}")?;
-    print_val(rt, &ty.ty)
+impl<'a> Show for FieldType<'a> {
+    fn show(&self, page: &Page) {
+        print_field_type(page, self.mutable, &self.ty);
+    }
+}
+
+impl Show for Limits {
+    fn show(&self, page: &Page) {
+        page.put(if self.is64 { "i64 " } else { "i32 " });
+        page.write_fmt(self.min);
+        if let Some(max) = self.max {
+            page.put(" ");
+            page.write_fmt(max);
+        }
+    }
+}
+
+impl<'a> Show for TableType<'a> {
+    fn show(&self, page: &Page) {
+        let before = if self.shared { "shared " } else { "" };
+        show_between(page, before, &self.limits, " ");
+        self.elem.show(page);
+    }
+}
+
+impl Show for MemoryType {
+    fn show(&self, page: &Page) {
+        let after = if self.shared { " shared" } else { "" };
+        show_between(page, "", &self.limits, after);
+        if let Some(exponent) = self.page_size_log2 {
+            page.put(" pages of 2^");
+            page.write_fmt(exponent);
+        }
+    }
+}
+
+impl<'a> Show for GlobalType<'a> {
+    fn show(&self, page: &Page) {
+        page.put(if self.shared { "shared " } else { "" });
+        page.put(if self.mutable { "mut " } else { "" });
+        self.ty.show(page);
+    }
 }

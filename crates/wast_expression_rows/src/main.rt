@@ -10,44 +10,67 @@
 mod op;
 
 use crate::op::Op;
+use row_page::Page;
+use std::alloc::{AllocError, Global};
 use std::io;
 use wast_expressions::{Instructions, parse_folded_instruction, parse_items};
 use wast_parser::{Error, ParseBuffer, Parser};
 
 fn main(rt: HostRuntime) -> io::Result<()> {
+    let page = Page::new(rt);
     for line in rt.lines(rt.alloc()) {
-        let line = line?;
-        println!(rt; "> {line}")?;
-        answer(rt, line.as_str())?;
+        answer(&page, line?.as_str());
     }
-    Ok(())
+    page.outcome()
 }
 
-/// Prints what a line asks for.
-fn answer(rt: HostRuntime, line: &str) -> io::Result<()> {
+/// Prints a line, and what it asks for.
+fn answer(page: &Page, line: &str) {
+    writeln!(page, "> {line}");
     let (word, text) = line.split_once(' ').unwrap_or((line, ""));
-    if word == "items" {
-        show(rt, text, false)
-    } else if word == "folded" {
-        show(rt, text, true)
-    } else if word == "deep" {
-        deep(rt, text.parse::<usize>().unwrap_or(0))
-    } else {
-        println!(rt; "no such word")
+    match word {
+        "items" | "folded" => show(page, word, text),
+        "deep" => deep(page, text.parse::<usize>().unwrap_or(0)),
+        _ => page.put("no such word\n"),
     }
 }
 
-/// Prints what a text unfolds to.
-fn show(rt: HostRuntime, text: &str, folded: bool) -> io::Result<()> {
-    if 4_294_967_295 < text.len() {
-        return println!(rt; "too long");
+/// Prints how many instructions are unfolded from so many groups, each in the one before it.
+fn deep(page: &Page, depth: usize) {
+    match groups(page.alloc(), depth) {
+        Ok(text) => show(page, "deep", text.as_str()),
+        Err(_) => page.put("no memory\n"),
     }
-    match ParseBuffer::new(rt.alloc(), text) {
-        Ok(buffer) => match unfold(&buffer, folded) {
-            Ok(found) => print(rt, &found),
-            Err(error) => println!(rt; "refused at {}", error.span().offset()),
-        },
-        Err(_) => println!(rt; "no tokens"),
+}
+
+/// So many groups, each in the one before it.
+fn groups(alloc: Global, depth: usize) -> Result<String, AllocError> {
+    let mut text = String::new(alloc);
+    for _ in 0..depth {
+        text.push_str("(block ")?;
+    }
+    for _ in 0..depth {
+        text.push_str(")")?;
+    }
+    Ok(text)
+}
+
+/// Prints what a text unfolds to, as a word asks for it.
+fn show(page: &Page, word: &str, text: &str) {
+    if 4_294_967_295 < text.len() {
+        page.put("too long\n");
+    } else {
+        match ParseBuffer::new(page.alloc(), text) {
+            Ok(buffer) => show_buffer(page, word, &buffer),
+            Err(_) => page.put("no tokens\n"),
+        }
+    }
+}
+
+fn show_buffer(page: &Page, word: &str, buffer: &ParseBuffer<'_>) {
+    match unfold(buffer, word == "folded") {
+        Ok(found) => print_found(page, word, &found),
+        Err(error) => writeln!(page, "refused at {}", error.span().offset()),
     }
 }
 
@@ -64,37 +87,23 @@ fn unfold(buffer: &ParseBuffer<'_>, folded: bool) -> Result<Instructions<Op>, Er
     Ok(found)
 }
 
-fn print(rt: HostRuntime, found: &Instructions<Op>) -> io::Result<()> {
-    for op in found.instrs.as_slice() {
-        println!(rt; "{} at {}", op.word.text(), op.span.offset())?;
+fn print_found(page: &Page, word: &str, found: &Instructions<Op>) {
+    if word == "deep" {
+        writeln!(page, "{} instructions", found.instrs.len());
+    } else {
+        print_instructions(page, found);
     }
-    for hint in found.hints.as_slice() {
-        println!(rt; "hint {} at instruction {}", hint.value, hint.instr_index)?;
-    }
-    Ok(())
 }
 
-/// Prints how many instructions are unfolded from so many groups, each in the one before it.
-fn deep(rt: HostRuntime, depth: usize) -> io::Result<()> {
-    let mut text = String::new(rt.alloc());
-    for _ in 0..depth {
-        if text.push_str("(block ").is_err() {
-            return println!(rt; "no memory");
-        }
+fn print_instructions(page: &Page, found: &Instructions<Op>) {
+    for op in found.instrs.as_slice() {
+        writeln!(page, "{} at {}", op.word.text(), op.span.offset());
     }
-    for _ in 0..depth {
-        if text.push_str(")").is_err() {
-            return println!(rt; "no memory");
-        }
-    }
-    if 4_294_967_295 < text.len() {
-        return println!(rt; "too long");
-    }
-    match ParseBuffer::new(rt.alloc(), text.as_str()) {
-        Ok(buffer) => match unfold(&buffer, false) {
-            Ok(found) => println!(rt; "{} instructions", found.instrs.len()),
-            Err(error) => println!(rt; "refused at {}", error.span().offset()),
-        },
-        Err(_) => println!(rt; "no tokens"),
+    for hint in found.hints.as_slice() {
+        writeln!(
+            page,
+            "hint {} at instruction {}",
+            hint.value, hint.instr_index
+        );
     }
 }

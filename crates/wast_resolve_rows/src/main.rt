@@ -13,35 +13,47 @@
 //! repeated; and integer constants. Or where the text is refused, and with which message.
 #![tactic(auto)]
 
+mod lists;
 mod meanings;
 mod printer;
 mod texts;
 
+use row_page::Page;
 use std::io;
 use wast_parser::{Error, ParseBuffer};
 
 fn main(rt: HostRuntime) -> io::Result<()> {
+    let page = Page::new(rt);
     for line in rt.lines(rt.alloc()) {
-        let line = line?;
-        println!(rt; "> {line}")?;
-        answer(rt, line.as_str())?;
+        answer(&page, line?.as_str());
     }
-    Ok(())
+    page.outcome()
 }
 
-/// Prints what a line asks for.
-fn answer(rt: HostRuntime, line: &str) -> io::Result<()> {
+/// Prints a line, and what it asks for.
+fn answer(page: &Page, line: &str) {
+    page.put("> ");
+    page.put(line);
+    page.put("\n");
     let (word, text) = line.split_once(' ').unwrap_or((line, ""));
+    answer_of(page, word, text);
+}
+
+/// Prints what a word asks of a text.
+fn answer_of(page: &Page, word: &str, text: &str) {
     if 4_294_967_295 < text.len() {
-        return println!(rt; "too long");
-    }
-    match ParseBuffer::new(rt.alloc(), text) {
-        Ok(buffer) => texts::print(rt, word, &buffer),
-        Err(_) => println!(rt; "no tokens"),
+        page.put("too long\n");
+    } else {
+        match ParseBuffer::new(page.alloc(), text) {
+            Ok(buffer) => texts::print(&buffer, word, page),
+            Err(error) => print_error(page, &error),
+        }
     }
 }
 
 /// Prints where and why something is refused.
-fn print_error(rt: HostRuntime, error: &Error) -> io::Result<()> {
-    println!(rt; "refused: {error}")
+fn print_error(page: &Page, error: &Error) {
+    page.put("refused: ");
+    page.write_fmt(error);
+    page.put("\n");
 }

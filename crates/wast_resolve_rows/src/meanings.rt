@@ -1,88 +1,91 @@
 //! What names mean in fields that are resolved.
 ghost use Rattle.std.specs.Prelude.{◌^◌, ◌<◌, length};
 
+use crate::lists::Fields;
 use crate::print_error;
-use std::alloc::Global;
-use std::io;
+use row_page::Page;
 use wast_core::ModuleField;
 use wast_parser::{Error, Gensym, Id, Index, Span};
-use wast_resolve::deinline_import_export::discard;
 use wast_resolve::names::Resolver;
 use wast_resolve::{Names, Ns, names, resolve};
 
 /// Prints which number `$x` means in the index space of a word.
-pub fn print_meaning(rt: HostRuntime, word: &str, fields: Vec<ModuleField<'_>>) -> io::Result<()>
+pub fn print_meaning(fields: Vec<ModuleField<'_>>, word: &str, page: &Page)
     requires { length fields.items < 2 ^ 32 }
 {
-    match meaning(rt.alloc(), word, fields) {
-        Ok(Index::Num(number, _)) => println!(rt; "{number}"),
-        Ok(Index::Id(_)) => println!(rt; "a name"),
-        Err(error) => print_error(rt, &error),
-    }
-}
-
-fn meaning<'a>(alloc: Global, word: &str, fields: Vec<ModuleField<'a>>) -> Result<Index<'a>, Error>
-    requires { length fields.items < 2 ^ 32 }
-{
-    if word == "tag" {
-        by_resolver(Ns::Tag, names::resolve(alloc, fields))
-    } else if word == "type" {
-        by_resolver(Ns::Type, names::resolve(alloc, fields))
+    if word == "tag" || word == "type" {
+        print_by_resolver(fields, word, page);
     } else {
-        by_names(word, resolve(alloc, fields, &mut Gensym::new()))
+        print_by_names(fields, word, page);
     }
 }
 
-fn by_resolver<'a>(
-    ns: Ns,
-    outcome: Result<(Vec<ModuleField<'a>>, Resolver<'a>), Error>,
-) -> Result<Index<'a>, Error> {
-    match outcome {
-        Ok((fields, resolver)) => {
-            discard(fields);
-            in_resolver(&resolver, ns)
-        }
-        Err(error) => Err(error),
-    }
+fn print_by_resolver(fields: Vec<ModuleField<'_>>, word: &str, page: &Page) {
+    print_known(names::resolve(page.alloc(), fields), word, page);
 }
 
-fn in_resolver<'a>(resolver: &Resolver<'a>, ns: Ns) -> Result<Index<'a>, Error> {
-    let mut index = Index::Id(Id::new("x", Span::from_offset(0)));
-    match resolver.resolve(&mut index, ns) {
-        Ok(_) => Ok(index),
-        Err(error) => Err(error),
-    }
+fn print_by_names(fields: Vec<ModuleField<'_>>, word: &str, page: &Page)
+    requires { length fields.items < 2 ^ 32 }
+{
+    let mut gensym = Gensym::new();
+    print_known(resolve(page.alloc(), fields, &mut gensym), word, page);
 }
 
-fn by_names<'a>(
+/// What knows the names of fields.
+trait Knowing<'a> {
+    /// Makes an index the number that it means.
+    fn look_up(&self, index: &mut Index<'a>, word: &str) -> Result<(), Error>;
+}
+
+fn print_known<'a, F: Fields, N: Knowing<'a> + Drop>(
+    resolved: Result<(F, N), Error>,
     word: &str,
-    outcome: Result<(Vec<ModuleField<'a>>, Names<'a>), Error>,
-) -> Result<Index<'a>, Error> {
-    match outcome {
+    page: &Page,
+) {
+    match resolved {
         Ok((fields, names)) => {
-            discard(fields);
-            in_names(&names, word)
+            fields.let_go();
+            print_number(&names, word, page);
         }
-        Err(error) => Err(error),
+        Err(error) => print_error(page, &error),
     }
 }
 
-fn in_names<'a>(names: &Names<'a>, word: &str) -> Result<Index<'a>, Error> {
+fn print_number<'a, N: Knowing<'a>>(names: &N, word: &str, page: &Page) {
     let mut index = Index::Id(Id::new("x", Span::from_offset(0)));
-    match look_up(names, word, &mut index) {
-        Ok(()) => Ok(index),
-        Err(error) => Err(error),
+    match names.look_up(&mut index, word) {
+        Ok(()) => print_index(page, &index),
+        Err(error) => print_error(page, &error),
     }
 }
 
-fn look_up<'a>(names: &Names<'a>, word: &str, index: &mut Index<'a>) -> Result<(), Error> {
-    if word == "func" {
-        names.resolve_func(index)
-    } else if word == "table" {
-        names.resolve_table(index)
-    } else if word == "memory" {
-        names.resolve_memory(index)
-    } else {
-        names.resolve_global(index)
+fn print_index(page: &Page, index: &Index<'_>) {
+    match index {
+        Index::Num(number, _) => {
+            page.write_fmt(*number);
+            page.put("\n");
+        }
+        Index::Id(_) => page.put("a name\n"),
+    }
+}
+
+impl<'a> Knowing<'a> for Resolver<'a> {
+    fn look_up(&self, index: &mut Index<'a>, word: &str) -> Result<(), Error> {
+        let ns = if word == "tag" { Ns::Tag } else { Ns::Type };
+        match self.resolve(index, ns) {
+            Ok(_) => Ok(()),
+            Err(error) => Err(error),
+        }
+    }
+}
+
+impl<'a> Knowing<'a> for Names<'a> {
+    fn look_up(&self, index: &mut Index<'a>, word: &str) -> Result<(), Error> {
+        match word {
+            "func" => self.resolve_func(index),
+            "table" => self.resolve_table(index),
+            "memory" => self.resolve_memory(index),
+            _ => self.resolve_global(index),
+        }
     }
 }

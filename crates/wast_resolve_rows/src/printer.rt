@@ -1,7 +1,7 @@
 //! Fields, by what they say of names.
 ghost use Rattle.std.specs.Prelude.{true, []};
 
-use std::io;
+use row_page::Page;
 use wast_core::{
     Expression, FunctionType, ImportItems, Instruction, ItemKind, Local, MemoryKind, ModuleField,
     TableKind, TypeUse,
@@ -12,45 +12,50 @@ use wast_parts::{PartJudge, PartJudgement, tell_parts};
 use wast_value_types::Limits;
 
 /// Prints fields, one a line.
-pub fn print_fields(rt: HostRuntime, fields: &[ModuleField<'_>]) -> io::Result<()> {
+pub fn print_fields(fields: &[ModuleField<'_>], page: &Page) {
     for field in fields {
-        print_field(rt, field)?;
+        print_field(field, page);
     }
-    Ok(())
 }
 
-fn print_field(rt: HostRuntime, field: &ModuleField<'_>) -> io::Result<()> {
-    print_head(rt, field)?;
-    tell_parts(field, &Printer { rt })?;
-    println!(rt)
+fn print_field(field: &ModuleField<'_>, page: &Page) {
+    print_head(field, page);
+    let _ = tell_parts(field, &Printer { page });
+    page.put("\n");
 }
 
 // WHAT STANDS IN FRONT
 
 /// Prints the keyword, and what says nothing of names.
-fn print_head(rt: HostRuntime, field: &ModuleField<'_>) -> io::Result<()> {
+fn print_head(field: &ModuleField<'_>, page: &Page) {
     match field {
-        ModuleField::TypeItem(_) => rt.print("type"),
-        ModuleField::Rec(_) => rt.print("rec"),
-        ModuleField::Import(imports) => print_imports(rt, &imports.items),
-        ModuleField::Func(_) => rt.print("func"),
-        ModuleField::Table(table) => print_table(rt, &table.kind),
-        ModuleField::Memory(memory) => print_memory(rt, &memory.kind),
-        ModuleField::Global(_) => rt.print("global"),
-        ModuleField::Export(export) => print!(rt; "export {}", export.name.as_str()),
-        ModuleField::Start(_) => rt.print("start"),
-        ModuleField::Elem(_) => rt.print("elem"),
-        ModuleField::Data(_) => rt.print("data"),
-        ModuleField::Tag(_) => rt.print("tag"),
-        ModuleField::Custom(_) => rt.print("custom"),
+        ModuleField::TypeItem(_) => page.put("type"),
+        ModuleField::Rec(_) => page.put("rec"),
+        ModuleField::Import(imports) => print_imports(&imports.items, page),
+        ModuleField::Func(_) => page.put("func"),
+        ModuleField::Table(table) => print_table(&table.kind, page),
+        ModuleField::Memory(memory) => print_memory(&memory.kind, page),
+        ModuleField::Global(_) => page.put("global"),
+        ModuleField::Export(export) => print_export(page, export.name.as_str()),
+        ModuleField::Start(_) => page.put("start"),
+        ModuleField::Elem(_) => page.put("elem"),
+        ModuleField::Data(_) => page.put("data"),
+        ModuleField::Tag(_) => page.put("tag"),
+        ModuleField::Custom(_) => page.put("custom"),
     }
 }
 
-fn print_imports(rt: HostRuntime, items: &ImportItems<'_>) -> io::Result<()> {
-    match items {
-        ImportItems::Single { sig, .. } => print!(rt; "import {}", word_of(&sig.kind)),
-        ImportItems::Group1 { .. } | ImportItems::Group2 { .. } => rt.print("import of several"),
-    }
+fn print_export(page: &Page, name: &str) {
+    page.put("export ");
+    page.put(name);
+}
+
+fn print_imports(items: &ImportItems<'_>, page: &Page) {
+    page.put("import ");
+    page.put(match items {
+        ImportItems::Single { sig, .. } => word_of(&sig.kind),
+        ImportItems::Group1 { .. } | ImportItems::Group2 { .. } => "of several",
+    });
 }
 
 fn word_of(kind: &ItemKind<'_>) -> &'static str {
@@ -63,40 +68,42 @@ fn word_of(kind: &ItemKind<'_>) -> &'static str {
     }
 }
 
-fn print_table(rt: HostRuntime, kind: &TableKind<'_>) -> io::Result<()> {
+fn print_table(kind: &TableKind<'_>, page: &Page) {
     match kind {
-        TableKind::Normal { ty, .. } => print_limits(rt, "table", &ty.limits),
-        TableKind::Import { .. } | TableKind::Inline { .. } => rt.print("table with inline parts"),
+        TableKind::Normal { ty, .. } => print_limits(page, "table", &ty.limits),
+        TableKind::Import { .. } | TableKind::Inline { .. } => page.put("table with inline parts"),
     }
 }
 
-fn print_memory(rt: HostRuntime, kind: &MemoryKind<'_>) -> io::Result<()> {
+fn print_memory(kind: &MemoryKind<'_>, page: &Page) {
     match kind {
-        MemoryKind::Normal(ty) => print_limits(rt, "memory", &ty.limits),
+        MemoryKind::Normal(ty) => print_limits(page, "memory", &ty.limits),
         MemoryKind::Import { .. } | MemoryKind::Inline { .. } => {
-            rt.print("memory with inline parts")
+            page.put("memory with inline parts")
         }
     }
 }
 
-fn print_limits(rt: HostRuntime, word: &str, limits: &Limits) -> io::Result<()> {
-    let width = if limits.is64 { "i64" } else { "i32" };
-    match limits.max {
-        Some(max) => print!(rt; "{word} {width} {} {max}", limits.min),
-        None => print!(rt; "{word} {width} {}", limits.min),
+fn print_limits(page: &Page, word: &str, limits: &Limits) {
+    page.put(word);
+    page.put(if limits.is64 { " i64 " } else { " i32 " });
+    page.write_fmt(limits.min);
+    if let Some(max) = limits.max {
+        page.put(" ");
+        page.write_fmt(max);
     }
 }
 
 // WHAT IS SAID OF NAMES
 
-/// Prints what trees say of names. Nothing is asked of it.
+/// Prints what trees say of names. Nothing is asked of it, and it refuses nothing.
 #[derive(Drop)]
-struct Printer {
-    rt: HostRuntime,
+struct Printer<'p> {
+    page: &'p Page,
 }
 
-impl Judgement for Printer {
-    type Fault = io::Error;
+impl Judgement for Printer<'_> {
+    type Fault = ();
 
     ghost Demand = { Unit {0} };
 
@@ -109,17 +116,15 @@ impl Judgement for Printer {
     ghost anywhere = { λ first fault told. told };
 }
 
-impl<'a> Judge<'a> for Printer {
-    fn judge(&self, mention: Mention<'_, 'a>) -> Result<(), io::Error> {
-        match print_mention(self.rt, mention) {
-            Ok(()) => Ok(()),
-            Err(fault) => Err(fault),
-        }
+impl<'a> Judge<'a> for Printer<'_> {
+    fn judge(&self, mention: Mention<'_, 'a>) -> Result<(), ()> {
+        print_mention(self.page, mention);
+        Ok(())
     }
 }
 
-impl PartJudgement for Printer {
-    type Fault = io::Error;
+impl PartJudgement for Printer<'_> {
+    type Fault = ();
 
     ghost Demand = { Unit {0} };
 
@@ -132,19 +137,15 @@ impl PartJudgement for Printer {
     ghost anywhere = { λ first fault told. told };
 }
 
-impl<'a> PartJudge<'a> for Printer {
-    fn judge_mention(&self, mention: Mention<'_, 'a>) -> Result<(), io::Error> {
-        match print_mention(self.rt, mention) {
-            Ok(()) => Ok(()),
-            Err(fault) => Err(fault),
-        }
+impl<'a> PartJudge<'a> for Printer<'_> {
+    fn judge_mention(&self, mention: Mention<'_, 'a>) -> Result<(), ()> {
+        print_mention(self.page, mention);
+        Ok(())
     }
 
-    fn judge_constant(&self, expression: &Expression<'a>) -> Result<(), io::Error> {
-        match print_expression(self.rt, expression) {
-            Ok(()) => Ok(()),
-            Err(fault) => Err(fault),
-        }
+    fn judge_constant(&self, expression: &Expression<'a>) -> Result<(), ()> {
+        print_expression(expression, self.page);
+        Ok(())
     }
 
     fn judge_function(
@@ -152,63 +153,77 @@ impl<'a> PartJudge<'a> for Printer {
         ty: &TypeUse<'a, FunctionType<'a>>,
         _locals: &[Local<'a>],
         body: &Expression<'a>,
-    ) -> Result<(), io::Error> {
-        match print_function(self.rt, ty, body) {
-            Ok(()) => Ok(()),
-            Err(fault) => Err(fault),
+    ) -> Result<(), ()> {
+        print_function(ty, body, self.page);
+        Ok(())
+    }
+}
+
+fn print_function(ty: &TypeUse<'_, FunctionType<'_>>, body: &Expression<'_>, page: &Page) {
+    print_use(page, " use", ty);
+    page.put(":");
+    print_expression(body, page);
+}
+
+fn print_expression(expression: &Expression<'_>, page: &Page) {
+    for instruction in &expression.instrs {
+        print_instruction(instruction, page);
+    }
+}
+
+fn print_instruction(instruction: &Instruction<'_>, page: &Page) {
+    match instruction {
+        Instruction::I32Const(value) => {
+            page.put(" i32.const ");
+            page.write_fmt(*value);
+        }
+        Instruction::I64Const(value) => {
+            page.put(" i64.const ");
+            page.write_fmt(*value);
+        }
+        _ => {
+            let _ = instruction.tell(&Printer { page });
         }
     }
 }
 
-fn print_function(
-    rt: HostRuntime,
-    ty: &TypeUse<'_, FunctionType<'_>>,
-    body: &Expression<'_>,
-) -> io::Result<()> {
-    print_use(rt, "use", ty)?;
-    rt.print(":")?;
-    print_expression(rt, body)
-}
-
-fn print_expression(rt: HostRuntime, expression: &Expression<'_>) -> io::Result<()> {
-    for instruction in &expression.instrs {
-        print_instruction(rt, instruction)?;
-    }
-    Ok(())
-}
-
-fn print_instruction(rt: HostRuntime, instruction: &Instruction<'_>) -> io::Result<()> {
-    match instruction {
-        Instruction::I32Const(value) => print!(rt; " i32.const {value}"),
-        Instruction::I64Const(value) => print!(rt; " i64.const {value}"),
-        _ => instruction.tell(&Printer { rt }),
-    }
-}
-
-fn print_mention(rt: HostRuntime, mention: Mention<'_, '_>) -> io::Result<()> {
+fn print_mention(page: &Page, mention: Mention<'_, '_>) {
     match mention {
-        Mention::Refers(space, index) => print_index(rt, space.word(), index),
+        Mention::Refers(space, index) => {
+            page.put(" ");
+            print_index(page, space.word(), index);
+        }
         Mention::Member {
             owner: _owner,
             field,
-        } => print_index(rt, "field", field),
-        Mention::Uses(ty) => print_use(rt, "use", ty),
-        Mention::UsesInBlock(ty) => print_use(rt, "block", ty),
-        Mention::Repeats(id) => print!(rt; " repeats ${}", id.name()),
+        } => print_index(page, " field", field),
+        Mention::Uses(ty) => print_use(page, " use", ty),
+        Mention::UsesInBlock(ty) => print_use(page, " block", ty),
+        Mention::Repeats(id) => print_name(page, " repeats $", id.name()),
     }
 }
 
-/// Prints the index of a type use, where it has one.
-fn print_use(rt: HostRuntime, word: &str, ty: &TypeUse<'_, FunctionType<'_>>) -> io::Result<()> {
+/// Prints a word and the index of a type use, where it has one.
+fn print_use(page: &Page, word: &str, ty: &TypeUse<'_, FunctionType<'_>>) {
     match &ty.index {
-        Some(index) => print_index(rt, word, index),
-        None => print!(rt; " {word}"),
+        Some(index) => print_index(page, word, index),
+        None => page.put(word),
     }
 }
 
-fn print_index(rt: HostRuntime, word: &str, index: &Index<'_>) -> io::Result<()> {
+/// Prints a word and an index.
+fn print_index(page: &Page, word: &str, index: &Index<'_>) {
+    page.put(word);
     match index {
-        Index::Num(number, _) => print!(rt; " {word} {number}"),
-        Index::Id(id) => print!(rt; " {word} ${}", id.name()),
+        Index::Num(number, _) => {
+            page.put(" ");
+            page.write_fmt(*number);
+        }
+        Index::Id(id) => print_name(page, " $", id.name()),
     }
+}
+
+fn print_name(page: &Page, before: &str, name: &str) {
+    page.put(before);
+    page.put(name);
 }

@@ -1,50 +1,64 @@
-//! Texts, and what becomes of their fields.
+//! Texts, and what becomes of their fields. What is lent stands before the page: that is quicker to prove.
 ghost use Rattle.std.specs.Prelude.{◌≡◌, false, ◌^◌, ◌<◌, length};
 ghost use Rattle.wast_core.specs.ModuleViews.{module_tree};
 ghost use Rattle.wast_meaning.specs.Modules.{content_fields};
 
+use crate::lists::{done, first, of_memory, put, taken};
 use crate::meanings::print_meaning;
 use crate::print_error;
 use crate::printer::print_fields;
-use std::alloc::{AllocError, Global};
-use std::io;
+use row_page::Page;
+use std::alloc::Global;
 use wast_core::{Module, ModuleField, ModuleKind, TextModule};
-use wast_parser::{Error, Gensym, ParseBuffer, parse};
-use wast_resolve::deinline_import_export::{discard, run};
+use wast_parser::{Error, Gensym, Parse, ParseBuffer, parse};
+use wast_resolve::deinline_import_export::run;
 use wast_resolve::{ResolveModule, names, resolve, types};
 
+/// What a text is read as.
+trait Rows {
+    /// Prints what a word makes of it.
+    fn print(&mut self, page: &Page, word: &str);
+}
+
 /// Prints what a word makes of a text.
-pub fn print<'a>(rt: HostRuntime, word: &str, buffer: &'a ParseBuffer<'a>) -> io::Result<()> {
-    match parse::<TextModule<'a>>(buffer) {
-        Ok(mut text) => print_made(rt, &mut text.module, word),
-        Err(error) => print_error(rt, &error),
+pub fn print<'a>(buffer: &'a ParseBuffer<'a>, word: &str, page: &Page) {
+    print_read::<TextModule<'a>>(buffer, word, page);
+}
+
+fn print_read<'a, T: Parse<'a> + Rows>(buffer: &'a ParseBuffer<'a>, word: &str, page: &Page) {
+    match parse::<T>(buffer) {
+        Ok(mut value) => value.print(page, word),
+        Err(error) => print_error(page, &error),
     }
 }
 
-fn print_made(rt: HostRuntime, module: &mut Module<'_>, word: &str) -> io::Result<()> {
-    if word == "module" {
-        print_twice(rt, module)
-    } else {
-        print_fields_made(rt, module, word)
+impl<'a> Rows for TextModule<'a> {
+    fn print(&mut self, page: &Page, word: &str) {
+        if word == "module" {
+            print_twice(&mut self.module, page);
+        } else {
+            print_fields_made(&mut self.module, word, page);
+        }
     }
 }
 
 // MODULES
 
 /// Prints what becomes of a module, and of that again.
-fn print_twice(rt: HostRuntime, module: &mut Module<'_>) -> io::Result<()> {
-    print_resolved(rt, module)?;
-    println!(rt; "again")?;
-    print_resolved(rt, module)
+fn print_twice(module: &mut Module<'_>, page: &Page) {
+    print_resolved(module, page);
+    page.put("again\n");
+    print_resolved(module, page);
 }
 
-fn print_resolved(rt: HostRuntime, module: &mut Module<'_>) -> io::Result<()> {
+fn print_resolved(module: &mut Module<'_>, page: &Page) {
     if is_large(module) {
-        return println!(rt; "too long");
-    }
-    match resolve_module(rt.alloc(), module) {
-        Ok(()) => print_module(rt, module),
-        Err(error) => print_error(rt, &error),
+        page.put("too long\n");
+    } else {
+        match resolve_module(page.alloc(), module) {
+            Ok(()) => print_module(module, page),
+            Err(error) => print_error(page, &error),
+        }
     }
 }
 
@@ -61,91 +75,71 @@ fn is_large(module: &Module<'_>) -> bool
 fn resolve_module<'a>(alloc: Global, module: &mut Module<'a>) -> Result<(), Error>
     requires { length (content_fields (module_tree «module».old).content) < 2 ^ 32 }
 {
-    match module.resolve(alloc, &mut Gensym::new()) {
-        Ok(_names) => Ok(()),
-        Err(error) => Err(error),
-    }
+    done(module.resolve(alloc, &mut Gensym::new()))
 }
 
-fn print_module(rt: HostRuntime, module: &Module<'_>) -> io::Result<()> {
+fn print_module(module: &Module<'_>, page: &Page) {
     match &module.kind {
-        ModuleKind::Text(fields) => print_fields(rt, fields),
-        ModuleKind::Binary(pieces) => println!(rt; "{} pieces", pieces.len()),
+        ModuleKind::Text(fields) => print_fields(fields, page),
+        ModuleKind::Binary(pieces) => {
+            page.write_fmt(pieces.len());
+            page.put(" pieces\n");
+        }
     }
 }
 
 // FIELDS
 
-fn print_fields_made(rt: HostRuntime, module: &mut Module<'_>, word: &str) -> io::Result<()> {
+fn print_fields_made(module: &mut Module<'_>, word: &str, page: &Page) {
     match &mut module.kind {
-        ModuleKind::Text(fields) => print_few(rt, fields, word),
-        ModuleKind::Binary(_) => println!(rt; "no fields"),
+        ModuleKind::Text(fields) => print_few(fields, word, page),
+        ModuleKind::Binary(_) => page.put("no fields\n"),
     }
 }
 
 /// The same of fields, where names can be made for as many.
-fn print_few(rt: HostRuntime, fields: &mut Vec<ModuleField<'_>>, word: &str) -> io::Result<()> {
+fn print_few(fields: &mut Vec<ModuleField<'_>>, word: &str, page: &Page) {
     if 4_294_967_295 < fields.len() {
-        return println!(rt; "too long");
-    }
-    match word.strip_prefix("means-") {
-        Some(space) => print_meaning(rt, space, std::mem::replace(fields, Vec::new(rt.alloc()))),
-        None => print_changed(rt, fields, word),
-    }
-}
-
-fn print_changed(rt: HostRuntime, fields: &mut Vec<ModuleField<'_>>, word: &str) -> io::Result<()>
-    requires { length fields.old.items < 2 ^ 32 }
-{
-    match change(rt.alloc(), fields, word) {
-        Ok(()) => print_fields(rt, fields),
-        Err(error) => print_error(rt, &error),
-    }
-}
-
-/// Makes of fields what a word says. Refused, they are gone.
-fn change(alloc: Global, fields: &mut Vec<ModuleField<'_>>, word: &str) -> Result<(), Error>
-    requires { length fields.old.items < 2 ^ 32 }
-{
-    let taken = std::mem::replace(fields, Vec::new(alloc));
-    match changed(alloc, word, taken) {
-        Ok(new) => {
-            discard(std::mem::replace(fields, new));
-            Ok(())
+        page.put("too long\n");
+    } else {
+        match word.strip_prefix("means-") {
+            Some(space) => print_meaning(taken(fields, page.alloc()), space, page),
+            None => print_changed(fields, word, page),
         }
-        Err(error) => Err(error),
     }
 }
 
-/// What a word makes of fields.
-fn changed<'a>(
-    alloc: Global,
+fn print_changed(fields: &mut Vec<ModuleField<'_>>, word: &str, page: &Page)
+    requires { length fields.old.items < 2 ^ 32 }
+{
+    match put(change(fields, word, page.alloc()), fields) {
+        Ok(()) => print_fields(fields, page),
+        Err(error) => print_error(page, &error),
+    }
+}
+
+/// What a word makes of fields, which are gone then.
+fn change<'a>(
+    fields: &mut Vec<ModuleField<'a>>,
     word: &str,
+    alloc: Global,
+) -> Result<Vec<ModuleField<'a>>, Error>
+    requires { length fields.old.items < 2 ^ 32 }
+{
+    changed(taken(fields, alloc), word, alloc)
+}
+
+fn changed<'a>(
     fields: Vec<ModuleField<'a>>,
+    word: &str,
+    alloc: Global,
 ) -> Result<Vec<ModuleField<'a>>, Error>
     requires { length fields.items < 2 ^ 32 }
 {
-    if word == "run" {
-        of_memory(run(alloc, fields, &mut Gensym::new()))
-    } else if word == "expand" {
-        of_memory(types::expand(alloc, fields))
-    } else if word == "names" {
-        first(names::resolve(alloc, fields))
-    } else {
-        first(resolve(alloc, fields, &mut Gensym::new()))
-    }
-}
-
-fn of_memory<T>(outcome: Result<T, AllocError>) -> Result<T, Error> {
-    match outcome {
-        Ok(value) => Ok(value),
-        Err(e) => Err(Error::from(e)),
-    }
-}
-
-fn first<T, N: Drop>(outcome: Result<(T, N), Error>) -> Result<T, Error> {
-    match outcome {
-        Ok((value, _names)) => Ok(value),
-        Err(e) => Err(e),
+    match word {
+        "run" => of_memory(run(alloc, fields, &mut Gensym::new())),
+        "expand" => of_memory(types::expand(alloc, fields)),
+        "names" => first(names::resolve(alloc, fields)),
+        _ => first(resolve(alloc, fields, &mut Gensym::new())),
     }
 }

@@ -4,7 +4,7 @@ ghost use Rattle.std.specs.Prelude.{◌≡◌, ◌^◌, ◌<◌, length, true, I
 ghost use Rattle.wast_lexer.specs.declared.token.TokenKind.TheVariants.{Annotation, Id, String};
 ghost use Rattle.wast_lexer.specs.TokenText.{IsOf};
 
-use crate::page::Page;
+use row_page::Page;
 use std::alloc::Global;
 use std::borrow::CowStr;
 use wast_lexer::{Integer, LexError, LexFault, Lexer, Span, Token, TokenKind, TokenTable};

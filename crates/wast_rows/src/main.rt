@@ -22,11 +22,10 @@
 
 mod bench;
 mod lexer;
-mod page;
 mod parser;
 
-use page::Page;
 use percent_encoding::percent_decode;
+use row_page::Page;
 use std::{env, io};
 
 fn main(rt: HostRuntime) -> io::Result<()> {

@@ -3,7 +3,7 @@ ghost use Rattle.std.specs.Prelude.{◌≡◌, [], IfOk};
 ghost use Rattle.wast_parser.specs.Cursors.{Follows};
 
 use crate::lexer::fits;
-use crate::page::Page;
+use row_page::Page;
 use std::alloc::Global;
 use std::borrow::CowStr;
 use std::fmt::Display;

@@ -13,62 +13,91 @@
 
 mod pairs;
 
+use row_page::Page;
 use std::alloc::{AllocError, Global};
 use std::io;
 use wat::{Error, Fault, Span, assemble, render};
 
 fn main(rt: HostRuntime) -> io::Result<()> {
+    let page = Page::new(rt);
     for line in rt.lines(rt.alloc()) {
-        let line = line?;
-        println!(rt; "{line}")?;
-        answer(&rt, line.as_str())?;
+        answer(&page, line?.as_str());
     }
-    Ok(())
+    page.outcome()
 }
 
-/// Prints what becomes of a row.
-fn answer(rt: &HostRuntime, row: &str) -> io::Result<()> {
-    if row.starts_with("#") {
-        Ok(())
-    } else if row == "faults:" {
-        print_faults(rt)
-    } else if let Some(text) = row.strip_prefix("spelled: ") {
-        print_spelled(rt, text)
-    } else if let Some(text) = row.strip_prefix("rendered: ") {
-        print_rendered(rt, text)
-    } else if let Some((first, second)) = pair_of(row) {
-        print_pair(rt, first, second)
-    } else if let Some((place, text)) = place_of(row) {
-        print_fault_at(rt, place, text)
+/// Prints a row, and what becomes of it.
+fn answer(page: &Page, row: &str) {
+    writeln!(page, "{row}");
+    if row == "faults:" {
+        print_faults(page);
+    } else if !row.starts_with("#") {
+        answer_of(page, row);
+    }
+}
+
+/// Prints what becomes of a row with texts.
+fn answer_of(page: &Page, row: &str) {
+    if let Some((first, second)) = parts_of(row, "pair: ", " ~~ ") {
+        pairs::print_pair(page, first, second);
+    } else if let Some((place, text)) = parts_of(row, "at ", ": ") {
+        print_fault_at(page, place.parse().unwrap_or(0), text);
     } else {
-        print_binary(rt, row)
+        print_text(page, row);
     }
 }
 
-/// The place and the text of a row that begins so.
-fn place_of(row: &str) -> Option<(usize, &str)> {
-    let (place, text) = row.strip_prefix("at ")?.split_once(": ")?;
-    Some((place.parse().ok()?, text))
+/// What stands between these words, and behind, of a row that begins with the first.
+fn parts_of<'a>(row: &'a str, before: &str, between: &str) -> Option<(&'a str, &'a str)> {
+    row.strip_prefix(before)?.split_once(between)
 }
 
-/// The texts of a row that begins so.
-fn pair_of(row: &str) -> Option<(&str, &str)> {
-    row.strip_prefix("pair: ")?.split_once(" ~~ ")
+/// Prints what becomes of a row of one text.
+fn print_text(page: &Page, row: &str) {
+    let (asked, text) = asked_of(row);
+    match bytes_of(page.alloc(), text) {
+        Ok(text) => print_asked(page, asked, text.as_slice()),
+        Err(error) => page.fail(error),
+    }
+}
+
+/// What a row asks of its text.
+#[derive(Clone, Copy)]
+enum Asked {
+    Binary,
+    Spelled,
+    Rendered,
+}
+
+fn asked_of(row: &str) -> (Asked, &str) {
+    if let Some(text) = row.strip_prefix("spelled: ") {
+        (Asked::Spelled, text)
+    } else if let Some(text) = row.strip_prefix("rendered: ") {
+        (Asked::Rendered, text)
+    } else {
+        (Asked::Binary, row)
+    }
 }
 
 /// The bytes that a row stands for.
 fn bytes_of(alloc: Global, row: &str) -> Result<Vec<u8>, AllocError> {
     let mut bytes = Vec::new(alloc);
-    let mut parts = row.split('~');
-    if let Some(front) = parts.next() {
-        bytes.extend_from_slice(front.as_bytes())?;
-    }
-    for part in parts {
-        let (byte, rest) = escaped(part).unwrap_or((b'~', part));
-        bytes.push(byte)?;
-        bytes.extend_from_slice(rest.as_bytes())?;
+    let mut is_front = true;
+    for part in row.split('~') {
+        push_part(&mut bytes, part, is_front)?;
+        is_front = false;
     }
     Ok(bytes)
+}
+
+/// The front is given as it is; what stands behind a `~` begins with the digits of a byte.
+fn push_part(bytes: &mut Vec<u8>, part: &str, is_front: bool) -> Result<(), AllocError> {
+    if is_front {
+        return bytes.extend_from_slice(part.as_bytes());
+    }
+    let (byte, rest) = escaped(part).unwrap_or((b'~', part));
+    bytes.push(byte)?;
+    bytes.extend_from_slice(rest.as_bytes())
 }
 
 /// The byte of the two digits in front, and the rest.
@@ -77,78 +106,124 @@ fn escaped(part: &str) -> Option<(u8, &str)> {
     Some((u8::from_str_radix(digits, 16).ok()?, rest))
 }
 
-fn print_binary(rt: &HostRuntime, row: &str) -> io::Result<()> {
-    let text = bytes_of(rt.alloc(), row)?;
-    match assemble(rt.alloc(), text.as_slice()) {
-        Ok(binary) => print_hexadecimal(rt, binary.as_slice()),
-        Err(fault) => println!(rt; "{fault}"),
+fn print_asked(page: &Page, asked: Asked, text: &[u8]) {
+    match asked {
+        Asked::Binary => print_binary(page, text),
+        Asked::Spelled => print_spelled(page, text),
+        Asked::Rendered => print_rendered(page, text),
     }
 }
 
-fn print_spelled(rt: &HostRuntime, row: &str) -> io::Result<()> {
-    let text = bytes_of(rt.alloc(), row)?;
-    match assemble(rt.alloc(), text.as_slice()) {
-        Err(Fault::Spelling(_)) => println!(rt; "misspelled"),
-        Err(Fault::Memory) => println!(rt; "out of memory"),
-        _ => println!(rt; "spelled"),
+fn print_binary(page: &Page, text: &[u8]) {
+    if let Some(binary) = binary_of(page, text) {
+        print_hexadecimal(page, binary.as_slice());
     }
 }
 
-fn print_pair(rt: &HostRuntime, first: &str, second: &str) -> io::Result<()> {
-    let first = bytes_of(rt.alloc(), first)?;
-    let second = bytes_of(rt.alloc(), second)?;
-    pairs::print_likeness(rt, first.as_slice(), second.as_slice())
+/// The binary of a text, or prints the fault.
+fn binary_of(page: &Page, text: &[u8]) -> Option<Vec<u8>> {
+    match assemble(page.alloc(), text) {
+        Ok(binary) => Some(binary),
+        Err(fault) => {
+            print_line(page, &fault);
+            None
+        }
+    }
 }
 
-fn print_hexadecimal(rt: &HostRuntime, bytes: &[u8]) -> io::Result<()> {
+fn print_hexadecimal(page: &Page, bytes: &[u8]) {
     for byte in bytes {
-        print!(rt; " {byte:02x}")?;
+        write!(page, " {byte:02x}");
     }
-    println!(rt)
+    page.put("\n");
 }
 
-fn print_rendered(rt: &HostRuntime, row: &str) -> io::Result<()> {
-    let text = bytes_of(rt.alloc(), row)?;
-    match assemble(rt.alloc(), text.as_slice()) {
-        Ok(_) => println!(rt; "no fault"),
-        Err(fault) => rt.println(render(rt.alloc(), &fault, text.as_slice())?),
+fn print_spelled(page: &Page, text: &[u8]) {
+    page.put(match assemble(page.alloc(), text) {
+        Err(Fault::Spelling(_)) => "misspelled\n",
+        Err(Fault::Memory) => "out of memory\n",
+        _ => "spelled\n",
+    });
+}
+
+fn print_rendered(page: &Page, text: &[u8]) {
+    match assemble(page.alloc(), text) {
+        Ok(_) => page.put("no fault\n"),
+        Err(fault) => print_told(page, &fault, text),
     }
 }
 
-fn print_fault_at(rt: &HostRuntime, place: usize, row: &str) -> io::Result<()> {
-    let text = bytes_of(rt.alloc(), row)?;
-    let message = String::from_str(rt.alloc(), "x")?;
-    let fault = Fault::Spelling(Error::new(Span::from_offset(place), message));
-    rt.println(render(rt.alloc(), &fault, text.as_slice())?)
+/// Prints a fault in one line.
+fn print_line(page: &Page, fault: &Fault) {
+    writeln!(page, "{fault}");
+}
+
+/// Prints a fault as the program tells it.
+fn print_told(page: &Page, fault: &Fault, text: &[u8]) {
+    match render(page.alloc(), fault, text) {
+        Ok(told) => writeln!(page, "{told}"),
+        Err(error) => page.fail(error),
+    }
+}
+
+fn print_fault_at(page: &Page, place: usize, row: &str) {
+    match bytes_of(page.alloc(), row) {
+        Ok(text) => print_told_at(page, place, text.as_slice()),
+        Err(error) => page.fail(error),
+    }
+}
+
+fn print_told_at(page: &Page, place: usize, text: &[u8]) {
+    match error_at(page.alloc(), place, "x") {
+        Ok(error) => print_told(page, &Fault::Spelling(error), text),
+        Err(error) => page.fail(error),
+    }
+}
+
+fn error_at(alloc: Global, place: usize, message: &str) -> Result<Error, AllocError> {
+    match String::from_str(alloc, message) {
+        Ok(message) => Ok(Error::new(Span::from_offset(place), message)),
+        Err(error) => Err(error),
+    }
 }
 
 /// Each fault.
-fn print_faults(rt: &HostRuntime) -> io::Result<()> {
-    let span = Span::from_offset(7);
-    print_fault(rt, Fault::Read)?;
-    print_fault(rt, Fault::TooLong)?;
-    print_fault(rt, Fault::NotUtf8 { offset: 12 })?;
-    print_fault(rt, Fault::NotWellFormed(span))?;
-    print_fault(rt, unmet(rt.alloc(), span)?)?;
-    print_fault(
-        rt,
-        Fault::Uncovered {
-            span,
-            form: "memory",
-        },
-    )?;
-    print_fault(rt, Fault::TooLarge)?;
-    print_fault(rt, Fault::Memory)?;
-    print_fault(rt, Fault::Write { written: u64::MAX })
+fn print_faults(page: &Page) {
+    for number in 0..9 {
+        match fault_of(page.alloc(), number) {
+            Ok(fault) => print_fault(page, &fault),
+            Err(error) => page.fail(error),
+        }
+    }
 }
 
-fn unmet(alloc: Global, span: Span) -> Result<Fault, AllocError> {
-    let message = String::from_str(alloc, "unknown label")?;
-    Ok(Fault::Unmet(Error::new(span, message)))
+/// The fault of this number.
+fn fault_of(alloc: Global, number: u32) -> Result<Fault, AllocError> {
+    match number {
+        0 => Ok(Fault::Read),
+        1 => Ok(Fault::TooLong),
+        2 => Ok(Fault::NotUtf8 { offset: 12 }),
+        3 => Ok(Fault::NotWellFormed(Span::from_offset(7))),
+        4 => unmet(alloc),
+        5 => Ok(Fault::Uncovered {
+            span: Span::from_offset(7),
+            form: "memory",
+        }),
+        6 => Ok(Fault::TooLarge),
+        7 => Ok(Fault::Memory),
+        _ => Ok(Fault::Write { written: u64::MAX }),
+    }
+}
+
+fn unmet(alloc: Global) -> Result<Fault, AllocError> {
+    match error_at(alloc, 7, "unknown label") {
+        Ok(error) => Ok(Fault::Unmet(error)),
+        Err(error) => Err(error),
+    }
 }
 
 /// A fault in its one line, and as it is told where its place isn't shown.
-fn print_fault(rt: &HostRuntime, fault: Fault) -> io::Result<()> {
-    println!(rt; "{fault}")?;
-    rt.println(render(rt.alloc(), &fault, b"\xff")?)
+fn print_fault(page: &Page, fault: &Fault) {
+    print_line(page, fault);
+    print_told(page, fault, b"\xff");
 }

@@ -1,4 +1,5 @@
-//! What is printed.
+//! What the programs that print rows print with: a page, whose functions have no early exits, so that what prints a row is short to prove.
+#![tactic(auto)]
 
 use std::alloc::{AllocError, Global};
 use std::cell::Cell;
