@@ -160,15 +160,23 @@ fn reads_all(rt: &impl Abort, parser: &mut Parser<'_>) -> Result<(), Fail> {
 fn registers(rt: &impl Abort, parser: &mut Parser<'_>) -> Result<(), Fail> {
     match parser.register_annotation("a") {
         Ok(()) => {
-            assert!(rt; matches!(parser.peek::<LParen>(), Ok(true)));
-            assert!(rt; parser.opens() && !parser.opens_group() && !parser.closes());
+            assert!(rt; shows_annotation(parser));
             Ok(())
         }
         Err(error) => {
-            assert!(rt; error.is_memory() && !matches!(parser.peek::<LParen>(), Ok(true)));
+            assert!(rt; error.is_memory() && !shows_group(parser));
             Err(failed(error))
         }
     }
+}
+
+/// Whether an annotation opens next, which is no group of a field or an instruction.
+fn shows_annotation(parser: &mut Parser<'_>) -> bool {
+    shows_group(parser) && parser.opens() && !parser.opens_group() && !parser.closes()
+}
+
+fn shows_group(parser: &mut Parser<'_>) -> bool {
+    matches!(parser.peek::<LParen>(), Ok(true))
 }
 
 fn reads_id(rt: &impl Abort, parser: &mut Parser<'_>) -> Result<(), Fail> {
