@@ -30,6 +30,19 @@ impl Page {
         self.write_fmt(text);
     }
 
+    /// Prints a text, and ends the line.
+    pub fn put_line(&self, text: &str) {
+        self.put(text);
+        self.put("\n");
+    }
+
+    /// Prints bytes in hexadecimal, a space before each.
+    pub fn put_bytes(&self, bytes: &[u8]) {
+        for byte in bytes {
+            write!(self, " {byte:02x}");
+        }
+    }
+
     /// Prints a value, for `write!` and `writeln!`.
     pub fn write_fmt<D: Display + Drop>(&self, value: D) {
         if self.outcome.get().is_ok() {
@@ -44,8 +57,23 @@ impl Page {
         }
     }
 
+    /// Answers each line of standard input, and says whether all was printed.
+    pub fn answer_lines<F: Fn(&Page, &str)>(self, answer: F) -> io::Result<()>
+        requires { F.IsAlwaysCallable answer }
+    {
+        for line in self.rt.lines(self.alloc()) {
+            answer(&self, line?.as_str());
+        }
+        self.outcome()
+    }
+
     /// Whether all was printed.
     pub fn outcome(self) -> io::Result<()> {
         self.outcome.into_inner()
     }
+}
+
+/// The first word of a line, and what stands behind the space behind it.
+pub fn first_word(line: &str) -> (&str, &str) {
+    line.split_once(' ').unwrap_or((line, ""))
 }

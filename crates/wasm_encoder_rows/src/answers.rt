@@ -1,7 +1,7 @@
 //! What a line of the input asks for, and the answer.
 
 use crate::row::print_spelled;
-use row_page::Page;
+use row_page::{Page, first_word};
 use std::alloc::{AllocError, Global};
 use std::fmt::Display;
 use wasm_encoder_base::{Encode, encoding_size, read_s33, read_u32};
@@ -9,7 +9,7 @@ use wasm_encoder_code::ConstExpr;
 
 /// The answer to a line: its first word says what the rest is.
 pub fn answer(page: &Page, line: &str) {
-    let (word, rest) = line.split_once(' ').unwrap_or((line, ""));
+    let (word, rest) = first_word(line);
     match word {
         "unsigned" => unsigned(page, rest.parse().unwrap_or(0)),
         "signed" => signed(page, rest.parse().unwrap_or(0)),

@@ -18,8 +18,5 @@ fn main(rt: HostRuntime) -> io::Result<()> {
     opcodes::print(&page);
     instructions::print(&page);
     bodies::print_bodies(&page);
-    for line in rt.lines(rt.alloc()) {
-        answers::answer(&page, line?.as_str());
-    }
-    page.outcome()
+    page.answer_lines(answers::answer)
 }

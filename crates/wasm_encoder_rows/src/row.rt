@@ -28,14 +28,8 @@ pub fn spelled<T: Encode>(alloc: Global, value: &T) -> Result<Vec<u8>, EncodeErr
 /// Prints the bytes that were made in hexadecimal, a space before each, or why there are none.
 pub fn print_made(page: &Page, made: Result<Vec<u8>, EncodeError>) {
     match made {
-        Ok(bytes) => print_bytes(page, bytes.as_slice()),
+        Ok(bytes) => page.put_bytes(bytes.as_slice()),
         Err(error) => write!(page, " {error}"),
-    }
-}
-
-fn print_bytes(page: &Page, bytes: &[u8]) {
-    for byte in bytes {
-        write!(page, " {byte:02x}");
     }
 }
 

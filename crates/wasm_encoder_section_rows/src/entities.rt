@@ -61,14 +61,18 @@ const TABLES: &[TableType] = &[
     },
 ];
 
+pub const TABLE_OF_ONE: TableType = TableType {
+    minimum: 1,
+    ..TABLE
+};
+
 /// A table of references that aren't null.
 const FUNCTIONS: TableType = TableType {
     element_type: RefType {
         nullable: false,
         heap_type: HeapType::Abstract(AbstractHeapType::Func),
     },
-    minimum: 1,
-    ..TABLE
+    ..TABLE_OF_ONE
 };
 
 fn tables(alloc: Global) -> Result<Vec<u8>, EncodeError> {
@@ -92,7 +96,7 @@ fn tables_with(alloc: Global, init: &ConstExpr) -> Result<Vec<u8>, EncodeError> 
 }
 
 /// A memory of 32-bit addresses.
-const MEMORY: MemoryType = MemoryType {
+pub const MEMORY: MemoryType = MemoryType {
     minimum: 1,
     maximum: None,
     memory64: false,
@@ -146,52 +150,72 @@ fn memories(alloc: Global) -> Result<Vec<u8>, EncodeError> {
 fn tags(alloc: Global) -> Result<Vec<u8>, EncodeError> {
     let mut calls = Calls::new();
     let mut section = TagSection::new(alloc);
-    calls.note(section.tag(tag(0)));
-    calls.note(section.tag(tag(3)));
+    calls.note(section.tag(TAG));
+    calls.note(section.tag(TagType {
+        func_type_idx: 3,
+        ..TAG
+    }));
     calls.note_copy(section.clone());
     calls.encoded(alloc, section)
 }
 
-fn tag(func_type_idx: u32) -> TagType {
-    TagType {
-        kind: TagKind::Exception,
-        func_type_idx,
-    }
-}
+/// A tag of the type 0.
+pub const TAG: TagType = TagType {
+    kind: TagKind::Exception,
+    func_type_idx: 0,
+};
 
-/// Each pair of flags, and one that is encoded already.
+/// One for each pair of flags, and one that is encoded already.
 fn globals(alloc: Global) -> Result<Vec<u8>, EncodeError> {
     let mut calls = Calls::new();
     let mut section = GlobalSection::new(alloc);
-    let float = Ieee32::new(0x3F80_0000);
-    let double = Ieee64::new(0x3FF0_0000_0000_0000);
-    add_global(
-        &mut section,
-        &mut calls,
-        global(ValType::I32, false, false),
-        ConstExpr::i32_const(alloc, 42),
-    );
-    add_global(
-        &mut section,
-        &mut calls,
-        global(ValType::I64, true, false),
-        ConstExpr::i64_const(alloc, -1),
-    );
-    add_global(
-        &mut section,
-        &mut calls,
-        global(ValType::F32, false, true),
-        ConstExpr::f32_const(alloc, float),
-    );
-    add_global(
-        &mut section,
-        &mut calls,
-        global(ValType::F64, true, true),
-        ConstExpr::f64_const(alloc, double),
-    );
+    for global in GLOBALS {
+        add_global(
+            &mut section,
+            &mut calls,
+            *global,
+            value(alloc, global.val_type),
+        );
+    }
     calls.note(section.raw(&[0x7F, 0x00, 0x23, 0x00, 0x0B]));
     calls.note_copy(section.clone());
     calls.encoded(alloc, section)
+}
+
+/// Of 32 bits, and not to be set.
+pub const GLOBAL: GlobalType = GlobalType {
+    val_type: ValType::I32,
+    mutable: false,
+    shared: false,
+};
+
+const GLOBALS: &[GlobalType] = &[
+    GLOBAL,
+    GlobalType {
+        val_type: ValType::I64,
+        mutable: true,
+        ..GLOBAL
+    },
+    GlobalType {
+        val_type: ValType::F32,
+        shared: true,
+        ..GLOBAL
+    },
+    GlobalType {
+        val_type: ValType::F64,
+        mutable: true,
+        shared: true,
+    },
+];
+
+/// A value of a type of numbers.
+fn value(alloc: Global, ty: ValType) -> Result<ConstExpr, EncodeError> {
+    match ty {
+        ValType::I32 => ConstExpr::i32_const(alloc, 42),
+        ValType::I64 => ConstExpr::i64_const(alloc, -1),
+        ValType::F32 => ConstExpr::f32_const(alloc, Ieee32::new(0x3F80_0000)),
+        _ => ConstExpr::f64_const(alloc, Ieee64::new(0x3FF0_0000_0000_0000)),
+    }
 }
 
 fn add_global(
@@ -203,13 +227,5 @@ fn add_global(
     match value {
         Ok(value) => calls.note(section.global(global_type, &value)),
         Err(error) => calls.note::<()>(Err(error)),
-    }
-}
-
-fn global(val_type: ValType, mutable: bool, shared: bool) -> GlobalType {
-    GlobalType {
-        val_type,
-        mutable,
-        shared,
     }
 }

@@ -1,12 +1,13 @@
 //! Imports, groups of them, and exports.
 
 use crate::calls::Calls;
+use crate::entities::{GLOBAL, MEMORY, TABLE_OF_ONE, TAG};
 use crate::print_row;
 use row_page::Page;
 use std::alloc::{AllocError, Global};
 use wasm_encoder::{
     EncodeError, EntityType, ExportKind, ExportSection, GlobalType, Import, ImportCompact,
-    ImportSection, Imports, Items, MemoryType, RefType, TableType, TagKind, TagType, ValType,
+    ImportSection, Imports, Items, MemoryType, TagType,
 };
 
 pub fn print_rows(page: &Page) {
@@ -28,10 +29,10 @@ fn imports(alloc: Global) -> Result<Vec<u8>, EncodeError> {
 /// One of each kind.
 fn add_imports(section: &mut ImportSection, calls: &mut Calls) {
     add_import(section, calls, "f", EntityType::Function(0));
-    add_import(section, calls, "t", TABLE);
-    add_import(section, calls, "e", MEMORY);
+    add_import(section, calls, "t", TABLE_OF_ONE);
+    add_import(section, calls, "e", BOUNDED_MEMORY);
     add_import(section, calls, "g", VARIABLE);
-    add_import(section, calls, "x", TAG);
+    add_import(section, calls, "x", TAG_OF_SECOND_TYPE);
 }
 
 fn add_import<T: Into<EntityType>>(
@@ -43,36 +44,19 @@ fn add_import<T: Into<EntityType>>(
     calls.note(section.import("m", name, ty));
 }
 
-const TABLE: TableType = TableType {
-    element_type: RefType::FUNCREF,
-    table64: false,
-    minimum: 1,
-    maximum: None,
-    shared: false,
-};
-
-const MEMORY: MemoryType = MemoryType {
-    minimum: 1,
+const BOUNDED_MEMORY: MemoryType = MemoryType {
     maximum: Some(2),
-    memory64: false,
-    shared: false,
-    page_size_log2: None,
-};
-
-const TAG: TagType = TagType {
-    kind: TagKind::Exception,
-    func_type_idx: 1,
-};
-
-const GLOBAL: GlobalType = GlobalType {
-    val_type: ValType::I32,
-    mutable: false,
-    shared: false,
+    ..MEMORY
 };
 
 const VARIABLE: GlobalType = GlobalType {
     mutable: true,
     ..GLOBAL
+};
+
+const TAG_OF_SECOND_TYPE: TagType = TagType {
+    func_type_idx: 1,
+    ..TAG
 };
 
 /// Of a list that is borrowed; one that is owned is copied, and an import alone.

@@ -49,9 +49,7 @@ fn print_row(page: &Page, name: &str, bytes: Result<Vec<u8>, EncodeError>) {
 
 fn print_bytes(page: &Page, bytes: &[u8]) {
     page.put(":");
-    for byte in bytes {
-        write!(page, " {byte:02x}");
-    }
+    page.put_bytes(bytes);
     page.put("\n");
 }
 

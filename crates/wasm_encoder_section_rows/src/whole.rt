@@ -1,6 +1,7 @@
 //! Whole modules.
 
 use crate::calls::Calls;
+use crate::entities::{GLOBAL, MEMORY, TABLE_OF_ONE, TAG};
 use crate::print_row;
 use row_page::Page;
 use std::alloc::Global;
@@ -8,8 +9,8 @@ use std::borrow::CowStr;
 use wasm_encoder::{
     Bytes, CodeSection, ConstExpr, CustomSection, DataCountSection, DataSection, ElementSection,
     Elements, EncodeError, EntityType, ExportKind, ExportSection, FunctionSection, GlobalSection,
-    GlobalType, ImportSection, Items, MemorySection, MemoryType, Module, RefType, Section,
-    StartSection, TableSection, TableType, TagKind, TagSection, TagType, TypeSection, ValType,
+    ImportSection, Items, MemorySection, Module, Section, StartSection, TableSection, TagSection,
+    TypeSection,
 };
 
 pub fn print_rows(page: &Page) {
@@ -77,17 +78,9 @@ fn add_functions(alloc: Global, module: &mut Module, calls: &mut Calls) {
 
 fn add_tables(alloc: Global, module: &mut Module, calls: &mut Calls) {
     let mut section = TableSection::new(alloc);
-    calls.note(section.table(TABLE));
+    calls.note(section.table(TABLE_OF_ONE));
     add(module, calls, section);
 }
-
-const TABLE: TableType = TableType {
-    element_type: RefType::FUNCREF,
-    table64: false,
-    minimum: 1,
-    maximum: None,
-    shared: false,
-};
 
 fn add_memories(alloc: Global, module: &mut Module, calls: &mut Calls) {
     let mut section = MemorySection::new(alloc);
@@ -95,36 +88,17 @@ fn add_memories(alloc: Global, module: &mut Module, calls: &mut Calls) {
     add(module, calls, section);
 }
 
-const MEMORY: MemoryType = MemoryType {
-    minimum: 1,
-    maximum: None,
-    memory64: false,
-    shared: false,
-    page_size_log2: None,
-};
-
 fn add_tags(alloc: Global, module: &mut Module, calls: &mut Calls) {
     let mut section = TagSection::new(alloc);
     calls.note(section.tag(TAG));
     add(module, calls, section);
 }
 
-const TAG: TagType = TagType {
-    kind: TagKind::Exception,
-    func_type_idx: 0,
-};
-
 fn add_globals(alloc: Global, module: &mut Module, calls: &mut Calls, zero: &ConstExpr) {
     let mut section = GlobalSection::new(alloc);
     calls.note(section.global(GLOBAL, zero));
     add(module, calls, section);
 }
-
-const GLOBAL: GlobalType = GlobalType {
-    val_type: ValType::I32,
-    mutable: false,
-    shared: false,
-};
 
 /// Behind exports stands the start function.
 fn add_exports(alloc: Global, module: &mut Module, calls: &mut Calls) {

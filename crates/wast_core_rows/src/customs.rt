@@ -1,5 +1,5 @@
 //! Custom fields.
-use crate::show::{Show, show_bytes, show_each};
+use crate::show::{Show, show_each};
 use row_page::Page;
 use wast_customs::{Custom, Dylink0Subsection, Producer, RawCustomSection};
 use wast_parser::Encode;
@@ -25,7 +25,7 @@ fn print_inside(custom: &Custom<'_>, page: &Page) {
 fn print_raw(section: &RawCustomSection<'_>, page: &Page) {
     for bytes in &section.bytes {
         page.put("\nbytes");
-        show_bytes(page, bytes.as_slice());
+        page.put_bytes(bytes.as_slice());
     }
 }
 
@@ -46,7 +46,7 @@ impl<'a> Show for Dylink0Subsection<'a> {
         page.put(":");
         let mut bytes = Vec::new(page.alloc());
         match self.encode(&mut bytes) {
-            Ok(_) => show_bytes(page, &bytes),
+            Ok(_) => page.put_bytes(&bytes),
             Err(error) => write!(page, " {error}"),
         }
     }

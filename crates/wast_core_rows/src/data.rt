@@ -3,7 +3,7 @@ ghost use Rattle.std.specs.Prelude.{◌≡◌, is_some, true};
 ghost use Rattle.wast_data.specs.DataTree.{bytes_of};
 ghost use Rattle.wast_data.specs.DataViews.{value_tree};
 
-use crate::show::{Show, show_bytes};
+use crate::show::Show;
 use row_page::Page;
 use wast_data::DataVal;
 
@@ -31,7 +31,7 @@ fn print_bytes(page: &Page, kind: &str, value: &DataVal<'_>)
     page.put(":");
     let mut bytes = Vec::new(page.alloc());
     match value.push_onto(&mut bytes) {
-        Ok(()) => show_bytes(page, &bytes),
+        Ok(()) => page.put_bytes(&bytes),
         Err(error) => page.fail(error),
     }
 }

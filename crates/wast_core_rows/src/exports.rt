@@ -1,8 +1,8 @@
 //! Exports, and what stands inline.
-use crate::show::{Show, refused_at, show_between, show_each};
+use crate::show::{Show, show_between, show_each};
 use row_page::Page;
 use wast_exports::{Export, ExportName, InlineExport, InlineImport};
-use wast_parser::{Parse, Parser};
+use wast_parser::{Error, Parse, Parser};
 
 impl<'a> Show for Export<'a> {
     fn show(&self, page: &Page) {
@@ -24,37 +24,37 @@ impl<'a> Show for ExportName<'a> {
 }
 
 /// Prints inline exports, and the inline import behind them. What is read is lent where it is read.
-pub fn print_inline(page: &Page, parser: &mut Parser<'_>) {
+pub fn print_inline(page: &Page, parser: &mut Parser<'_>) -> Result<(), Error> {
     match InlineExport::parse(parser) {
         Ok(exports) => print_behind(page, parser, &exports),
-        Err(error) => refused_at(page, &error),
+        Err(error) => Err(error),
     }
 }
 
-fn print_behind(page: &Page, parser: &mut Parser<'_>, exports: &InlineExport<'_>) {
-    match parser.peek::<InlineImport>() {
-        Ok(true) => print_import(page, parser, exports),
-        Ok(false) => print_end(page, parser, exports, &Alone),
-        Err(error) => refused_at(page, &error),
-    }
-}
-
-fn print_import(page: &Page, parser: &mut Parser<'_>, exports: &InlineExport<'_>) {
-    match InlineImport::parse(parser) {
-        Ok(import) => print_end(page, parser, exports, &import),
-        Err(error) => refused_at(page, &error),
+fn print_behind(
+    page: &Page,
+    parser: &mut Parser<'_>,
+    exports: &InlineExport<'_>,
+) -> Result<(), Error> {
+    if parser.peek::<InlineImport>()? {
+        let import = InlineImport::parse(parser)?;
+        print_end(page, parser, exports, &import)
+    } else {
+        print_end(page, parser, exports, &Alone)
     }
 }
 
 /// Nothing stands behind what is read last.
-fn print_end<T: Show>(page: &Page, parser: &Parser<'_>, exports: &InlineExport<'_>, last: &T) {
-    match parser.end() {
-        Ok(()) => {
-            show_each(page, "", &exports.names, " ");
-            show_between(page, "", last, "\n");
-        }
-        Err(error) => refused_at(page, &error),
-    }
+fn print_end<T: Show>(
+    page: &Page,
+    parser: &Parser<'_>,
+    exports: &InlineExport<'_>,
+    last: &T,
+) -> Result<(), Error> {
+    parser.end()?;
+    show_each(page, "", &exports.names, " ");
+    show_between(page, "", last, "\n");
+    Ok(())
 }
 
 /// No import stands behind exports.

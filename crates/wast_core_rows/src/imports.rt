@@ -1,21 +1,24 @@
 //! Imports, items, and types of exports.
-use crate::show::{Show, show_each, show_head, show_place, shown};
+use crate::show::{Show, show_all, show_each, show_head, show_place};
 use row_page::Page;
 use wast_imports::{
     ExportType, Head, ImportGroup1Item, ImportGroup2Item, ImportItems, Imports, ItemKind, ItemSig,
     TagType,
 };
-use wast_parser::Parser;
+use wast_parser::{Error, Parser};
 
 /// Prints what a text is, read as one of a production.
-pub fn print(page: &Page, kind: &str, parser: &mut Parser<'_>) {
+pub fn print(page: &Page, kind: &str, parser: &mut Parser<'_>) -> Result<(), Error> {
     match kind {
-        "imports" => shown::<Imports>(page, parser),
-        "item" => shown::<ItemSig>(page, parser),
-        "export" => shown::<ExportType>(page, parser),
-        "tag" => shown::<TagType>(page, parser),
-        "head" => shown::<Head>(page, parser),
-        _ => page.put("no such part\n"),
+        "imports" => show_all::<Imports>(page, parser),
+        "item" => show_all::<ItemSig>(page, parser),
+        "export" => show_all::<ExportType>(page, parser),
+        "tag" => show_all::<TagType>(page, parser),
+        "head" => show_all::<Head>(page, parser),
+        _ => {
+            page.put("no such part\n");
+            Ok(())
+        }
     }
 }
 

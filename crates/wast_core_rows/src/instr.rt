@@ -1,56 +1,44 @@
 //! Instructions, unfolded.
-use crate::show::{Show, refused, show_each, show_if};
+use crate::show::{Show, show_between, show_each, show_if, show_read};
 use row_page::Page;
+use std::alloc::AllocError;
 use std::fmt::{Debug, Display};
 use wast_core_instr::{BranchHint, Expression, GcOp, Instruction};
 use wast_parser::{Error, Parse, Parser};
 use wast_typed_operands::{BlockType, CallIndirect};
 use wast_value_types::HeapType;
 
-/// Prints what the items of a text unfold to, or an instruction behind its operands, with the hints; or that they are refused.
-pub fn unfold(page: &Page, parser: &mut Parser<'_>, folded: bool) {
+/// Prints what the items of a text unfold to, or an instruction behind its operands, with the hints.
+pub fn unfold(page: &Page, parser: &mut Parser<'_>, folded: bool) -> Result<(), Error> {
     let read = if folded {
         Expression::parse_folded_instruction(parser)
     } else {
         Expression::parse(parser)
     };
-    print_read(page, parser, read);
+    show_read(page, parser, read, "")
 }
 
-/// Prints what was read, unless more stands behind it.
-fn print_read<T: Show + Drop>(page: &Page, parser: &Parser<'_>, read: Result<T, Error>) {
-    match read {
-        Ok(value) => print_last(page, parser, &value),
-        Err(error) => refused(page, &error),
-    }
+/// Prints that a text is one instruction.
+pub fn mnemonic(page: &Page, parser: &mut Parser<'_>) -> Result<(), Error> {
+    pass_one(parser)?;
+    parser.end()?;
+    page.put("mnemonic ok\n");
+    Ok(())
 }
 
-fn print_last<T: Show>(page: &Page, parser: &Parser<'_>, value: &T) {
-    match parser.end() {
-        Ok(()) => value.show(page),
-        Err(error) => refused(page, &error),
-    }
-}
-
-/// Prints whether a text is one instruction.
-pub fn mnemonic(page: &Page, parser: &mut Parser<'_>) {
-    if takes_one(parser) && parser.end().is_ok() {
-        page.put("mnemonic ok\n");
-    } else {
-        page.put("refused\n");
-    }
-}
-
-/// Whether an instruction is read. It is let go in an expression, whose drop is proved where that stands.
-fn takes_one(parser: &mut Parser<'_>) -> bool {
+/// Reads an instruction. It is let go in an expression, whose drop is proved where that stands.
+fn pass_one(parser: &mut Parser<'_>) -> Result<(), Error> {
     match Instruction::parse(parser) {
-        Ok(instruction) => is_made(Expression::one(parser.alloc(), instruction)),
-        Err(_) => false,
+        Ok(instruction) => let_go(Expression::one(parser.alloc(), instruction)),
+        Err(error) => Err(error),
     }
 }
 
-fn is_made<T: Drop, E: Drop>(made: Result<T, E>) -> bool {
-    made.is_ok()
+fn let_go<T: Drop>(made: Result<T, AllocError>) -> Result<(), Error> {
+    match made {
+        Ok(_) => Ok(()),
+        Err(error) => Err(Error::from(error)),
+    }
 }
 
 /// Its instructions, and then its hints, each with the end of its line.
@@ -84,8 +72,8 @@ impl<'a> Show for Instruction<'a> {
             Instruction::Else(_) => page.put("else"),
             Instruction::End(_) => page.put("end"),
             Instruction::TryTable(table) => print_clauses(page, table.catches.len()),
-            Instruction::Br(label) => print_operand(page, "br ", label),
-            Instruction::Catch(tag) => print_operand(page, "catch ", tag),
+            Instruction::Br(label) => show_between(page, "br ", label, ""),
+            Instruction::Catch(tag) => show_between(page, "catch ", tag, ""),
             Instruction::CallIndirect(call) => print_call(page, call),
             Instruction::I32Const(value) => print_value(page, "i32.const ", value),
             Instruction::I64Const(value) => print_value(page, "i64.const ", value),
@@ -97,7 +85,7 @@ impl<'a> Show for Instruction<'a> {
                 print_value(page, " align=", &memarg.align);
             }
             Instruction::Gc(GcOp::RefNull(heap)) => {
-                print_operand::<HeapType>(page, "ref.null ", heap)
+                show_between::<HeapType>(page, "ref.null ", heap, "")
             }
             _ => page.put("another"),
         }
@@ -119,11 +107,6 @@ fn print_call(page: &Page, call: &CallIndirect<'_>) {
     page.put("call_indirect");
     show_if(page, " ", &call.table, "");
     show_if(page, " (type ", &call.ty.index, ")");
-}
-
-fn print_operand<T: Show>(page: &Page, word: &str, operand: &T) {
-    page.put(word);
-    operand.show(page);
 }
 
 fn print_value<T: Display>(page: &Page, before: &str, value: &T) {

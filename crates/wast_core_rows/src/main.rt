@@ -14,6 +14,8 @@
 //! - `inline TEXT`: the names of inline exports, and behind them the two of an inline import.
 #![tactic(auto)]
 
+ghost use Rattle.std.specs.Prelude.{◌^◌, ◌<◌, length};
+
 mod customs;
 mod data;
 mod exports;
@@ -23,7 +25,7 @@ mod show;
 mod types;
 mod values;
 
-use row_page::Page;
+use row_page::{Page, first_word};
 use std::io;
 use wast_customs::Custom;
 use wast_data::DataVal;
@@ -31,49 +33,56 @@ use wast_exports::Export;
 use wast_parser::{Error, ParseBuffer, Parser};
 
 fn main(rt: HostRuntime) -> io::Result<()> {
-    let page = Page::new(rt);
-    for line in rt.lines(rt.alloc()) {
-        answer(&page, line?.as_str());
-    }
-    page.outcome()
+    Page::new(rt).answer_lines(answer)
 }
 
 /// Prints a line, and what it asks for.
 fn answer(page: &Page, line: &str) {
     page.put("> ");
-    page.put(line);
-    page.put("\n");
-    let (word, rest) = parted(line);
+    page.put_line(line);
+    let (word, rest) = first_word(line);
     if word == "type" || word == "import" {
-        let (kind, text) = parted(rest);
+        let (kind, text) = first_word(rest);
         answer_of(page, word, kind, text);
     } else {
         answer_of(page, word, "", rest);
     }
 }
 
-/// A word, and what stands behind the space behind it.
-fn parted(text: &str) -> (&str, &str) {
-    text.split_once(' ').unwrap_or((text, ""))
-}
-
 /// Prints what a word asks of a text, and a kind where it asks for one of several.
 fn answer_of(page: &Page, word: &str, kind: &str, text: &str) {
     if 4_294_967_295 < text.len() {
         page.put("too long\n");
+    } else if let Err(error) = print_text(page, word, kind, text) {
+        print_refusal(page, word, &error);
+    }
+}
+
+/// Prints that a text is refused, and where that is asked for.
+fn print_refusal(page: &Page, word: &str, error: &Error) {
+    if error.is_memory() {
+        page.put("out of memory\n");
     } else {
-        match ParseBuffer::new(page.alloc(), text) {
-            Ok(buffer) => read(page, word, kind, &mut Parser::new(&buffer)),
-            Err(error) => show::refused(page, &error),
+        match word {
+            "custom" | "export" | "inline" => {
+                writeln!(page, "refused at {}", error.span().offset())
+            }
+            _ => page.put("refused\n"),
         }
     }
 }
 
-fn read(page: &Page, word: &str, kind: &str, parser: &mut Parser<'_>) {
-    match register(parser, word) {
-        Ok(()) => print(page, word, kind, parser),
-        Err(error) => show::refused(page, &error),
-    }
+/// Prints what a word asks of a text, or tells why that is refused.
+fn print_text(page: &Page, word: &str, kind: &str, text: &str) -> Result<(), Error>
+    requires { length text.now < 2 ^ 32 }
+{
+    let buffer = ParseBuffer::new(page.alloc(), text)?;
+    print(page, word, kind, &mut Parser::new(&buffer))
+}
+
+fn print(page: &Page, word: &str, kind: &str, parser: &mut Parser<'_>) -> Result<(), Error> {
+    register(parser, word)?;
+    print_part(page, word, kind, parser)
 }
 
 /// The annotations of what a word asks for.
@@ -92,17 +101,20 @@ fn register_customs(parser: &mut Parser<'_>) -> Result<(), Error> {
     parser.register_annotation("dylink.0")
 }
 
-fn print(page: &Page, word: &str, kind: &str, parser: &mut Parser<'_>) {
+fn print_part(page: &Page, word: &str, kind: &str, parser: &mut Parser<'_>) -> Result<(), Error> {
     match word {
         "type" => types::print(page, kind, parser),
         "import" => imports::print(page, kind, parser),
-        "data" => show::shown::<DataVal>(page, parser),
+        "data" => show::show_all::<DataVal>(page, parser),
         "instr" => instr::unfold(page, parser, false),
         "folded" => instr::unfold(page, parser, true),
         "mnemonic" => instr::mnemonic(page, parser),
-        "custom" => show::placed::<Custom>(page, parser),
-        "export" => show::placed::<Export>(page, parser),
+        "custom" => show::show_all::<Custom>(page, parser),
+        "export" => show::show_all::<Export>(page, parser),
         "inline" => exports::print_inline(page, parser),
-        _ => page.put("no such word\n"),
+        _ => {
+            page.put("no such word\n");
+            Ok(())
+        }
     }
 }

@@ -7,43 +7,26 @@ pub trait Show {
     fn show(&self, page: &Page);
 }
 
-/// Prints what all of a text is, read as one of a type, or that it is refused.
-pub fn shown<'a, T: Parse<'a> + Show>(page: &Page, parser: &mut Parser<'a>) {
-    match whole::<T>(parser) {
-        Ok(value) => show_between(page, "", &value, "\n"),
-        Err(error) => refused(page, &error),
-    }
+/// Prints what all of a text is, read as one of a type, in a line.
+pub fn show_all<'a, T: Parse<'a> + Show>(
+    page: &Page,
+    parser: &mut Parser<'a>,
+) -> Result<(), Error> {
+    let read = T::parse(parser);
+    show_read(page, parser, read, "\n")
 }
 
-/// The same, with where it is refused.
-pub fn placed<'a, T: Parse<'a> + Show>(page: &Page, parser: &mut Parser<'a>) {
-    match whole::<T>(parser) {
-        Ok(value) => show_between(page, "", &value, "\n"),
-        Err(error) => refused_at(page, &error),
-    }
-}
-
-/// One of a type, behind which nothing stands.
-fn whole<'a, T: Parse<'a>>(parser: &mut Parser<'a>) -> Result<T, Error> {
-    let value = T::parse(parser)?;
+/// Prints what was read, and a text behind it, where no more stands behind what was read.
+pub fn show_read<T: Show + Drop>(
+    page: &Page,
+    parser: &Parser<'_>,
+    read: Result<T, Error>,
+    after: &str,
+) -> Result<(), Error> {
+    let value = read?;
     parser.end()?;
-    Ok(value)
-}
-
-/// Prints that a text is refused.
-pub fn refused(page: &Page, error: &Error) {
-    page.put(if error.is_memory() {
-        "out of memory\n"
-    } else {
-        "refused\n"
-    });
-}
-
-/// Prints where a text is refused.
-pub fn refused_at(page: &Page, error: &Error) {
-    page.put("refused at ");
-    page.write_fmt(error.span().offset());
-    page.put("\n");
+    show_between(page, "", &value, after);
+    Ok(())
 }
 
 /// Prints each of these between two texts.
@@ -99,11 +82,4 @@ pub fn show_head(page: &Page, id: &Option<Id<'_>>, name: &Option<NameAnnotation<
 pub fn show_place(page: &Page, span: Span) {
     page.write_fmt(span.offset());
     page.put(": ");
-}
-
-/// Prints bytes, a space before each.
-pub fn show_bytes(page: &Page, bytes: &[u8]) {
-    for byte in bytes {
-        write!(page, " {byte:02x}");
-    }
 }

@@ -1,39 +1,42 @@
 //! Types, signatures, definitions and uses.
-use crate::show::{Show, show_between, show_each, show_head, show_if, show_place, shown};
+use crate::show::{Show, show_all, show_between, show_each, show_head, show_if, show_place};
 use crate::values::print_field_type;
 use row_page::Page;
 use wast_core_types::{
     ArrayType, CompositeType, InnerTypeKind, Rec, StructType, TypeDef, TypeItem,
 };
-use wast_parser::Parser;
+use wast_parser::{Error, Parser};
 use wast_signatures::{FunctionType, FunctionTypeNoNames, Param, StructField, TypeUse};
 use wast_value_types::{FieldType, GlobalType, HeapType, MemoryType, RefType, TableType, ValType};
 
 /// Prints what a text is, read as one of a production.
-pub fn print(page: &Page, kind: &str, parser: &mut Parser<'_>) {
+pub fn print(page: &Page, kind: &str, parser: &mut Parser<'_>) -> Result<(), Error> {
     match kind {
-        "heap" => shown::<HeapType>(page, parser),
-        "ref" => shown::<RefType>(page, parser),
-        "val" => shown::<ValType>(page, parser),
-        "field" => shown::<FieldType>(page, parser),
-        "table" => shown::<TableType>(page, parser),
-        "memory" => shown::<MemoryType>(page, parser),
-        "global" => shown::<GlobalType>(page, parser),
+        "heap" => show_all::<HeapType>(page, parser),
+        "ref" => show_all::<RefType>(page, parser),
+        "val" => show_all::<ValType>(page, parser),
+        "field" => show_all::<FieldType>(page, parser),
+        "table" => show_all::<TableType>(page, parser),
+        "memory" => show_all::<MemoryType>(page, parser),
+        "global" => show_all::<GlobalType>(page, parser),
         _ => print_definition(page, kind, parser),
     }
 }
 
-fn print_definition(page: &Page, kind: &str, parser: &mut Parser<'_>) {
+fn print_definition(page: &Page, kind: &str, parser: &mut Parser<'_>) -> Result<(), Error> {
     match kind {
-        "sig" => shown::<FunctionType>(page, parser),
-        "bare" => shown::<FunctionTypeNoNames>(page, parser),
-        "comp" => shown::<CompositeType>(page, parser),
-        "def" => shown::<TypeDef>(page, parser),
-        "item" => shown::<TypeItem>(page, parser),
-        "rec" => shown::<Rec>(page, parser),
-        "use" => shown::<TypeUse<FunctionType>>(page, parser),
-        "bareuse" => shown::<TypeUse<FunctionTypeNoNames>>(page, parser),
-        _ => page.put("no such type\n"),
+        "sig" => show_all::<FunctionType>(page, parser),
+        "bare" => show_all::<FunctionTypeNoNames>(page, parser),
+        "comp" => show_all::<CompositeType>(page, parser),
+        "def" => show_all::<TypeDef>(page, parser),
+        "item" => show_all::<TypeItem>(page, parser),
+        "rec" => show_all::<Rec>(page, parser),
+        "use" => show_all::<TypeUse<FunctionType>>(page, parser),
+        "bareuse" => show_all::<TypeUse<FunctionTypeNoNames>>(page, parser),
+        _ => {
+            page.put("no such type\n");
+            Ok(())
+        }
     }
 }
 

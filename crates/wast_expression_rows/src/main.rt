@@ -10,24 +10,21 @@
 mod op;
 
 use crate::op::Op;
-use row_page::Page;
+use row_page::{Page, first_word};
 use std::alloc::{AllocError, Global};
 use std::io;
 use wast_expressions::{Instructions, parse_folded_instruction, parse_items};
 use wast_parser::{Error, ParseBuffer, Parser};
 
 fn main(rt: HostRuntime) -> io::Result<()> {
-    let page = Page::new(rt);
-    for line in rt.lines(rt.alloc()) {
-        answer(&page, line?.as_str());
-    }
-    page.outcome()
+    Page::new(rt).answer_lines(answer)
 }
 
 /// Prints a line, and what it asks for.
 fn answer(page: &Page, line: &str) {
-    writeln!(page, "> {line}");
-    let (word, text) = line.split_once(' ').unwrap_or((line, ""));
+    page.put("> ");
+    page.put_line(line);
+    let (word, text) = first_word(line);
     match word {
         "items" | "folded" => show(page, word, text),
         "deep" => deep(page, text.parse::<usize>().unwrap_or(0)),

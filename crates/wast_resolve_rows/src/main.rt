@@ -18,24 +18,19 @@ mod meanings;
 mod printer;
 mod texts;
 
-use row_page::Page;
+use row_page::{Page, first_word};
 use std::io;
 use wast_parser::{Error, ParseBuffer};
 
 fn main(rt: HostRuntime) -> io::Result<()> {
-    let page = Page::new(rt);
-    for line in rt.lines(rt.alloc()) {
-        answer(&page, line?.as_str());
-    }
-    page.outcome()
+    Page::new(rt).answer_lines(answer)
 }
 
 /// Prints a line, and what it asks for.
 fn answer(page: &Page, line: &str) {
     page.put("> ");
-    page.put(line);
-    page.put("\n");
-    let (word, text) = line.split_once(' ').unwrap_or((line, ""));
+    page.put_line(line);
+    let (word, text) = first_word(line);
     answer_of(page, word, text);
 }
 

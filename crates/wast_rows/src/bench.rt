@@ -4,6 +4,7 @@
 ghost use Rattle.std.specs.Prelude.{◌<◌, ◌^◌, IfOk, length};
 ghost use Rattle.wast_parser.specs.Cursors.{Follows};
 
+use row_page::Page;
 use std::alloc::{AllocError, Global};
 use std::io;
 use std::time::{Duration, Instant};
@@ -37,103 +38,116 @@ const COUNT: u32 = 75_000;
 const ROUNDS: u32 = 3;
 
 /// Measures them all.
-pub fn measure_texts(rt: &HostRuntime) -> io::Result<()> {
-    measure_text(rt, "functions, flat", b"(module\n", FLAT, b")")?;
-    measure_text(rt, "functions, folded", b"(module\n", FOLDED, b")")?;
-    measure_text(rt, "data segments", b"(module\n", DATA, b")")?;
-    let before = b"(func (param $x i32)\n";
-    measure_text(rt, "a body, flat", before, FLAT_BODY, b")")?;
-    measure_text(rt, "a body, folded", before, FOLDED_BODY, b")")
+pub fn measure_texts(rt: HostRuntime, page: &Page) {
+    measure_text(rt, page, "functions, flat", MODULE, FLAT);
+    measure_text(rt, page, "functions, folded", MODULE, FOLDED);
+    measure_text(rt, page, "data segments", MODULE, DATA);
+    measure_text(rt, page, "a body, flat", BODY, FLAT_BODY);
+    measure_text(rt, page, "a body, folded", BODY, FOLDED_BODY);
 }
+
+/// What stands before the fields of a module.
+const MODULE: &[u8] = b"(module\n";
+
+/// What stands before the instructions of a body.
+const BODY: &[u8] = b"(func (param $x i32)\n";
 
 /// Measures a text of many times a part.
-fn measure_text(
-    rt: &HostRuntime,
-    name: &str,
-    before: &[u8],
-    part: &[u8],
-    after: &[u8],
-) -> io::Result<()> {
-    println!(rt; "{name}:")?;
-    let bytes = repeated(rt.alloc(), before, part, COUNT, after)?;
-    match std::str::from_utf8(bytes.as_slice()) {
-        Ok(text) => measure(rt, text),
-        Err(_) => Ok(()),
+fn measure_text(rt: HostRuntime, page: &Page, name: &str, before: &[u8], part: &[u8]) {
+    page.put(name);
+    page.put(":\n");
+    match repeated(rt.alloc(), before, part) {
+        Ok(bytes) => measure_bytes(rt, page, bytes.as_slice()),
+        Err(error) => page.fail(error),
     }
 }
 
-/// A part so many times, between two others.
-fn repeated(
-    alloc: Global,
-    before: &[u8],
-    part: &[u8],
-    count: u32,
-    after: &[u8],
-) -> Result<Vec<u8>, AllocError> {
+/// A part so many times, between what stands before it and the parenthesis that closes.
+fn repeated(alloc: Global, before: &[u8], part: &[u8]) -> Result<Vec<u8>, AllocError> {
     let mut bytes = Vec::new(alloc);
     bytes.extend_from_slice(before)?;
-    for _ in 0..count {
+    for _ in 0..COUNT {
         bytes.extend_from_slice(part)?;
     }
-    bytes.extend_from_slice(after)?;
+    bytes.push(b')')?;
     Ok(bytes)
 }
 
-fn measure(rt: &HostRuntime, text: &str) -> io::Result<()> {
-    if 4_294_967_295 < text.len() {
-        return Ok(());
+fn measure_bytes(rt: HostRuntime, page: &Page, bytes: &[u8]) {
+    if let Ok(text) = std::str::from_utf8(bytes) {
+        for _ in 0..ROUNDS {
+            measure(rt, page, text);
+        }
     }
-    for _ in 0..ROUNDS {
-        measure_lexer(rt, text)?;
-        measure_parser(rt, text)?;
-    }
-    Ok(())
 }
 
-fn measure_lexer(rt: &HostRuntime, text: &str) -> io::Result<()>
-    requires { length text.now < 2 ^ 32 }
-{
-    let lexer = Lexer::new(text);
-    let start = Instant::now(rt)?;
+fn measure(rt: HostRuntime, page: &Page, text: &str) {
+    if text.len() <= 4_294_967_295 {
+        measure_scan(rt, page, text);
+        measure_lexer(rt, page, text);
+        measure_table(rt, page, text);
+        measure_parser(rt, page, text);
+    }
+}
+
+fn measure_scan(rt: HostRuntime, page: &Page, text: &str) {
+    let start = Instant::now(&rt);
     let lines = text.bytes().filter(|byte| *byte == b'\n').count();
-    let bytes = speed(text.len(), start.elapsed(rt)?);
-    println!(rt; "byte scan: {bytes} MB/s, {lines} line feeds")?;
-
-    let start = Instant::now(rt)?;
-    let count = lexer.iter(0).count();
-    print_speed(rt, "lexer", text, count, start.elapsed(rt)?)?;
-
-    let start = Instant::now(rt)?;
-    let table = TokenTable::new(rt.alloc(), lexer)?;
-    print_speed(
-        rt,
-        "lexer with table",
-        text,
-        table.len(),
-        start.elapsed(rt)?,
-    )
+    match spent_since(rt, start) {
+        Ok(spent) => {
+            let bytes = speed(text.len(), spent);
+            writeln!(page, "byte scan: {bytes} MB/s, {lines} line feeds");
+        }
+        Err(_) => page.put("no clock\n"),
+    }
 }
 
-fn measure_parser(rt: &HostRuntime, text: &str) -> io::Result<()>
+fn measure_lexer(rt: HostRuntime, page: &Page, text: &str)
     requires { length text.now < 2 ^ 32 }
 {
-    let Ok(buffer) = ParseBuffer::new(rt.alloc(), text) else {
-        return println!(rt; "out of memory");
-    };
-    let start = Instant::now(rt)?;
-    let count = tokens_taken(&buffer, text.len()).unwrap_or(0);
-    print_speed(rt, "tokens taken by step", text, count, start.elapsed(rt)?)
+    let start = Instant::now(&rt);
+    let count = Lexer::new(text).iter(0).count();
+    print_speed(page, "lexer", text, count, spent_since(rt, start));
+}
+
+fn measure_table(rt: HostRuntime, page: &Page, text: &str)
+    requires { length text.now < 2 ^ 32 }
+{
+    let start = Instant::now(&rt);
+    match TokenTable::new(rt.alloc(), Lexer::new(text)) {
+        Ok(table) => {
+            let spent = spent_since(rt, start);
+            print_speed(page, "lexer with table", text, table.len(), spent);
+        }
+        Err(error) => page.fail(error),
+    }
+}
+
+fn measure_parser(rt: HostRuntime, page: &Page, text: &str)
+    requires { length text.now < 2 ^ 32 }
+{
+    match ParseBuffer::new(rt.alloc(), text) {
+        Ok(buffer) => measure_steps(rt, page, text, &buffer),
+        Err(_) => page.put("out of memory\n"),
+    }
+}
+
+fn measure_steps(rt: HostRuntime, page: &Page, text: &str, buffer: &ParseBuffer<'_>) {
+    let start = Instant::now(&rt);
+    let count = tokens_taken(buffer, text.len());
+    let spent = spent_since(rt, start);
+    print_speed(page, "tokens taken by step", text, count, spent);
 }
 
 /// How many tokens are taken, one at a time, up to this number.
-fn tokens_taken(buffer: &ParseBuffer<'_>, most: usize) -> Result<usize, Error> {
+fn tokens_taken(buffer: &ParseBuffer<'_>, most: usize) -> usize {
     let mut parser = Parser::new(buffer);
     for count in 0..most {
-        if !parser.step(one_token)? {
-            return Ok(count);
+        if !parser.step(one_token).unwrap_or(false) {
+            return count;
         }
     }
-    Ok(most)
+    most
 }
 
 /// Takes a token of the text, where there is one.
@@ -149,6 +163,12 @@ fn one_token<'b, 'a>(cursor: Cursor<'b, 'a>) -> Result<(bool, Cursor<'b, 'a>), E
     if let Some(rest) = cursor.rparen()? {
         return Ok((true, rest));
     }
+    one_literal(cursor)
+}
+
+fn one_literal<'b, 'a>(cursor: Cursor<'b, 'a>) -> Result<(bool, Cursor<'b, 'a>), Error>
+    ensures { IfOk result (λ taken. Follows cursor.entry taken.1) }
+{
     if let Some((_, rest)) = cursor.integer()? {
         return Ok((true, rest));
     }
@@ -158,16 +178,23 @@ fn one_token<'b, 'a>(cursor: Cursor<'b, 'a>) -> Result<(bool, Cursor<'b, 'a>), E
     Ok((false, cursor))
 }
 
-fn print_speed(
-    rt: &HostRuntime,
-    name: &str,
-    text: &str,
-    count: usize,
-    spent: Duration,
-) -> io::Result<()> {
-    let bytes = speed(text.len(), spent);
-    let tokens = speed(count, spent);
-    println!(rt; "{name}: {bytes} MB/s, {tokens} million tokens/s, {count} tokens")
+/// The time since a start, unless the clock can't be read.
+fn spent_since(rt: HostRuntime, start: io::Result<Instant>) -> io::Result<Duration> {
+    start?.elapsed(&rt)
+}
+
+fn print_speed(page: &Page, name: &str, text: &str, count: usize, spent: io::Result<Duration>) {
+    match spent {
+        Ok(spent) => {
+            let bytes = speed(text.len(), spent);
+            let tokens = speed(count, spent);
+            writeln!(
+                page,
+                "{name}: {bytes} MB/s, {tokens} million tokens/s, {count} tokens"
+            );
+        }
+        Err(_) => page.put("no clock\n"),
+    }
 }
 
 /// So many in a time, in millions a second.

@@ -4,7 +4,7 @@ ghost use Rattle.std.specs.Prelude.{◌≡◌, ◌^◌, ◌<◌, length, true, I
 ghost use Rattle.wast_lexer.specs.declared.token.TokenKind.TheVariants.{Annotation, Id, String};
 ghost use Rattle.wast_lexer.specs.TokenText.{IsOf};
 
-use row_page::Page;
+use row_page::{Page, first_word};
 use std::alloc::Global;
 use std::borrow::CowStr;
 use wast_lexer::{Integer, LexError, LexFault, Lexer, Span, Token, TokenKind, TokenTable};
@@ -158,9 +158,7 @@ fn print_name(page: &Page, name: &CowStr<'_, Global>) {
 
 fn print_bytes(page: &Page, is_borrowed: bool, bytes: &[u8]) {
     page.put(if is_borrowed { " borrowed" } else { " owned" });
-    for byte in bytes {
-        write!(page, " {byte:02x}");
-    }
+    page.put_bytes(bytes);
 }
 
 fn refused(page: &Page, fault: LexFault) {
@@ -172,7 +170,7 @@ fn refused(page: &Page, fault: LexFault) {
 
 /// Prints of each annotation whether it stands for a name, which stands before the text.
 fn named(page: &Page, words: &str) {
-    let (name, text) = words.split_once(' ').unwrap_or((words, ""));
+    let (name, text) = first_word(words);
     if fits(page, text) {
         match TokenTable::new(page.alloc(), Lexer::new(text)) {
             Ok(table) => print_named(page, text, name, &table),

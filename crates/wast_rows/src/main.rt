@@ -25,34 +25,29 @@ mod lexer;
 mod parser;
 
 use percent_encoding::percent_decode;
-use row_page::Page;
+use row_page::{Page, first_word};
 use std::{env, io};
 
 fn main(rt: HostRuntime) -> io::Result<()> {
-    if is_told_to_measure(&rt)? {
-        return bench::measure_texts(&rt);
-    }
+    let is_told = is_told_to_measure(&rt)?;
     let page = Page::new(rt);
-    for line in rt.lines(rt.alloc()) {
-        answer(&page, line?.as_str());
+    if is_told {
+        bench::measure_texts(rt, &page);
+        page.outcome()
+    } else {
+        page.answer_lines(answer)
     }
-    page.outcome()
 }
 
 fn is_told_to_measure(rt: &HostRuntime) -> io::Result<bool> {
-    let mut told = false;
-    for word in env::args(rt)? {
-        if word.as_str() == "measure" {
-            told = true;
-        }
-    }
-    Ok(told)
+    Ok(env::args(rt)?.any(|word| word.as_str() == "measure"))
 }
 
 /// Prints a line, and what it asks for.
 fn answer(page: &Page, line: &str) {
-    writeln!(page, "> {line}");
-    let (word, rest) = line.split_once(' ').unwrap_or((line, ""));
+    page.put("> ");
+    page.put_line(line);
+    let (word, rest) = first_word(line);
     answer_decoded(page, word, rest);
 }
 

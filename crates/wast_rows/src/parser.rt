@@ -3,7 +3,7 @@ ghost use Rattle.std.specs.Prelude.{◌≡◌, [], IfOk};
 ghost use Rattle.wast_parser.specs.Cursors.{Follows};
 
 use crate::lexer::fits;
-use row_page::Page;
+use row_page::{Page, first_word};
 use std::alloc::Global;
 use std::borrow::CowStr;
 use std::fmt::Display;
@@ -11,7 +11,7 @@ use wast_parser::{Cursor, Error, Id, LParen, Parse, ParseBuffer, Parser, parse};
 
 /// Prints what a text is, read as one of a type, which stands before it.
 pub fn read(page: &Page, words: &str) {
-    let (kind, text) = words.split_once(' ').unwrap_or((words, ""));
+    let (kind, text) = first_word(words);
     if let Some(buffer) = buffer_of(page, text) {
         read_as(page, kind, &buffer);
     }

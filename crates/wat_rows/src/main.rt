@@ -19,16 +19,12 @@ use std::io;
 use wat::{Error, Fault, Span, assemble, render};
 
 fn main(rt: HostRuntime) -> io::Result<()> {
-    let page = Page::new(rt);
-    for line in rt.lines(rt.alloc()) {
-        answer(&page, line?.as_str());
-    }
-    page.outcome()
+    Page::new(rt).answer_lines(answer)
 }
 
 /// Prints a row, and what becomes of it.
 fn answer(page: &Page, row: &str) {
-    writeln!(page, "{row}");
+    page.put_line(row);
     if row == "faults:" {
         print_faults(page);
     } else if !row.starts_with("#") {
@@ -116,7 +112,8 @@ fn print_asked(page: &Page, asked: Asked, text: &[u8]) {
 
 fn print_binary(page: &Page, text: &[u8]) {
     if let Some(binary) = binary_of(page, text) {
-        print_hexadecimal(page, binary.as_slice());
+        page.put_bytes(binary.as_slice());
+        page.put("\n");
     }
 }
 
@@ -129,13 +126,6 @@ fn binary_of(page: &Page, text: &[u8]) -> Option<Vec<u8>> {
             None
         }
     }
-}
-
-fn print_hexadecimal(page: &Page, bytes: &[u8]) {
-    for byte in bytes {
-        write!(page, " {byte:02x}");
-    }
-    page.put("\n");
 }
 
 fn print_spelled(page: &Page, text: &[u8]) {
