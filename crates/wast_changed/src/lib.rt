@@ -1,23 +1,20 @@
-//! Trees rewritten by value: what becomes of each index, wherever one stands; nothing else of them changes.
+//! Trees rewritten in their place: what becomes of each index, wherever one stands; nothing else of them changes.
 //!
-//! [`Changing`] says what becomes of an index, and each `change_` function answers a tree with that in its indices' place:
-//! types, type uses, operands, instructions ([`change_instruction`]), imports ([`change_imports`]). What stands in a box is rewritten in
-//! the box, and what stands in a list in the list: [`Each`] and [`TryEach`] say what becomes of an item, [`turn_list`] and
-//! [`try_turn_list`] rewrite the list. Only a type use without an index may want memory, for the index that it takes, so want of memory is
-//! the only refusal.
+//! [`Changing`] says what becomes of an index, and each `change_` function puts that in the place of the indices of a tree: of types, type
+//! uses, operands, instructions ([`change_instruction`]), imports ([`change_imports`]). [`Each`] and [`TryEach`] say what becomes of an
+//! item of a list, [`turn_list`] and [`try_turn_list`] make it of all. Only a type use without an index may want memory, for the index that
+//! it takes, so want of memory is the only refusal; a tree for which it was wanted may be changed in part.
 //!
 //! [`Rewriting`] says what becomes of whole fields, by what becomes of an index outside of expressions, and of constant expressions and bodies:
 //! `wast_changed_fields` rewrites them by it.
 //!
 //! # What has to be believed
 //!
-//! The trees with other indices are those of `Changed` of `wast_meaning`. `Memory` says what may want memory, `Instructions` which
-//! kinds of instructions have neither an index nor a type, and `Rewritten` which changes a [`Rewriting`] of whole fields makes and what an expression
-//! is changed to. `Rows`, what the table says stands after a word, and the rest of `Instructions` serve
-//! private contracts.
+//! The trees with other indices are those of `Changed` of `wast_meaning`. `Memory` says what may want memory, and `Rewritten` which
+//! changes a [`Rewriting`] of whole fields makes and what an expression is changed to. `Instructions`, which have a type use, and `Rows`, what
+//! the table says stands after a word, serve private contracts.
 #![tactic(auto)]
 
-mod boxed;
 mod bulk;
 mod changing;
 mod gc;
@@ -34,7 +31,7 @@ mod vector_arg;
 
 pub use changing::{Changing, change_optional};
 pub use imports::{change_import_items, change_imports, change_item_kind, change_item_sig};
-pub use instruction::{change_instruction, is_bare};
+pub use instruction::change_instruction;
 pub use list::{ByChange, Each, TryEach, change_indices, try_turn_list, turn_list};
 pub use operands::{
     change_handle, change_handlers, change_label_table, change_mem_arg, change_memory_arg,

@@ -1,5 +1,5 @@
 //! What becomes of the indices of whole fields.
-ghost use Rattle.std.specs.Prelude.{◌≡◌, ℕ, IfOk};
+ghost use Rattle.std.specs.Prelude.{◌≡◌, ℕ, OnOk};
 ghost use Rattle.wast_grammar.specs.Tokens.{Name};
 ghost use Rattle.wast_core_instr.specs.ExpressionViews.{expression_tree};
 ghost use Rattle.wast_fields.specs.FieldTree as spec;
@@ -20,12 +20,8 @@ pub trait Rewriting<'a>: Changing<'a> {
     ghost in_function: { Self → spec.Function Name ℕ → ByPlace };
 
     /// Rewrites a constant expression. Fails only for want of memory.
-    fn constant(
-        &self,
-        alloc: Global,
-        expression: Expression<'a>,
-    ) -> Result<Expression<'a>, AllocError>
-        ensures { IfOk result (λ new. expression_tree new ≡ expr_changed (in_constant self.now) (expression_tree expression.entry)) };
+    fn constant(&self, alloc: Global, expression: &mut Expression<'a>) -> Result<(), AllocError>
+        ensures { OnOk result (expression_tree expression.new ≡ expr_changed (in_constant self.now) (expression_tree expression.old)) };
 
     /// Rewrites the body of a function, whose type use and locals are those from before. Fails only for want of memory.
     fn body(
@@ -33,7 +29,7 @@ pub trait Rewriting<'a>: Changing<'a> {
         alloc: Global,
         ty: &TypeUse<'a, FunctionType<'a>>,
         locals: &[Local<'a>],
-        body: Expression<'a>,
-    ) -> Result<Expression<'a>, AllocError>
-        ensures { IfOk result (λ new. expression_tree new ≡ expr_changed (in_function self.now (function_of ty.now locals.now body.entry)) (expression_tree body.entry)) };
+        body: &mut Expression<'a>,
+    ) -> Result<(), AllocError>
+        ensures { OnOk result (expression_tree body.new ≡ expr_changed (in_function self.now (function_of ty.now locals.now body.old)) (expression_tree body.old)) };
 }

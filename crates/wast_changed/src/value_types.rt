@@ -11,86 +11,67 @@ use wast_meaning::Space;
 use wast_value_types::{FieldType, GlobalType, HeapType, RefType, StorageType, TableType, ValType};
 
 /// A heap type (6.4.2).
-pub fn change_heap_type<'a, C: Changing<'a>>(change: &C, ty: HeapType<'a>) -> HeapType<'a>
-    ensures { heap_tree result ≡ heap_changed (C.change change.now) (heap_tree ty.entry) }
+pub fn change_heap_type<'a, C: Changing<'a>>(change: &C, ty: &mut HeapType<'a>)
+    ensures { heap_tree ty.new ≡ heap_changed (C.change change.now) (heap_tree ty.old) }
 {
     match ty {
-        HeapType::Abstract { shared, ty } => HeapType::Abstract { shared, ty },
-        HeapType::Concrete(index) => HeapType::Concrete(change.index(Space::Types, index)),
-        HeapType::Exact(index) => HeapType::Exact(change.index(Space::Types, index)),
+        HeapType::Abstract { .. } => {}
+        HeapType::Concrete(index) => change.index(Space::Types, index),
+        HeapType::Exact(index) => change.index(Space::Types, index),
     }
 }
 
 /// A reference type (6.4.3).
-pub fn change_ref_type<'a, C: Changing<'a>>(change: &C, ty: RefType<'a>) -> RefType<'a>
-    ensures { ref_tree result ≡ ref_changed (C.change change.now) (ref_tree ty.entry) }
+pub fn change_ref_type<'a, C: Changing<'a>>(change: &C, ty: &mut RefType<'a>)
+    ensures { ref_tree ty.new ≡ ref_changed (C.change change.now) (ref_tree ty.old) }
 {
-    RefType {
-        nullable: ty.nullable,
-        heap: change_heap_type(change, ty.heap),
-    }
+    change_heap_type(change, &mut ty.heap);
 }
 
 /// A value type (6.4.4).
-pub fn change_val_type<'a, C: Changing<'a>>(change: &C, ty: ValType<'a>) -> ValType<'a>
-    ensures { val_tree result ≡ val_changed (C.change change.now) (val_tree ty.entry) }
+pub fn change_val_type<'a, C: Changing<'a>>(change: &C, ty: &mut ValType<'a>)
+    ensures { val_tree ty.new ≡ val_changed (C.change change.now) (val_tree ty.old) }
 {
-    match ty {
-        ValType::Ref(ty) => ValType::Ref(change_ref_type(change, ty)),
-        number => number,
+    if let ValType::Ref(ty) = ty {
+        change_ref_type(change, ty);
     }
 }
 
 /// A storage type (6.4.6).
-pub fn change_storage_type<'a, C: Changing<'a>>(change: &C, ty: StorageType<'a>) -> StorageType<'a>
-    ensures { storage_tree result ≡ storage_changed (C.change change.now) (storage_tree ty.entry) }
+pub fn change_storage_type<'a, C: Changing<'a>>(change: &C, ty: &mut StorageType<'a>)
+    ensures { storage_tree ty.new ≡ storage_changed (C.change change.now) (storage_tree ty.old) }
 {
-    match ty {
-        StorageType::Val(ty) => StorageType::Val(change_val_type(change, ty)),
-        packed => packed,
+    if let StorageType::Val(ty) = ty {
+        change_val_type(change, ty);
     }
 }
 
 /// A field type (6.4.6).
-pub fn change_field_type<'a, C: Changing<'a>>(change: &C, ty: FieldType<'a>) -> FieldType<'a>
-    ensures { field_tree result ≡ field_type_changed (C.change change.now) (field_tree ty.entry) }
+pub fn change_field_type<'a, C: Changing<'a>>(change: &C, ty: &mut FieldType<'a>)
+    ensures { field_tree ty.new ≡ field_type_changed (C.change change.now) (field_tree ty.old) }
 {
-    FieldType {
-        mutable: ty.mutable,
-        ty: change_storage_type(change, ty.ty),
-    }
+    change_storage_type(change, &mut ty.ty);
 }
 
 /// A table type (6.4.12).
-pub fn change_table_type<'a, C: Changing<'a>>(change: &C, ty: TableType<'a>) -> TableType<'a>
-    ensures { table_tree result ≡ table_type_changed (C.change change.now) (table_tree ty.entry) }
+pub fn change_table_type<'a, C: Changing<'a>>(change: &C, ty: &mut TableType<'a>)
+    ensures { table_tree ty.new ≡ table_type_changed (C.change change.now) (table_tree ty.old) }
 {
-    TableType {
-        limits: ty.limits,
-        elem: change_ref_type(change, ty.elem),
-        shared: ty.shared,
-    }
+    change_ref_type(change, &mut ty.elem);
 }
 
 /// A global type (6.4.10).
-pub fn change_global_type<'a, C: Changing<'a>>(change: &C, ty: GlobalType<'a>) -> GlobalType<'a>
-    ensures { global_tree result ≡ global_type_changed (C.change change.now) (global_tree ty.entry) }
+pub fn change_global_type<'a, C: Changing<'a>>(change: &C, ty: &mut GlobalType<'a>)
+    ensures { global_tree ty.new ≡ global_type_changed (C.change change.now) (global_tree ty.old) }
 {
-    GlobalType {
-        ty: change_val_type(change, ty.ty),
-        mutable: ty.mutable,
-        shared: ty.shared,
-    }
+    change_val_type(change, &mut ty.ty);
 }
 
 /// Value types, one by one.
-pub(crate) fn change_val_types<'a, C: Changing<'a>>(
-    change: &C,
-    types: Vec<ValType<'a>>,
-) -> Vec<ValType<'a>>
-    ensures { map val_tree result.items ≡ map (val_changed (C.change change.now)) (map val_tree types.entry.items) }
+pub(crate) fn change_val_types<'a, C: Changing<'a>>(change: &C, types: &mut [ValType<'a>])
+    ensures { map val_tree types.new ≡ map (val_changed (C.change change.now)) (map val_tree types.old) }
 {
-    turn_list(&ByChange { change }, ValType::I32, types)
+    turn_list(&ByChange { change }, types);
 }
 
 impl<'a, C: Changing<'a>> Each<ValType<'a>> for ByChange<'_, C> {
@@ -100,7 +81,7 @@ impl<'a, C: Changing<'a>> Each<ValType<'a>> for ByChange<'_, C> {
 
     ghost turned = { λ b. val_changed (C.change b.change.now) };
 
-    fn turn(&self, item: ValType<'a>) -> ValType<'a> {
-        change_val_type(self.change, item)
+    fn turn(&self, item: &mut ValType<'a>) {
+        change_val_type(self.change, item);
     }
 }

@@ -1,10 +1,9 @@
 //! Fields of modules with what becomes of each index in the indices' place (WebAssembly Core Specification 3.0, 6.6); nothing else of them
 //! changes.
 //!
-//! [`change_field`] answers a field as a [`wast_changed::Rewriting`] says: outside of expressions by what becomes of an index, in constant
-//! expressions and bodies by what it does with those. [`change_fields`] does so with each of a list, in the list, and [`change_expression`]
-//! with each instruction of an expression alike. Want of memory is the only refusal, and what was given is gone then. [`TurnEach`] and
-//! [`turn_each`] rewrite lists whose items are as large as fields.
+//! [`change_field`] rewrites a field in its place as a [`wast_changed::Rewriting`] says: outside of expressions by what becomes of an index,
+//! in constant expressions and bodies by what it does with those. [`change_fields`] does so with each of a list, and [`change_expression`]
+//! with each instruction of an expression alike. Want of memory is the only refusal, and what was given may be changed in part then.
 //!
 //! # What has to be believed
 //!
@@ -15,9 +14,7 @@
 mod definition;
 mod expression;
 mod field;
-mod list;
 mod segment;
 
 pub use expression::change_expression;
-pub use field::{change_field, change_fields, no_field};
-pub use list::{TurnEach, push_item, turn_each};
+pub use field::{change_field, change_fields};

@@ -12,7 +12,8 @@ use crate::implied_field::implied_field;
 use crate::in_place::{InPlace, by_value};
 use crate::taking::Taking;
 use std::alloc::{AllocError, Global};
-use wast_changed_fields::{TurnEach, change_field, no_field, push_item, turn_each};
+use wast_changed::{TryEach, try_turn_list};
+use wast_changed_fields::change_field;
 use wast_deinline::deinline_import_export::discard;
 use wast_implied::{Implied, ImpliedType};
 use wast_module_fields::ModuleField;
@@ -73,7 +74,7 @@ impl<'a> InPlace<Vec<ModuleField<'a>>> for Expands {
     }
 }
 
-/// The same in the fields' place; refused, they may be gone.
+/// The same in the fields' place; refused, some of them may be changed.
 pub fn expand_in_place<'a>(
     alloc: Global,
     fields: &mut Vec<ModuleField<'a>>,
@@ -81,78 +82,41 @@ pub fn expand_in_place<'a>(
     ensures { OnOk result (map field_tree fields.new.items ≡ expanded same_name (map field_tree fields.old.items)) }
 {
     match Implied::of(alloc, fields) {
-        Ok(implied) => expand_known(alloc, fields, &implied),
-        Err(e) => Err(e),
-    }
-}
-
-/// The same by types that are known.
-fn expand_known<'a>(
-    alloc: Global,
-    fields: &mut Vec<ModuleField<'a>>,
-    implied: &Implied<'a>,
-) -> Result<(), AllocError>
-    ensures { OnOk result (map field_tree fields.new.items ≡ expanded_by (known implied.now) (map field_tree fields.old.items)) }
-{
-    let taken = std::mem::replace(fields, Vec::new(alloc));
-    match expand_by(alloc, implied, taken) {
-        Ok(new) => {
-            discard(std::mem::replace(fields, new));
-            Ok(())
-        }
+        Ok(implied) => expand_known(alloc, &implied, fields),
         Err(e) => Err(e),
     }
 }
 
 /// The same by types that are already gathered: those of the fields, or of others. Fails only for want of memory.
-fn expand_by<'a>(
+fn expand_known<'a>(
     alloc: Global,
     implied: &Implied<'a>,
-    fields: Vec<ModuleField<'a>>,
-) -> Result<Vec<ModuleField<'a>>, AllocError>
-    ensures { IfOk result (λ out. map field_tree out.items ≡ expanded_by (known implied.now) (map field_tree fields.entry.items)) }
+    fields: &mut Vec<ModuleField<'a>>,
+) -> Result<(), AllocError>
+    ensures { OnOk result (map field_tree fields.new.items ≡ expanded_by (known implied.now) (map field_tree fields.old.items)) }
 {
-    match turn_each(alloc, &Takes { implied }, no_field(alloc), fields) {
-        Ok(fields) => with_types(alloc, implied.types(), fields),
-        Err(e) => Err(e),
-    }
+    try_turn_list(&Takes { alloc, implied }, fields)?;
+    push_types(alloc, implied.types(), fields)
 }
 
 /// What becomes of fields whose uses take these types.
 #[derive(Drop)]
 struct Takes<'t, 'a> {
+    alloc: Global,
     implied: &'t Implied<'a>,
 }
 
-impl<'a> TurnEach<ModuleField<'a>> for Takes<'_, 'a> {
+impl<'a> TryEach<ModuleField<'a>> for Takes<'_, 'a> {
     ghost Tree = { spec.Field Name ℕ };
 
     ghost tree = { field_tree };
 
     ghost turned = { λ t. field_taken (known t.implied.now) };
 
-    fn turn(&self, alloc: Global, item: ModuleField<'a>) -> Result<ModuleField<'a>, AllocError> {
-        let place = item.span();
+    fn try_turn(&self, item: &mut ModuleField<'a>) -> Result<(), AllocError> {
         let implied = self.implied;
-        change_field(alloc, &Taking { implied, place }, item)
-    }
-}
-
-/// The fields, and behind them those of implied types.
-fn with_types<'a>(
-    alloc: Global,
-    types: &[ImpliedType<'a>],
-    fields: Vec<ModuleField<'a>>,
-) -> Result<Vec<ModuleField<'a>>, AllocError>
-    ensures { IfOk result (λ out. map field_tree out.items ≡ map field_tree fields.entry.items ++ map implied_field (map implied_tree types.now)) }
-{
-    let mut out = fields;
-    match push_types(alloc, types, &mut out) {
-        Ok(()) => Ok(out),
-        Err(e) => {
-            discard(out);
-            Err(e)
-        }
+        let place = item.span();
+        change_field(self.alloc, &Taking { implied, place }, item)
     }
 }
 
@@ -182,4 +146,12 @@ fn push_type<'a>(
         Ok(field) => push_item(out, field),
         Err(e) => Err(e),
     }
+}
+
+/// Appends an item. Fails only for want of memory.
+fn push_item<T: Drop>(items: &mut Vec<T>, item: T) -> Result<(), AllocError>
+    ensures { OnOk result (items.new.items ≡ items.old.items ++ item ∷ []) }
+{
+    items.push(item)?;
+    Ok(())
 }

@@ -2,7 +2,7 @@
 //!
 //! [`expand`] gives each type use without an index the number of the type that it takes, and appends the types that uses imply as fields;
 //! [`expand_in_place`] does so with fields in their place. [`InPlace`] and [`by_value`] do work on a value in its place for those who have it
-//! by value. Refused is what finds no memory, and, told as that, more than 4294967295 types; the fields may be gone then.
+//! by value. Refused is what finds no memory, and, told as that, more than 4294967295 types; of fields in their place some may be changed then.
 //!
 //! # What has to be believed
 //!

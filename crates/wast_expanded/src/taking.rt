@@ -43,39 +43,35 @@ impl<'t, 'a> Taking<'t, 'a> {
 impl<'t, 'a> Changing<'a> for Taking<'t, 'a> {
     ghost change = { taking_of };
 
-    fn index(&self, _space: Space, index: Index<'a>) -> Index<'a> {
-        index
-    }
+    fn index(&self, _space: Space, _index: &mut Index<'a>) {}
 
-    fn member(&self, _owner: &Index<'a>, field: Index<'a>) -> Index<'a> {
-        field
-    }
+    fn member(&self, _owner: &Index<'a>, _field: &mut Index<'a>) {}
 
     fn type_use(
         &self,
-        index: Option<Index<'a>>,
+        index: &mut Option<Index<'a>>,
         inline: Option<&FunctionType<'a>>,
-    ) -> Result<Option<Index<'a>>, AllocError> {
-        match index {
-            Some(index) => Ok(Some(index)),
-            None => self.index_taken(inline),
+    ) -> Result<(), AllocError> {
+        if index.is_none() {
+            *index = self.index_taken(inline)?;
         }
+        Ok(())
     }
 
     fn block_use(
         &self,
-        index: Option<Index<'a>>,
+        index: &mut Option<Index<'a>>,
         inline: Option<&FunctionType<'a>>,
-    ) -> Result<Option<Index<'a>>, AllocError> {
+    ) -> Result<(), AllocError> {
         match inline {
             Some(signature) => {
                 if is_short(signature) {
-                    Ok(index)
+                    Ok(())
                 } else {
                     self.type_use(index, Some(signature))
                 }
             }
-            None => Ok(index),
+            None => Ok(()),
         }
     }
 }
@@ -85,22 +81,18 @@ impl<'t, 'a> Rewriting<'a> for Taking<'t, 'a> {
 
     ghost in_function = { λ t f. everywhere (taking_of t) };
 
-    fn constant(
-        &self,
-        alloc: Global,
-        expression: Expression<'a>,
-    ) -> Result<Expression<'a>, AllocError> {
-        change_expression(alloc, self, expression)
+    fn constant(&self, _alloc: Global, expression: &mut Expression<'a>) -> Result<(), AllocError> {
+        change_expression(self, expression)
     }
 
     fn body(
         &self,
-        alloc: Global,
+        _alloc: Global,
         _ty: &TypeUse<'a, FunctionType<'a>>,
         _locals: &[Local<'a>],
-        body: Expression<'a>,
-    ) -> Result<Expression<'a>, AllocError> {
-        change_expression(alloc, self, body)
+        body: &mut Expression<'a>,
+    ) -> Result<(), AllocError> {
+        change_expression(self, body)
     }
 }
 

@@ -1,5 +1,5 @@
 -- Labels, and instructions one after the other.
-use Rattle.std.proofs.Common.{◌≡◌, ℕ, true, true≢false, List, [], ◌∷◌, ◌++◌, map, Option, None, refl, sym, ◌∙◌, ap, Result, Ok, Err}
+use Rattle.std.proofs.Common.{◌≡◌, ℕ, List, [], ◌∷◌, ◌++◌, map, Option, None, refl, sym, ◌∙◌, ap, Result, Ok, Err}
 use Rattle.std.specs.Prelude.{IfOk, OnOk}
 use Rattle.std.proofs.lemmas.List.{map-append}
 use Rattle.wasm_encoder_base.specs.Balanced.{Turn, Opens, Closes, Stays}
@@ -28,7 +28,7 @@ use Rattle.wast_meaning.specs.Spaces.{listed}
 use Rattle.wast_meaning.proofs.Labels.{fewer, pushed, stacked}
 use Rattle.wast_spaces.specs.declared.spaces.Spaces.{Spaces}
 use Rattle.wast_numbered.specs.Place.{by_place, here}
-use Rattle.wast_numbered.specs.Steps.{behind, is_stay, seen, step_of}
+use Rattle.wast_numbered.specs.Steps.{behind, seen, step_of}
 
 -- INSTRUCTIONS WITHOUT A LABEL of their own
 bulk_unlabelled : (op : BulkOp) → None ≡ own_label (bulk_operands op)
@@ -119,12 +119,6 @@ module _ (s : Spaces) (locals : names.Space Name) where
       ∙ ap (λ j. instrs_changed (by_place s locals) [] (map instruction_tree xs) ++ j ∷ []) tree
       ∙ sym (ap (instrs_changed (by_place s locals) []) (map-append instruction_tree xs (x ∷ []))
       ∙ threaded_append backward (λ earlier j. instr_changed (by_place s locals earlier j) j) [] (map instruction_tree xs) (i ∷ []))
-
--- one that opens and closes no block leaves the labels as they are
-pub labels_stay : (t : Turn) (label : Option (Named Name ℕ)) (labels : Blocks) → is_stay t ≡ true → labels ≡ behind t label (seen t labels)
-labels_stay Opens label labels stay = absurd (true≢false (sym stay))
-labels_stay Closes label labels stay = absurd (true≢false (sym stay))
-labels_stay Stays label labels stay = refl
 
 pub if_weaker : {T E : Type 0} {P Q : T → Type 0} (r : Result T E) → ((x : T) → P x → Q x) → IfOk r P → IfOk r Q
 if_weaker (Ok x) f h = f x h

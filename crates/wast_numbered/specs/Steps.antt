@@ -1,6 +1,6 @@
 -- What instructions do to the blocks that are open, and the labels of those.
-use Rattle.std.specs.Prelude.{ℕ, Bool, true, false, List, ◌∷◌, drop, Option, option_map}
-use Rattle.wasm_encoder_base.specs.Balanced.{Turn, Opens, Closes, Stays}
+use Rattle.std.specs.Prelude.{ℕ, List, ◌∷◌, drop, Option, option_map}
+use Rattle.wasm_encoder_base.specs.Balanced.{Turn, Opens, Closes}
 use Rattle.wast_grammar.specs.Tokens.{Name}
 use Rattle.wast_parser.specs.Identifiers.{Named, identifier_tree}
 use Rattle.wast_core_instr.specs.InstructionTree.{Instruction}
@@ -23,8 +23,3 @@ seen _ labels = labels
 abbrev pub behind : {A : Type 0} → Turn → A → List A → List A
 behind Opens label labels = label ∷ labels
 behind _ label labels = labels
-
--- whether no block is opened or closed
-abbrev pub is_stay : Turn → Bool
-is_stay Stays = true
-is_stay _ = false

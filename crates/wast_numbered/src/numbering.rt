@@ -18,11 +18,7 @@ impl<'a> Rewriting<'a> for Numbering<'_, 'a> {
 
     ghost in_function = { λ n f. by_place n.spaces.now (joined names.empty (locals_of (scope n) f)) };
 
-    fn constant(
-        &self,
-        alloc: Global,
-        expression: Expression<'a>,
-    ) -> Result<Expression<'a>, AllocError> {
+    fn constant(&self, alloc: Global, expression: &mut Expression<'a>) -> Result<(), AllocError> {
         number_expression(
             alloc,
             self.spaces,
@@ -36,8 +32,8 @@ impl<'a> Rewriting<'a> for Numbering<'_, 'a> {
         alloc: Global,
         ty: &TypeUse<'a, FunctionType<'a>>,
         locals: &[Local<'a>],
-        body: Expression<'a>,
-    ) -> Result<Expression<'a>, AllocError> {
+        body: &mut Expression<'a>,
+    ) -> Result<(), AllocError> {
         match locals_of(alloc, self, ty, locals) {
             Ok(locals) => number_expression(alloc, self.spaces, &locals, body),
             Err(e) => Err(e),

@@ -60,66 +60,69 @@ impl<'a> Place<'_, 'a> {
 impl<'a> Changing<'a> for Numbering<'_, 'a> {
     ghost change = { λ n. numbering (scope n) };
 
-    fn index(&self, space: Space, index: Index<'a>) -> Index<'a> {
-        as_number(self.spaces.space(space).number_of(&index), index)
+    fn index(&self, space: Space, index: &mut Index<'a>) {
+        put_number(self.spaces.space(space).number_of(index), index);
     }
 
-    fn member(&self, owner: &Index<'a>, field: Index<'a>) -> Index<'a> {
-        as_number(member_number(self.spaces, owner, &field), field)
+    fn member(&self, owner: &Index<'a>, field: &mut Index<'a>) {
+        put_number(member_number(self.spaces, owner, field), field);
     }
 
     fn type_use(
         &self,
-        index: Option<Index<'a>>,
+        index: &mut Option<Index<'a>>,
         _inline: Option<&FunctionType<'a>>,
-    ) -> Result<Option<Index<'a>>, AllocError> {
-        Ok(type_number(self.spaces, index))
+    ) -> Result<(), AllocError> {
+        number_type(self.spaces, index);
+        Ok(())
     }
 
     fn block_use(
         &self,
-        index: Option<Index<'a>>,
+        index: &mut Option<Index<'a>>,
         _inline: Option<&FunctionType<'a>>,
-    ) -> Result<Option<Index<'a>>, AllocError> {
-        Ok(type_number(self.spaces, index))
+    ) -> Result<(), AllocError> {
+        number_type(self.spaces, index);
+        Ok(())
     }
 }
 
 impl<'a> Changing<'a> for Place<'_, 'a> {
     ghost change = { λ p. numbering (scope_here p) };
 
-    fn index(&self, space: Space, index: Index<'a>) -> Index<'a> {
-        as_number(self.number_of(space, &index), index)
+    fn index(&self, space: Space, index: &mut Index<'a>) {
+        put_number(self.number_of(space, index), index);
     }
 
-    fn member(&self, owner: &Index<'a>, field: Index<'a>) -> Index<'a> {
-        as_number(member_number(self.spaces, owner, &field), field)
+    fn member(&self, owner: &Index<'a>, field: &mut Index<'a>) {
+        put_number(member_number(self.spaces, owner, field), field);
     }
 
     fn type_use(
         &self,
-        index: Option<Index<'a>>,
+        index: &mut Option<Index<'a>>,
         _inline: Option<&FunctionType<'a>>,
-    ) -> Result<Option<Index<'a>>, AllocError> {
-        Ok(type_number(self.spaces, index))
+    ) -> Result<(), AllocError> {
+        number_type(self.spaces, index);
+        Ok(())
     }
 
     fn block_use(
         &self,
-        index: Option<Index<'a>>,
+        index: &mut Option<Index<'a>>,
         _inline: Option<&FunctionType<'a>>,
-    ) -> Result<Option<Index<'a>>, AllocError> {
-        Ok(type_number(self.spaces, index))
+    ) -> Result<(), AllocError> {
+        number_type(self.spaces, index);
+        Ok(())
     }
 }
 
-/// The number at the place of an index, or the index itself where it means none.
-fn as_number<'a>(number: Option<u32>, index: Index<'a>) -> Index<'a>
-    ensures { (s : names.Space Name) → number ≡ number_of s (index_tree index.entry) → index_tree result ≡ resolved s (index_tree index.entry) }
+/// Puts the number that an index means in its place; one that means none is left.
+fn put_number<'a>(number: Option<u32>, index: &mut Index<'a>)
+    ensures { (s : names.Space Name) → number ≡ number_of s (index_tree index.old) → index_tree index.new ≡ resolved s (index_tree index.old) }
 {
-    match number {
-        Some(number) => Index::Num(number, index.span()),
-        None => index,
+    if let Some(number) = number {
+        *index = Index::Num(number, index.span());
     }
 }
 
@@ -146,21 +149,13 @@ fn named_field<'a>(spaces: &Spaces<'a>, owner: u32, id: &Id<'a>) -> Option<u32>
     }
 }
 
-/// The index of a type use as a number, where there is one.
-fn type_number<'a>(spaces: &Spaces<'a>, index: Option<Index<'a>>) -> Option<Index<'a>>
-    ensures { option_map index_tree result ≡ option_map (resolved (spaces_of spaces.now Types)) (option_map index_tree index.entry) }
+/// Puts the number that it means in the place of the index of a type use, where there is one.
+fn number_type<'a>(spaces: &Spaces<'a>, index: &mut Option<Index<'a>>)
+    ensures { option_map index_tree index.new ≡ option_map (resolved (spaces_of spaces.now Types)) (option_map index_tree index.old) }
 {
-    match index {
-        Some(index) => Some(type_index(spaces, index)),
-        None => None,
+    if let Some(index) = index {
+        put_number(spaces.space(Space::Types).number_of(index), index);
     }
-}
-
-/// The index of a type as a number, where it means one.
-fn type_index<'a>(spaces: &Spaces<'a>, index: Index<'a>) -> Index<'a>
-    ensures { index_tree result ≡ resolved (spaces_of spaces.now Types) (index_tree index.entry) }
-{
-    as_number(spaces.space(Space::Types).number_of(&index), index)
 }
 
 impl<'a> Numbering<'_, 'a> {

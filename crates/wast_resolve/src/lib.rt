@@ -34,8 +34,8 @@
 //! (data (memory 0) (i32.const 0) "ab")
 //! ```
 //!
-//! Fields are rewritten by value, by what becomes of each index, wherever one stands; nothing else of them changes (`wast_changed_fields`,
-//! `wast_expanded`, `wast_numbered`). Lists and boxes keep their places. Want of memory is refused too: for the names that are gathered, and for the types that uses take.
+//! Fields are rewritten in their place, by what becomes of each index, wherever one stands; nothing else of them changes (`wast_changed_fields`,
+//! `wast_expanded`, `wast_numbered`). Want of memory is refused too: for the names that are gathered, and for the types that uses take.
 //!
 //! # What has to be believed
 //!

@@ -119,7 +119,7 @@ impl<'a> InPlace<Vec<ModuleField<'a>>> for Numbers {
     }
 }
 
-/// The same in the fields' place; refused, they may be gone.
+/// The same in the fields' place; refused, some of them may be changed.
 pub(crate) fn resolve_in_place<'a>(
     alloc: Global,
     fields: &mut Vec<ModuleField<'a>>,

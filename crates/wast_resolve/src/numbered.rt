@@ -1,5 +1,5 @@
 //! Whole fields.
-ghost use Rattle.std.specs.Prelude.{◌≡◌, IfOk, OnOk, map};
+ghost use Rattle.std.specs.Prelude.{◌≡◌, OnOk, map};
 ghost use Rattle.wast_grammar.specs.Spelling.{same_name};
 ghost use Rattle.wast_core.specs.ModuleFieldViews.{field_tree};
 ghost use Rattle.wast_meaning.specs.Changed.{field_changed};
@@ -10,13 +10,12 @@ ghost use Rattle.wast_resolve.specs.Known.{Tells};
 use std::alloc::{AllocError, Global};
 use wast_changed_fields::change_fields;
 use wast_core::ModuleField;
-use wast_deinline::deinline_import_export::discard;
 use wast_numbered::{Numbering, param_counts};
 use wast_spaces::Spaces;
 
 /// Makes the indices of fields numbers, where these spaces tell their items. Fails only for want of memory, or where there are more than
 /// 4294967295 types, a function has more than 4294967295 parameters and locals, or so many blocks are open at a place, which is told as
-/// that; the fields are gone then.
+/// that; some of the fields may be changed then.
 pub(crate) fn number_fields<'a>(
     alloc: Global,
     fields: &mut Vec<ModuleField<'a>>,
@@ -38,25 +37,6 @@ fn number_taken<'a>(
     params: &[usize],
 ) -> Result<(), AllocError>
     ensures { OnOk result (map field_tree fields.new.items ≡ map (field_changed (numberings_by spaces.now params.now)) (map field_tree fields.old.items)) }
-{
-    let taken = std::mem::replace(fields, Vec::new(alloc));
-    match number_by(alloc, spaces, params, taken) {
-        Ok(new) => {
-            discard(std::mem::replace(fields, new));
-            Ok(())
-        }
-        Err(e) => Err(e),
-    }
-}
-
-/// Fields with numbers for indices.
-fn number_by<'a>(
-    alloc: Global,
-    spaces: &Spaces<'a>,
-    params: &[usize],
-    fields: Vec<ModuleField<'a>>,
-) -> Result<Vec<ModuleField<'a>>, AllocError>
-    ensures { IfOk result (λ new. map field_tree new.items ≡ map (field_changed (numberings_by spaces.now params.now)) (map field_tree fields.entry.items)) }
 {
     let numbering = Numbering { spaces, params };
     change_fields(alloc, &numbering, fields)

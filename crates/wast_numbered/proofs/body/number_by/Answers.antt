@@ -9,10 +9,10 @@ use Rattle.wast_numbered.specs.Place.{here}
 use Rattle.wast_numbered.proofs.Labelled.{on_always}
 use Rattle.wast_numbered.proofs.body.number_by.Goals as goal
 
-pub returns-in-Ok-clause-tree : goal.returns-in-Ok-clause-tree
-returns-in-Ok-clause-tree c =
+pub returns-clause-tree : goal.returns-clause-tree
+returns-clause-tree c =
     let s = c.args.spaces.now in
     let locals = space c.args.locals.now in
     on_always c.pass.result
-    (c.in-Ok.ensures
+    (c.in_ok-number_one.ensures
     ∙ ap (λ l. instr_changed (numbering (here s locals (listed same_name l))) (instruction_tree c.args.instr.now)) c.see.ensures)

@@ -9,7 +9,7 @@ use Rattle.wast_numbered.proofs.body.number_instructions.Given as goal
 
 abbrev pub invariant-loop-instr : goal.invariant-loop-instr
 invariant-loop-instr l = record {
-  made : map instruction_tree (take l.instr-index l.instr-items) ≡ instrs_changed (by_place l.spaces (space l.locals)) [] (map instruction_tree (take l.instr-index l.fn.instrs.items));
-  rest : drop l.instr-index l.instr-items ≡ drop l.instr-index l.fn.instrs.items;
-  labels : l.labels ≡ open_labels (reached (λ before i. i ∷ before) [] (map instruction_tree (take l.instr-index l.fn.instrs.items)));
+  made : map instruction_tree (take l.instr-index l.instrs) ≡ instrs_changed (by_place l.spaces (space l.locals)) [] (map instruction_tree (take l.instr-index l.fn.instrs));
+  rest : drop l.instr-index l.instrs ≡ drop l.instr-index l.fn.instrs;
+  labels : l.labels ≡ open_labels (reached (λ before i. i ∷ before) [] (map instruction_tree (take l.instr-index l.fn.instrs)));
 }

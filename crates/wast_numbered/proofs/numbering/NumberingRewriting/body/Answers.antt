@@ -1,5 +1,5 @@
 use Rattle.std.proofs.Common.{◌≡◌, subst}
-use Rattle.std.specs.Prelude.{IfOk}
+use Rattle.std.specs.Prelude.{OnOk}
 use Rattle.wast_grammar.specs.Tokens.{Name}
 use Rattle.wast_names.specs.Space as names
 use Rattle.wast_core_instr.specs.ExpressionViews.{expression_tree}
@@ -9,5 +9,5 @@ use Rattle.wast_numbered.proofs.numbering.NumberingRewriting.body.Goals as goal
 
 pub returns-in-Ok : goal.returns-in-Ok
 returns-in-Ok c =
-    subst (λ (locals : names.Space Name). IfOk c.number_expression.result (λ new. expression_tree new ≡ expr_changed (by_place c.args.self.now.spaces.now locals) (expression_tree c.args.body)))
+    subst (λ (locals : names.Space Name). OnOk c.number_expression.result (expression_tree c.number_expression.new.expression ≡ expr_changed (by_place c.args.self.now.spaces.now locals) (expression_tree c.args.body.now)))
     c.in-Ok.ensures c.number_expression.ensures.changed
