@@ -1,7 +1,7 @@
 -- What the table says stands after each word, and so what becomes of its operands.
 use Rattle.std.proofs.Common.{◌≡◌, refl}
 use Rattle.wasm_encoder_base.specs.OperandSyntax as syntax
-use Rattle.wasm_encoder_base.specs.OperandSyntax.{OperandSyntax, Space, Labels, Locals, Functions, Types, Tables, Memories, Globals, Tags, Datas, Elems, Fields}
+use Rattle.wasm_encoder_base.specs.OperandSyntax.{Space, Labels, Locals, Functions, Types, Tables, Memories, Globals, Tags, Datas, Elems, Fields}
 use Rattle.wasm_encoder_base.specs.Table.{table}
 use Rattle.wasm_encoder_base.specs.Leb.{uleb, leb, digits}
 use Rattle.wasm_encoder_base.specs.Uncovered.{uncovered}

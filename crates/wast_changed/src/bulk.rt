@@ -29,8 +29,8 @@ pub(crate) fn change_bulk<'a, C: Changing<'a>>(change: &C, op: &mut BulkOp<'a>)
         BulkOp::TableGrow(table) => change_table_arg(change, table),
         BulkOp::TableSize(table) => change_table_arg(change, table),
         BulkOp::TableFill(table) => change_table_arg(change, table),
-        BulkOp::MemoryCopy(copy) => change_two(change, Space::Memories, &mut copy.memories),
-        BulkOp::TableCopy(copy) => change_two(change, Space::Tables, &mut copy.tables),
+        BulkOp::MemoryCopy(copy) => change_copy(change, Space::Memories, &mut copy.memories),
+        BulkOp::TableCopy(copy) => change_copy(change, Space::Tables, &mut copy.tables),
         BulkOp::MemoryInit(init) => change_memory_init(change, init.as_mut()),
         BulkOp::TableInit(init) => change_table_init(change, init.as_mut()),
     }
@@ -55,7 +55,7 @@ fn change_table_init<'a, C: Changing<'a>>(change: &C, init: &mut TableInit<'a>)
 }
 
 /// Two indices of a space, where they are given.
-fn change_two<'a, C: Changing<'a>>(
+fn change_copy<'a, C: Changing<'a>>(
     change: &C,
     space: Space,
     indices: &mut Option<Box<(Index<'a>, Index<'a>)>>,

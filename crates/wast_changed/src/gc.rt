@@ -6,7 +6,7 @@ ghost use Rattle.wast_meaning.specs.Changed.{operands_changed};
 ghost use Rattle.wast_changed.specs.Rows.{row_of};
 
 use crate::changing::Changing;
-use crate::operands::{change_struct_access, change_two};
+use crate::operands::{change_struct_access, change_type_and_index};
 use crate::typed_operands::change_cast;
 use crate::value_types::{change_heap_type, change_ref_type};
 use wast_core_instr::GcOp;
@@ -46,15 +46,15 @@ pub(crate) fn change_gc<'a, C: Changing<'a>>(change: &C, op: &mut GcOp<'a>)
         GcOp::StructSet(access) => change_struct_access(change, access.as_mut()),
         GcOp::ArrayNewData(new) => {
             let new = new.as_mut();
-            change_two(change, &mut new.array, Space::Datas, &mut new.data_idx)
+            change_type_and_index(change, &mut new.array, Space::Datas, &mut new.data_idx)
         }
         GcOp::ArrayNewElem(new) => {
             let new = new.as_mut();
-            change_two(change, &mut new.array, Space::Elems, &mut new.elem_idx)
+            change_type_and_index(change, &mut new.array, Space::Elems, &mut new.elem_idx)
         }
         GcOp::ArrayCopy(copy) => {
             let copy = copy.as_mut();
-            change_two(
+            change_type_and_index(
                 change,
                 &mut copy.dest_array,
                 Space::Types,
@@ -63,11 +63,11 @@ pub(crate) fn change_gc<'a, C: Changing<'a>>(change: &C, op: &mut GcOp<'a>)
         }
         GcOp::ArrayInitData(init) => {
             let init = init.as_mut();
-            change_two(change, &mut init.array, Space::Datas, &mut init.segment)
+            change_type_and_index(change, &mut init.array, Space::Datas, &mut init.segment)
         }
         GcOp::ArrayInitElem(init) => {
             let init = init.as_mut();
-            change_two(change, &mut init.array, Space::Elems, &mut init.segment)
+            change_type_and_index(change, &mut init.array, Space::Elems, &mut init.segment)
         }
         GcOp::ArrayNewFixed(new) => change.index(Space::Types, &mut new.as_mut().array),
         GcOp::RefNull(ty) => change_heap_type(change, ty.as_mut()),

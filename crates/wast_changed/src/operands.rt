@@ -49,7 +49,7 @@ pub fn change_struct_access<'a, C: Changing<'a>>(change: &C, access: &mut Struct
 }
 
 /// A type and an index of another space, or another type (6.5.7).
-pub(crate) fn change_two<'a, C: Changing<'a>>(
+pub(crate) fn change_type_and_index<'a, C: Changing<'a>>(
     change: &C,
     ty: &mut Index<'a>,
     space: Space,

@@ -7,7 +7,8 @@ ghost use Rattle.wast_changed.specs.Rows.{row_of};
 
 use crate::changing::Changing;
 use crate::operands::{
-    change_handlers, change_memory_arg, change_struct_access, change_table_arg, change_two,
+    change_handlers, change_memory_arg, change_struct_access, change_table_arg,
+    change_type_and_index,
 };
 use crate::typed_operands::change_cast;
 use crate::value_types::change_ref_type;
@@ -28,7 +29,7 @@ pub(crate) fn change_proposal<'a, C: Changing<'a>>(change: &C, op: &mut Proposal
         ProposalOp::StructNewDefaultDesc(index) => change.index(Space::Types, index),
         ProposalOp::RefGetDesc(index) => change.index(Space::Types, index),
         ProposalOp::ContBind(bind) => {
-            change_two(
+            change_type_and_index(
                 change,
                 &mut bind.argument_index,
                 Space::Types,
@@ -36,7 +37,7 @@ pub(crate) fn change_proposal<'a, C: Changing<'a>>(change: &C, op: &mut Proposal
             )
         }
         ProposalOp::Switch(switch) => {
-            change_two(
+            change_type_and_index(
                 change,
                 &mut switch.type_index,
                 Space::Tags,
@@ -122,7 +123,7 @@ pub(crate) fn change_proposal<'a, C: Changing<'a>>(change: &C, op: &mut Proposal
             change_handlers(change, &mut resume.table)
         }
         ProposalOp::ResumeThrow(resume) => {
-            change_two(
+            change_type_and_index(
                 change,
                 &mut resume.type_index,
                 Space::Tags,
