@@ -40,6 +40,3 @@ module _ {D : Type 0} (asks told : Part Name ℕ → List D) (same : (p : Part N
 pub answers_then : {T : Type 0} (r : Result T Problem) (ds es : List (Demand Name ℕ)) → first_unmet is_met ds ≡ None → Answers r es → Answers r (ds ++ es)
 answers_then (Ok x) ds es met h = unmet_after is_met ds es met ∙ h
 answers_then (Err e) ds es met h = refuses_second ds es e met h
-
-pub answers_as : {T : Type 0} (r : Result T Problem) (ds es : List (Demand Name ℕ)) → ds ≡ es → Answers r ds → Answers r es
-answers_as r ds es e h = subst (λ l. Answers r l) e h

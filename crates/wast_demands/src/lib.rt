@@ -13,6 +13,8 @@
 //! ```
 //!
 //! is an error at the word `import`, and without it one at `$f`: `` unknown func: failed to find name `$f` ``. Fields are only borrowed.
+//! [`ordered_spaces`] asks 1 and 2 alone, and answers the index spaces; [`check_mentions`] asks 3, where these and the types that uses imply
+//! are at hand.
 //!
 //! The parts: `wast_spaces`, index spaces; `wast_implied`, the types that uses imply; `wast_scopes`, what is known at a place; `wast_parts`,
 //! the walk over fields.
@@ -24,4 +26,4 @@
 
 mod names;
 
-pub use names::check_names;
+pub use names::{check_mentions, check_names, ordered_spaces};

@@ -1,24 +1,22 @@
 //! All demands of names.
-ghost use Rattle.std.specs.Prelude.{◌≡◌, ℕ, ◌++◌, map, option_map, IfOk};
+ghost use Rattle.std.specs.Prelude.{◌≡◌, ℕ, ◌++◌, map, IfOk};
 ghost use Rattle.std.specs.List.{flat_map};
-ghost use Rattle.wasm_encoder_base.specs.Table.{Types};
 ghost use Rattle.wast_grammar.specs.Tokens.{Name};
 ghost use Rattle.wast_grammar.specs.Spelling.{same_name};
 ghost use Rattle.wast_module_fields.specs.ModuleFieldViews.{field_tree};
 ghost use Rattle.wast_names.specs.Demand.{Answers, Demand, is_met};
 ghost use Rattle.wast_names.specs.Space as names;
-ghost use Rattle.wast_meaning.specs.Demands.{demands, field_demands, item_demands};
-ghost use Rattle.wast_meaning.specs.Implied.{implied_sigs, written_types};
+ghost use Rattle.wast_meaning.specs.Demands.{demands, field_demands, item_demands, order_demands};
+ghost use Rattle.wast_meaning.specs.Implied.{implied as implied_types};
 ghost use Rattle.wast_meaning.specs.Scope.{scope_of};
 ghost use Rattle.wast_meaning.specs.Spaces.{items};
 ghost use Rattle.wast_spaces.specs.Joins.{spaces_behind, type_fields};
 ghost use Rattle.wast_spaces.specs.Views.{fields_of_types, spaces_of};
+ghost use Rattle.wast_implied.specs.Views.{known as gathered};
 ghost use Rattle.wast_scopes.specs.Known.{part_by};
-ghost use Rattle.wast_scopes.specs.Numbered.{numbered_sig};
-ghost use Rattle.wast_scopes.specs.Signatures.{func_type, signatures};
 ghost use Rattle.wast_scopes.specs.Views.{Refused, known, refused_anywhere};
 
-use std::alloc::{AllocError, Global};
+use std::alloc::Global;
 use wast_implied::Implied;
 use wast_mentions::Mention;
 use wast_module_fields::{Expression, FunctionType, Local, ModuleField, TypeUse};
@@ -36,18 +34,23 @@ use wast_spaces::{Spaces, check_order};
 pub fn check_names<'a>(alloc: Global, fields: &[ModuleField<'a>]) -> Result<(), Error>
     ensures { Answers result (demands same_name (map field_tree fields.now)) }
 {
-    match check_order(alloc, fields) {
-        Ok(()) => check_ordered(alloc, fields),
+    match ordered_spaces(alloc, fields) {
+        Ok(spaces) => check_mentioned(alloc, fields, &spaces),
         Err(e) => Err(e),
     }
 }
 
-/// Tests items and what is mentioned.
-fn check_ordered<'a>(alloc: Global, fields: &[ModuleField<'a>]) -> Result<(), Error>
-    ensures { Answers result (item_demands same_name (flat_map items (map field_tree fields.now)) ++ flat_map (field_demands same_name (scope_of same_name (map field_tree fields.now))) (map field_tree fields.now)) }
+/// The index spaces of fields in which imports stand before definitions, and no item bears the name of an earlier one.
+///
+/// Refuses the first import behind a definition, else the first item that bears the name of an earlier one, segments aside, or field that
+/// bears that of an earlier one of its structure; else only where no memory is found, or there are more than 4294967295 items of a kind.
+pub fn ordered_spaces<'a>(alloc: Global, fields: &[ModuleField<'a>]) -> Result<Spaces<'a>, Error>
+    ensures spaces { IfOk result (λ s. spaces_of s ≡ spaces_behind (λ t. names.empty) (flat_map items (map field_tree fields.now))) }
+    ensures fields { IfOk result (λ s. fields_of_types s ≡ type_fields (flat_map items (map field_tree fields.now))) }
+    ensures answers { Answers result (order_demands (map field_tree fields.now) ++ item_demands same_name (flat_map items (map field_tree fields.now))) }
 {
-    match Spaces::of(alloc, fields) {
-        Ok(spaces) => check_mentioned(alloc, fields, &spaces),
+    match check_order(alloc, fields) {
+        Ok(()) => Spaces::of(alloc, fields),
         Err(e) => Err(e),
     }
 }
@@ -62,26 +65,34 @@ fn check_mentioned<'a>(
     requires fields { fields_of_types spaces.now ≡ type_fields (flat_map items (map field_tree fields.now)) }
     ensures { Answers result (flat_map (field_demands same_name (scope_of same_name (map field_tree fields.now))) (map field_tree fields.now)) }
 {
-    match signatures_of(alloc, fields, spaces) {
+    match Implied::of(alloc, fields) {
+        Ok(implied) => check_mentions(alloc, fields, spaces, &implied),
+        Err(e) => Err(Error::from(e)),
+    }
+}
+
+/// Tests what fields mention, where these are their index spaces, and the types that their uses imply.
+///
+/// Refuses the first name that means nothing, signature that isn't that of the type beside it, local that bears the name of an earlier one,
+/// or repeated name that isn't its block's; else only where no memory is found, or there are more than 4294967295 locals of a function or
+/// blocks inside each other.
+pub fn check_mentions<'a>(
+    alloc: Global,
+    fields: &[ModuleField<'a>],
+    spaces: &Spaces<'a>,
+    implied: &Implied<'a>,
+) -> Result<(), Error>
+    requires spaces { spaces_of spaces.now ≡ spaces_behind (λ t. names.empty) (flat_map items (map field_tree fields.now)) }
+    requires fields { fields_of_types spaces.now ≡ type_fields (flat_map items (map field_tree fields.now)) }
+    requires implied { (gathered implied.now).implied ≡ implied_types same_name (map field_tree fields.now) }
+    ensures { Answers result (flat_map (field_demands same_name (scope_of same_name (map field_tree fields.now))) (map field_tree fields.now)) }
+{
+    match Signatures::of(alloc, fields, spaces, implied) {
         Ok(signatures) => {
             let scope = Scope::new(alloc, spaces, &signatures);
             tell_all_parts(fields, &Names { scope: &scope })
         }
         Err(e) => Err(Error::from(e)),
-    }
-}
-
-/// The function types of the fields, written and implied.
-fn signatures_of<'a>(
-    alloc: Global,
-    fields: &[ModuleField<'a>],
-    spaces: &Spaces<'a>,
-) -> Result<Signatures, AllocError>
-    ensures { IfOk result (λ s. signatures s ≡ map (option_map (numbered_sig (spaces_of spaces.now Types).look)) (map func_type (flat_map written_types (map field_tree fields.now)) ++ implied_sigs same_name (map field_tree fields.now))) }
-{
-    match Implied::of(alloc, fields) {
-        Ok(implied) => Signatures::of(alloc, fields, spaces, &implied),
-        Err(e) => Err(e),
     }
 }
 

@@ -3,7 +3,7 @@
 //! [`Numbering`] is what is known outside of instructions: the index spaces of a module, and how many parameters each of its types has, which
 //! [`param_counts`] counts. As a [`wast_changed::Rewriting`] it puts the number that an index means in its place; in a body an index of a local
 //! means a parameter or local of the function, and one of a label a block that is open where it stands. An index that means nothing is left.
-//! Refused is what finds no memory, and, told as that, what has no number: the type, parameter, local or open block behind 4294967295 others.
+//! Refused is what finds no memory, and, told as that, what has no number: the parameter, local or open block behind 4294967295 others.
 //!
 //! # What has to be believed
 //!

@@ -1,11 +1,10 @@
 //! How many parameters types have.
 ghost use Rattle.std.specs.Prelude.{◌≡◌, [], ◌∷◌, ◌++◌, false, true, IfOk, OnOk, map, length};
 ghost use Rattle.std.specs.List.{flat_map};
-ghost use Rattle.wast_grammar.specs.Spelling.{same_name};
 ghost use Rattle.wast_core_types.specs.TypeViews.{inner_tree, item_tree};
 ghost use Rattle.wast_module_fields.specs.ModuleFieldViews.{field_tree};
-ghost use Rattle.wast_meaning.specs.Implied.{implied, written_types};
-ghost use Rattle.wast_implied.specs.Views.{implied_tree};
+ghost use Rattle.wast_meaning.specs.Implied.{written_types};
+ghost use Rattle.wast_implied.specs.Views.{implied_tree, known};
 ghost use Rattle.wast_numbered.specs.Params as spec;
 ghost use Rattle.wast_numbered.specs.Params.{implied_count, inner_count, param_count};
 
@@ -14,13 +13,17 @@ use wast_core_types::InnerTypeKind;
 use wast_implied::{Implied, ImpliedType};
 use wast_module_fields::{ModuleField, TypeItem};
 
-/// Those of the types of fields by their numbers: of those that are written, and then of those that uses imply; one that is no function
-/// type has none. Fails only where no memory is found, or there are more than 4294967295 types, which is told as that.
-pub fn param_counts<'a>(alloc: Global, fields: &[ModuleField<'a>]) -> Result<Vec<usize>, AllocError>
-    ensures { IfOk result (λ counts. counts.items ≡ spec.param_counts (map field_tree fields.now)) }
+/// Those of the types of fields by their numbers: of those that are written, and then of those that uses imply, which are at hand; one that
+/// is no function type has none. Fails only for want of memory.
+pub fn param_counts<'a>(
+    alloc: Global,
+    fields: &[ModuleField<'a>],
+    implied: &Implied<'a>,
+) -> Result<Vec<usize>, AllocError>
+    ensures { IfOk result (λ counts. counts.items ≡ spec.param_counts (map field_tree fields.now) (known implied.now).implied) }
 {
     let mut counts = written_counts(alloc, fields)?;
-    count_implied(alloc, fields, &mut counts)?;
+    count_signatures(implied.types(), &mut counts)?;
     Ok(counts)
 }
 
@@ -36,20 +39,6 @@ fn written_counts<'a>(alloc: Global, fields: &[ModuleField<'a>]) -> Result<Vec<u
         }
     }
     Ok(counts)
-}
-
-/// Appends those of the types that uses imply.
-fn count_implied<'a>(
-    alloc: Global,
-    fields: &[ModuleField<'a>],
-    counts: &mut Vec<usize>,
-) -> Result<(), AllocError>
-    ensures { OnOk result (counts.new.items ≡ counts.old.items ++ map implied_count (implied same_name (map field_tree fields.now))) }
-{
-    match Implied::of(alloc, fields) {
-        Ok(implied) => count_signatures(implied.types(), counts),
-        Err(e) => Err(e),
-    }
 }
 
 /// Appends those of implied types.

@@ -89,7 +89,7 @@ counted_so (t ∷ ts) is (suc k) = counted_so ts is k
 
 module _ (s : Spaces) (fs : List (Field Name ℕ)) (t : Tells s fs) where
   abbrev code : Scope Name ℕ
-  code = scope_with s (param_counts fs)
+  code = scope_with s (param_counts fs (implied same_name fs))
 
   alike : Alike_scopes code (scope_of same_name fs)
   alike = record { spaces = t.items; fields = t.fields }
@@ -165,12 +165,12 @@ module _ (s : Spaces) (fs : List (Field Name ℕ)) (t : Tells s fs) where
       numbering_alike (here s (spaces_of s Locals) (label_space same_name before i)) (scope_at same_name (scope_of same_name fs) before i)
       (record { spaces = constant_here (label_space same_name before i); fields = t.fields })
 
-  changes_alike : numberings_by s (param_counts fs) ≡ numberings same_name (scope_of same_name fs)
+  changes_alike : numberings_by s (param_counts fs (implied same_name fs)) ≡ numberings same_name (scope_of same_name fs)
   changes_alike = λ j. record {
     outside = numbering_alike code (scope_of same_name fs) alike j;
     in_constant = λ before i. constant_alike before i j;
     in_function = λ f before i. function_alike f before i j;
   }
 
-  pub as_numbered : map (field_changed (numberings_by s (param_counts fs))) fs ≡ numbered same_name fs
+  pub as_numbered : map (field_changed (numberings_by s (param_counts fs (implied same_name fs)))) fs ≡ numbered same_name fs
   as_numbered = ap (λ cs. map (field_changed cs) fs) changes_alike

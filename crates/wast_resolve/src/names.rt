@@ -1,5 +1,5 @@
 //! What names mean, and indices as numbers.
-ghost use Rattle.std.specs.Prelude.{◌≡◌, Some, None, map, IfOk, OnErr, OnOk};
+ghost use Rattle.std.specs.Prelude.{◌≡◌, ◌++◌, Some, None, map, IfOk, OnErr, OnOk};
 ghost use Rattle.std.specs.List.{flat_map};
 ghost use Rattle.wast_grammar.specs.Spelling.{same_name};
 ghost use Rattle.wast_parser.specs.Identifiers.{index_tree};
@@ -8,19 +8,22 @@ ghost use Rattle.wast_names.specs.Demand.{Answers, Refuses, is_met};
 ghost use Rattle.wast_names.specs.Space as names;
 ghost use Rattle.wast_names.specs.Space.{known, number_of, resolved};
 ghost use Rattle.wast_names.specs.Walk.{first_unmet};
-ghost use Rattle.wast_meaning.specs.Demands.{demands};
+ghost use Rattle.wast_meaning.specs.Demands.{demands, item_demands, order_demands};
+ghost use Rattle.wast_meaning.specs.Implied.{implied as implied_types};
 ghost use Rattle.wast_meaning.specs.Numbered.{numbered};
 ghost use Rattle.wast_meaning.specs.Spaces.{items, space_word};
 ghost use Rattle.wast_spaces.specs.Joins.{spaces_behind, type_fields};
 ghost use Rattle.wast_spaces.specs.Views.{fields_of_types, spaces_of};
+ghost use Rattle.wast_implied.specs.Views.{known as gathered};
 ghost use Rattle.wast_resolve.specs.Resolving.{AreNumbered, Means, ns_space, resolver_spaces};
 
 use crate::numbered::number_fields;
 use std::alloc::Global;
 use wast_core::ModuleField;
 use wast_deinline::deinline_import_export::discard;
-use wast_demands::check_names;
+use wast_demands::{check_mentions, ordered_spaces};
 use wast_expanded::{InPlace, by_value};
+use wast_implied::Implied;
 use wast_meaning::Space;
 use wast_parser::{Error, Index};
 use wast_spaces::Spaces;
@@ -128,40 +131,86 @@ pub(crate) fn resolve_in_place<'a>(
     ensures numbered { OnOk result (map field_tree fields.new.items ≡ numbered same_name (map field_tree fields.old.items)) }
     ensures names { IfOk result (λ r. Means (resolver_spaces r) (map field_tree fields.old.items)) }
 {
-    match check_names(alloc, fields) {
-        Ok(()) => number_met(alloc, fields),
-        Err(e) => Err(e),
+    match Implied::of(alloc, fields) {
+        Ok(implied) => resolve_known(alloc, fields, &implied),
+        Err(e) => Err(Error::from(e)),
     }
 }
 
-/// The same where all demands are met.
-fn number_met<'a>(alloc: Global, fields: &mut Vec<ModuleField<'a>>) -> Result<Resolver<'a>, Error>
-    requires { first_unmet is_met (demands same_name (map field_tree fields.old.items)) ≡ None }
+/// The same where the types that uses in the fields imply are at hand.
+pub(crate) fn resolve_known<'a>(
+    alloc: Global,
+    fields: &mut Vec<ModuleField<'a>>,
+    implied: &Implied<'a>,
+) -> Result<Resolver<'a>, Error>
+    requires { (gathered implied.now).implied ≡ implied_types same_name (map field_tree fields.old.items) }
     ensures answers { Answers result (demands same_name (map field_tree fields.old.items)) }
     ensures numbered { OnOk result (map field_tree fields.new.items ≡ numbered same_name (map field_tree fields.old.items)) }
     ensures names { IfOk result (λ r. Means (resolver_spaces r) (map field_tree fields.old.items)) }
 {
-    match Spaces::of(alloc, fields) {
-        Ok(spaces) => number_with(alloc, spaces, fields),
+    match ordered_spaces(alloc, fields) {
+        Ok(spaces) => resolve_with(alloc, fields, spaces, implied),
         Err(e) => Err(e),
     }
 }
 
-/// The same where these are the fields' index spaces.
-fn number_with<'a>(
+/// The same where imports stand before definitions, no item bears the name of an earlier one, and these are the fields' index spaces.
+fn resolve_with<'a>(
     alloc: Global,
-    spaces: Spaces<'a>,
     fields: &mut Vec<ModuleField<'a>>,
+    spaces: Spaces<'a>,
+    implied: &Implied<'a>,
 ) -> Result<Resolver<'a>, Error>
-    requires met { first_unmet is_met (demands same_name (map field_tree fields.old.items)) ≡ None }
+    requires ordered { first_unmet is_met (order_demands (map field_tree fields.old.items) ++ item_demands same_name (flat_map items (map field_tree fields.old.items))) ≡ None }
     requires spaces { spaces_of spaces ≡ spaces_behind (λ t. names.empty) (flat_map items (map field_tree fields.old.items)) }
     requires fields { fields_of_types spaces ≡ type_fields (flat_map items (map field_tree fields.old.items)) }
+    requires implied { (gathered implied.now).implied ≡ implied_types same_name (map field_tree fields.old.items) }
     ensures answers { Answers result (demands same_name (map field_tree fields.old.items)) }
     ensures numbered { OnOk result (map field_tree fields.new.items ≡ numbered same_name (map field_tree fields.old.items)) }
     ensures names { IfOk result (λ r. Means (resolver_spaces r) (map field_tree fields.old.items)) }
 {
-    match number_fields(alloc, fields, &spaces) {
+    match number_ordered(alloc, fields, &spaces, implied) {
         Ok(()) => Ok(Resolver { spaces }),
+        Err(e) => Err(e),
+    }
+}
+
+/// Tests what is mentioned in such fields, and makes their indices numbers.
+fn number_ordered<'a>(
+    alloc: Global,
+    fields: &mut Vec<ModuleField<'a>>,
+    spaces: &Spaces<'a>,
+    implied: &Implied<'a>,
+) -> Result<(), Error>
+    requires ordered { first_unmet is_met (order_demands (map field_tree fields.old.items) ++ item_demands same_name (flat_map items (map field_tree fields.old.items))) ≡ None }
+    requires spaces { spaces_of spaces.now ≡ spaces_behind (λ t. names.empty) (flat_map items (map field_tree fields.old.items)) }
+    requires fields { fields_of_types spaces.now ≡ type_fields (flat_map items (map field_tree fields.old.items)) }
+    requires implied { (gathered implied.now).implied ≡ implied_types same_name (map field_tree fields.old.items) }
+    ensures answers { Answers result (demands same_name (map field_tree fields.old.items)) }
+    ensures numbered { OnOk result (map field_tree fields.new.items ≡ numbered same_name (map field_tree fields.old.items)) }
+{
+    match check_mentions(alloc, fields, spaces, implied) {
+        Ok(()) => number_met(alloc, fields, spaces, implied),
+        Err(e) => Err(e),
+    }
+}
+
+/// Makes indices numbers where all demands are met.
+fn number_met<'a>(
+    alloc: Global,
+    fields: &mut Vec<ModuleField<'a>>,
+    spaces: &Spaces<'a>,
+    implied: &Implied<'a>,
+) -> Result<(), Error>
+    requires met { first_unmet is_met (demands same_name (map field_tree fields.old.items)) ≡ None }
+    requires spaces { spaces_of spaces.now ≡ spaces_behind (λ t. names.empty) (flat_map items (map field_tree fields.old.items)) }
+    requires fields { fields_of_types spaces.now ≡ type_fields (flat_map items (map field_tree fields.old.items)) }
+    requires implied { (gathered implied.now).implied ≡ implied_types same_name (map field_tree fields.old.items) }
+    ensures answers { Answers result (demands same_name (map field_tree fields.old.items)) }
+    ensures numbered { OnOk result (map field_tree fields.new.items ≡ numbered same_name (map field_tree fields.old.items)) }
+{
+    match number_fields(alloc, implied, fields, spaces) {
+        Ok(()) => Ok(()),
         Err(e) => Err(Error::from(e)),
     }
 }

@@ -1,5 +1,5 @@
 //! Whole lists of fields, resolved.
-ghost use Rattle.std.specs.Prelude.{◌≡◌, ◌+◌, ◌^◌, ◌<◌, ◌≤◌, None, false, map, length, IfErr, IfOk, OnErr, OnOk};
+ghost use Rattle.std.specs.Prelude.{◌≡◌, ◌+◌, ◌^◌, ◌<◌, ◌≤◌, [], None, false, map, length, IfErr, IfOk, OnErr, OnOk};
 ghost use Rattle.wasm_encoder_base.specs.Table.{Functions, Globals, Memories, Tables};
 ghost use Rattle.wast_grammar.specs.Spelling.{same_name};
 ghost use Rattle.wast_parser.specs.Identifiers.{index_tree};
@@ -8,8 +8,10 @@ ghost use Rattle.wast_core.specs.ModuleFieldViews.{field_tree};
 ghost use Rattle.wast_names.specs.Demand.{Answers, Refuses};
 ghost use Rattle.wast_names.specs.Space.{known, number_of, resolved};
 ghost use Rattle.wast_meaning.specs.Demands.{demands};
+ghost use Rattle.wast_meaning.specs.Implied.{implied as implied_types};
 ghost use Rattle.wast_meaning.specs.Numbered.{expanded, numbered};
 ghost use Rattle.wast_meaning.specs.Spaces.{space_word};
+ghost use Rattle.wast_implied.specs.Views.{known as gathered};
 ghost use Rattle.wast_resolve.specs.Resolving.{Means, ns_space, resolver_spaces};
 ghost use Rattle.wast_resolve.specs.Whole.{AreResolved, counter_after, demands_by, names_spaces, resolved_by, written_by};
 
@@ -19,6 +21,7 @@ use std::alloc::{AllocError, Global};
 use wast_core::ModuleField;
 use wast_deinline::deinline_import_export::{discard, run_in_place};
 use wast_expanded::{InPlace, by_value, expand_in_place};
+use wast_implied::Implied;
 use wast_parser::{Error, Gensym, Index};
 
 /// What the names of a module mean whose fields are resolved. Each call makes an index the number that it means in a space, at the same
@@ -185,14 +188,39 @@ fn expand_written<'a>(
     }
 }
 
-/// Makes the indices of fields numbers.
+/// Makes the indices of fields numbers, in which no use implies a type.
 fn number_expanded<'a>(alloc: Global, fields: &mut Vec<ModuleField<'a>>) -> Result<Names<'a>, Error>
+    requires { implied_types same_name (map field_tree fields.old.items) ≡ [] }
     ensures answers { Answers result (demands same_name (map field_tree fields.old.items)) }
     ensures numbered { OnOk result (map field_tree fields.new.items ≡ numbered same_name (map field_tree fields.old.items)) }
     ensures names { IfOk result (λ n. Means (names_spaces n) (map field_tree fields.old.items)) }
 {
-    match names::resolve_in_place(alloc, fields) {
+    match Implied::of(alloc, none_of(fields)) {
+        Ok(implied) => number_known(alloc, &implied, fields),
+        Err(e) => Err(Error::from(e)),
+    }
+}
+
+/// The same where the types that uses in the fields imply are at hand.
+fn number_known<'a>(
+    alloc: Global,
+    implied: &Implied<'a>,
+    fields: &mut Vec<ModuleField<'a>>,
+) -> Result<Names<'a>, Error>
+    requires { (gathered implied.now).implied ≡ implied_types same_name (map field_tree fields.old.items) }
+    ensures answers { Answers result (demands same_name (map field_tree fields.old.items)) }
+    ensures numbered { OnOk result (map field_tree fields.new.items ≡ numbered same_name (map field_tree fields.old.items)) }
+    ensures names { IfOk result (λ n. Means (names_spaces n) (map field_tree fields.old.items)) }
+{
+    match names::resolve_known(alloc, fields, implied) {
         Ok(resolver) => Ok(Names { resolver }),
         Err(e) => Err(e),
     }
+}
+
+/// None of some items.
+fn none_of<T>(items: &[T]) -> &[T]
+    ensures { result.now ≡ [] }
+{
+    &items[..0]
 }
