@@ -1,3 +1,4 @@
+mod Absent
 mod AtKind
 mod Called
 mod CountPut
@@ -5,12 +6,14 @@ mod Counts
 mod DataCount
 mod Few
 mod FewNames
+mod Gives
 mod Hinted
 mod Laid
 mod Left
 mod Listed
 mod Lists
 mod NamesPut
+mod NotedFields
 mod Others
 mod PutLists
 mod SectionSizes

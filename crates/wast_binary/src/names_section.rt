@@ -16,18 +16,21 @@ use wast_module_fields::ModuleField;
 use wast_name_maps::name_section;
 use wast_parser::{Id, NameAnnotation};
 
-/// Appends the section of names, if there are any, unless a custom field is called `name`.
+/// Appends the section of names, if there are any, unless a custom field is called `name`. Fields among which all custom sections are are given
+/// beside all of them.
 pub(crate) fn put_names<'n, 'a>(
     alloc: Global,
     id: &'n Option<Id<'a>>,
     name: &'n Option<NameAnnotation<'a>>,
     fields: &'n [ModuleField<'a>],
+    customs: &'n [ModuleField<'a>],
     module: &mut Module,
 ) -> Result<(), EncodeError>
-    requires { are_settled (fields_in fields.now) ≡ true }
+    requires customs { flat_map customs_in (fields_in customs.now) ≡ flat_map customs_in (fields_in fields.now) }
+    requires settled { are_settled (fields_in fields.now) ≡ true }
     ensures { PutsNames (is_called (codes "name") (map custom_of (flat_map customs_in (fields_in fields.now)) ∷ [])) (maps_of id.now name.now fields.now) «module».old «module».new result }
 {
-    if is_name_taken(fields) {
+    if is_name_taken(customs) {
         Ok(())
     } else {
         put_names_of(alloc, id, name, fields, module)
