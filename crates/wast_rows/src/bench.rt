@@ -175,6 +175,9 @@ fn one_literal<'b, 'a>(cursor: Cursor<'b, 'a>) -> Result<(bool, Cursor<'b, 'a>),
     if let Some((_, rest)) = cursor.string()? {
         return Ok((true, rest));
     }
+    if let Some((_, rest)) = cursor.id()? {
+        return Ok((true, rest));
+    }
     Ok((false, cursor))
 }
 
