@@ -163,6 +163,9 @@ fn one_token<'b, 'a>(cursor: Cursor<'b, 'a>) -> Result<(bool, Cursor<'b, 'a>), E
     if let Some(rest) = cursor.rparen()? {
         return Ok((true, rest));
     }
+    if let Some((_, rest)) = cursor.id()? {
+        return Ok((true, rest));
+    }
     one_literal(cursor)
 }
 
@@ -173,9 +176,6 @@ fn one_literal<'b, 'a>(cursor: Cursor<'b, 'a>) -> Result<(bool, Cursor<'b, 'a>),
         return Ok((true, rest));
     }
     if let Some((_, rest)) = cursor.string()? {
-        return Ok((true, rest));
-    }
-    if let Some((_, rest)) = cursor.id()? {
         return Ok((true, rest));
     }
     Ok((false, cursor))
