@@ -23,18 +23,25 @@ use wast_lexer::Span;
 /// by their generations, and then by their names, byte by byte.
 #[derive(Drop)]
 pub struct Id<'a> {
-    name: CowStr<'a, Global>,
-    generation: u32,
+    name: Name<'a>,
     span: Span,
 }
 
+/// The name of an identifier. Few are decoded: theirs stands in a box, so that the others take no room for it.
+#[derive(Drop)]
+pub(crate) enum Name<'a> {
+    Read(&'a str),
+    Decoded(Box<String>),
+    Made(u32),
+}
+
 impl<'a> Model for Id<'a> {
-    ghost use Rattle.std.specs.Cow.{cow_str_bytes};
     ghost use Rattle.wast_parser_base.specs.Identifier.{Identifier};
+    ghost use Rattle.wast_parser_base.specs.Names.{name_text, name_generation};
 
     ghost Value = { Identifier };
 
-    ghost view = { λ x. record { name = cow_str_bytes x.name; generation = x.generation; place = x.span } };
+    ghost view = { λ x. record { name = name_text x.name; generation = name_generation x.name; place = x.span } };
 }
 
 impl<'a> Id<'a> {
@@ -42,17 +49,23 @@ impl<'a> Id<'a> {
     pub fn new(name: &'a str, span: Span) -> Self
         ensures { result ≡ read_name name.entry.now span }
     {
-        Id::decoded(CowStr::Borrowed(name), span)
+        Id {
+            name: Name::Read(name),
+            span,
+        }
     }
 
-    /// The same for a name that may own its memory, as one that is written as a string with escapes.
-    pub fn decoded(name: CowStr<'a, Global>, span: Span) -> Self
-        ensures { result ≡ read_name (cow_str_bytes name.entry) span }
+    /// The same for a name that may own its memory, as one that is written as a string with escapes. Such a name is put into a box,
+    /// so this fails only for want of memory.
+    pub fn decoded(alloc: Global, name: CowStr<'a, Global>, span: Span) -> Result<Self, AllocError>
+        ensures { IfOk result (λ id. id ≡ read_name (cow_str_bytes name.entry) span) }
     {
-        Id {
-            name,
-            generation: 0,
-            span,
+        match name {
+            CowStr::Borrowed(name) => Ok(Id::new(name, span)),
+            CowStr::Owned(name) => Ok(Id {
+                name: Name::Decoded(Box::new(alloc, name)?),
+                span,
+            }),
         }
     }
 
@@ -61,8 +74,7 @@ impl<'a> Id<'a> {
         ensures { result ≡ made_name generation span }
     {
         Id {
-            name: CowStr::Borrowed("gensym"),
-            generation,
+            name: Name::Made(generation),
             span,
         }
     }
@@ -71,7 +83,21 @@ impl<'a> Id<'a> {
     pub fn name(&self) -> &str
         ensures { result.now ≡ self.now.name }
     {
-        self.name.as_str()
+        match &self.name {
+            Name::Read(name) => *name,
+            Name::Decoded(name) => name.as_str(),
+            Name::Made(_) => "gensym",
+        }
+    }
+
+    /// 0 of an identifier that was read, a number of its own of one that was made.
+    fn generation(&self) -> u32
+        ensures { result ≡ self.now.generation }
+    {
+        match &self.name {
+            Name::Made(generation) => *generation,
+            _ => 0,
+        }
     }
 
     /// Where the identifier stands.
@@ -86,12 +112,15 @@ impl<'a> Id<'a> {
         ensures { IfOk result (λ copy. copy ≡ self.now) }
     {
         let name = match &self.name {
-            CowStr::Borrowed(name) => CowStr::Borrowed(*name),
-            CowStr::Owned(name) => CowStr::Owned(String::from_str(alloc, name.as_str())?),
+            Name::Read(name) => Name::Read(*name),
+            Name::Decoded(name) => {
+                let copy = String::from_str(alloc, name.as_str())?;
+                Name::Decoded(Box::new(alloc, copy)?)
+            }
+            Name::Made(generation) => Name::Made(*generation),
         };
         Ok(Id {
             name,
-            generation: self.generation,
             span: self.span,
         })
     }
@@ -105,7 +134,7 @@ impl<'a> PartialEq for Id<'a> {
     ghost laws = { Prim.search (comparing, rules) };
 
     fn eq(&self, other: &Self) -> bool {
-        self.generation == other.generation && self.name.as_str() == other.name.as_str()
+        self.generation() == other.generation() && self.name() == other.name()
     }
 }
 
@@ -127,9 +156,9 @@ impl<'a> Ord for Id<'a> {
     ghost matches_eq = { Prim.search (comparing, rules) };
 
     fn cmp(&self, other: &Self) -> Ordering {
-        self.generation
-            .cmp(&other.generation)
-            .then(self.name.as_str().cmp(other.name.as_str()))
+        self.generation()
+            .cmp(&other.generation())
+            .then(self.name().cmp(other.name()))
     }
 }
 
@@ -153,15 +182,15 @@ impl<'a> Hash for Id<'a> {
     ghost respects_eq = { Prim.search (hashing, rules) };
 
     fn hash<H: Hasher>(&self, state: &mut H) {
-        self.generation.hash(state);
-        self.name.as_str().hash(state);
+        self.generation().hash(state);
+        self.name().hash(state);
     }
 }
 
 impl<'a> fmt::Debug for Id<'a> {
     fn fmt<W: fmt::Write>(&self, f: &mut fmt::Formatter<W>) -> fmt::Result {
-        let name = self.name.as_str();
-        let generation = self.generation;
+        let name = self.name();
+        let generation = self.generation();
         if generation == 0 {
             write!(f, "${name}")
         } else {

@@ -30,7 +30,7 @@ impl<'a> Meaning for Id<'a> {
 impl<'a> Parse<'a> for Id<'a> {
     fn parse(parser: &mut Parser<'a>) -> Result<Self, Error> {
         let (name, span) = parser.id()?;
-        Ok(Id::decoded(name, span))
+        Ok(Id::decoded(parser.alloc(), name, span)?)
     }
 }
 

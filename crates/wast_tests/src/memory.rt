@@ -85,5 +85,5 @@ fn refused_growths_of_a_sink(rt: HostRuntime) -> Result<(), Fail> {
 
 fn owned_index(alloc: Global) -> Result<Index<'static>, AllocError> {
     let name = CowStr::Owned(String::from_str(alloc, "name")?);
-    Ok(Index::from(Id::decoded(name, Span::from_offset(0))))
+    Ok(Index::from(Id::decoded(alloc, name, Span::from_offset(0))?))
 }
