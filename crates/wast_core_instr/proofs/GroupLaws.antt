@@ -75,6 +75,7 @@ placed p o = o >>= λ t. Some (t, p)
 
 -- a word that may have a label, without one
 alone : (N P : Type 0) (w : NameWord) (p : P) → find_by (λ t. t.mnemonic) (word_mnemonic (words.Name w)) text_table ≡ Some (entry_of (words.Name w)) → (instruction {N = N} {P = P}).spells (unlabelled (word_mnemonic (words.Name w))) (Word (word_mnemonic (words.Name w)) p ∷ [])
+unfolding instruction
 alone N P w p e = (((entry_of (words.Name w), p), Label None), refl, (Word (word_mnemonic (words.Name w)) p ∷ [], [], refl, (Word (word_mnemonic (words.Name w)) p, refl, ap (placed p) e), (None, refl, refl)))
 
 pub instruction_spelled : (N P : Type 0) → EveryWord → Spelled (instruction {N = N} {P = P}) instruction_made

@@ -137,9 +137,11 @@ module _ {N P : Type 0} where
   parts_laws = next_laws mnemonic (λ t. operands t.0.operands) row_starts true (join row_stops catch_starts) mnemonic_laws (λ t. bounded_laws t.0.operands) refl
 
   pub instruction_laws : Lawful (instruction {N = N} {P = P})
+  unfolding instruction
   instruction_laws = seen_laws as_instruction parts parts_laws
 
   settled : (ts : List (SignificantToken N P)) (x : Instruction N P × List (SignificantToken N P)) → instruction.reads ts ≡ Some x → at (own x.0) x.1 ≡ false
+  unfolding instruction
   settled ts x e =
       let b = bind_ok (parts.reads ts) _ x e in
       let c = bind_ok (mnemonic.reads ts) _ b.0 b.1 in
@@ -151,6 +153,7 @@ module _ {N P : Type 0} where
       subst (λ (z : Instruction N P × List (SignificantToken N P)). at (own z.0) z.1 ≡ false) (some_one _ _ b.2) r
 
   complete : (a : Instruction N P) (us rest : List (SignificantToken N P)) → instruction.spells a us → at row_stops rest ≡ false → at (own a) rest ≡ false → instruction.reads (us ++ rest) ≡ Some (a, rest)
+  unfolding instruction
   complete a us rest s n m =
       let o = s.0.0.0.operands in
       let k : at (own_operands s.0.1) rest ≡ false = subst (λ (z : Instruction N P). at (own z) rest ≡ false) (sym s.1) m in
@@ -159,6 +162,7 @@ module _ {N P : Type 0} where
 
   -- where nothing goes on with an instruction's own operands, its stops are those of all
   pub instruction_but : LawfulBut (wide instruction_starts false row_stops (instruction {N = N} {P = P})) own
+  unfolding instruction
   instruction_but = record {
     sound = λ ts x e. (let s = instruction_laws.sound ts x e in record { taken = s.taken; parts = s.parts; spelled = s.spelled });
     settled = settled;

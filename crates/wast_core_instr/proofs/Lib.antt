@@ -3,3 +3,4 @@ pub mod GroupKinds
 pub mod GroupLaws
 pub mod InstructionLaws
 pub mod MemArgs
+pub mod Worded

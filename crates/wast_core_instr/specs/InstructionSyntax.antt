@@ -89,5 +89,5 @@ module _ {N P : Type 0} where
   as_instruction i = record { head = head i.0.0 (choose_second i.1); operands = i.1 }
 
   -- INSTRUCTIONS: a mnemonic, and the operands of its row
-  abbrev pub instruction : Syntax N P (Instruction N P)
+  unfoldable pub instruction : Syntax N P (Instruction N P)
   instruction = seen as_instruction (next mnemonic (λ t. operands t.0.operands) row_starts true (join row_stops catch_starts))

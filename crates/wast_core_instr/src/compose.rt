@@ -145,70 +145,63 @@ fn gc_indices<'a>(
     ensures operands { IfOk result (λ op. gc_operands op ≡ spec.Two (index_tree first.entry) (index_tree second.entry)) }
 {
     match word {
-        IndicesWord::StructGet => Ok(GcOp::StructGet(Box::new(
-            alloc,
-            StructAccess {
-                struct_type: first,
-                field: second,
-            },
-        )?)),
-        IndicesWord::StructGetS => Ok(GcOp::StructGetS(Box::new(
-            alloc,
-            StructAccess {
-                struct_type: first,
-                field: second,
-            },
-        )?)),
-        IndicesWord::StructGetU => Ok(GcOp::StructGetU(Box::new(
-            alloc,
-            StructAccess {
-                struct_type: first,
-                field: second,
-            },
-        )?)),
-        IndicesWord::StructSet => Ok(GcOp::StructSet(Box::new(
-            alloc,
-            StructAccess {
-                struct_type: first,
-                field: second,
-            },
-        )?)),
-        IndicesWord::ArrayNewData => Ok(GcOp::ArrayNewData(Box::new(
-            alloc,
-            ArrayNewData {
+        IndicesWord::StructGet => access(alloc, first, second).map(GcOp::StructGet),
+        IndicesWord::StructGetS => access(alloc, first, second).map(GcOp::StructGetS),
+        IndicesWord::StructGetU => access(alloc, first, second).map(GcOp::StructGetU),
+        IndicesWord::StructSet => access(alloc, first, second).map(GcOp::StructSet),
+        IndicesWord::ArrayNewData => {
+            let operands = ArrayNewData {
                 array: first,
                 data_idx: second,
-            },
-        )?)),
-        IndicesWord::ArrayNewElem => Ok(GcOp::ArrayNewElem(Box::new(
-            alloc,
-            ArrayNewElem {
+            };
+            boxed(alloc, operands).map(GcOp::ArrayNewData)
+        }
+        IndicesWord::ArrayNewElem => {
+            let operands = ArrayNewElem {
                 array: first,
                 elem_idx: second,
-            },
-        )?)),
-        IndicesWord::ArrayCopy => Ok(GcOp::ArrayCopy(Box::new(
-            alloc,
-            ArrayCopy {
+            };
+            boxed(alloc, operands).map(GcOp::ArrayNewElem)
+        }
+        IndicesWord::ArrayCopy => {
+            let operands = ArrayCopy {
                 dest_array: first,
                 src_array: second,
-            },
-        )?)),
-        IndicesWord::ArrayInitData => Ok(GcOp::ArrayInitData(Box::new(
-            alloc,
-            ArrayInit {
-                array: first,
-                segment: second,
-            },
-        )?)),
-        IndicesWord::ArrayInitElem => Ok(GcOp::ArrayInitElem(Box::new(
-            alloc,
-            ArrayInit {
-                array: first,
-                segment: second,
-            },
-        )?)),
+            };
+            boxed(alloc, operands).map(GcOp::ArrayCopy)
+        }
+        IndicesWord::ArrayInitData => init(alloc, first, second).map(GcOp::ArrayInitData),
+        IndicesWord::ArrayInitElem => init(alloc, first, second).map(GcOp::ArrayInitElem),
     }
+}
+
+/// The operands of an access to a field.
+fn access<'a>(
+    alloc: Global,
+    struct_type: Index<'a>,
+    field: Index<'a>,
+) -> Result<Box<StructAccess<'a>>, AllocError>
+    ensures { IfOk result (λ b. b.value ≡ record { struct_type = struct_type.entry; field = field.entry }) }
+{
+    boxed(alloc, StructAccess { struct_type, field })
+}
+
+/// The operands of what writes a segment into an array.
+fn init<'a>(
+    alloc: Global,
+    array: Index<'a>,
+    segment: Index<'a>,
+) -> Result<Box<ArrayInit<'a>>, AllocError>
+    ensures { IfOk result (λ b. b.value ≡ record { array = array.entry; segment = segment.entry }) }
+{
+    boxed(alloc, ArrayInit { array, segment })
+}
+
+/// A value in a box. Fails only for want of memory.
+fn boxed<T: Drop>(alloc: Global, value: T) -> Result<Box<T>, AllocError>
+    ensures { IfOk result (λ b. b.value ≡ value) }
+{
+    Ok(Box::new(alloc, value)?)
 }
 
 /// The instruction of a word and what it calls.

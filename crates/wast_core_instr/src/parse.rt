@@ -44,8 +44,10 @@ impl<'a> Meaning for Instruction<'a> {
 
 impl<'a> Parse<'a> for Instruction<'a> {
     fn parse(parser: &mut Parser<'a>) -> Result<Self, Error> {
-        let (word, _) = parser.among("expected an instruction")?;
-        parse_operands(parser, word)
+        match parser.among("expected an instruction") {
+            Ok((word, _)) => parse_operands(parser, word),
+            Err(e) => Err(e),
+        }
     }
 }
 

@@ -124,19 +124,19 @@ abbrev parts : Items ℕ Kept
 parts = IfElse None None (if_i, if_ts) (Folded None (get_i, get_ts) Done 30 Done) (alone (nop_i, nop_ts)) 44 (alone (trap_i, trap_ts)) 61 Done
 
 get_spelled : K.spells (get_i, get_ts) get_ts
-unfolding text_table table uncovered uleb leb digits
+unfolding instruction text_table table uncovered uleb leb digits
 get_spelled = (all_spelled instruction instruction_laws get_ts get_i refl, refl)
 
 if_spelled : K.spells (if_i, if_ts) if_ts
-unfolding text_table table uncovered uleb leb digits
+unfolding instruction text_table table uncovered uleb leb digits
 if_spelled = (all_spelled instruction instruction_laws if_ts if_i refl, refl)
 
 nop_spelled : K.spells (nop_i, nop_ts) nop_ts
-unfolding text_table table uncovered uleb leb digits
+unfolding instruction text_table table uncovered uleb leb digits
 nop_spelled = (all_spelled instruction instruction_laws nop_ts nop_i refl, refl)
 
 trap_spelled : K.spells (trap_i, trap_ts) trap_ts
-unfolding text_table table uncovered uleb leb digits
+unfolding instruction text_table table uncovered uleb leb digits
 trap_spelled = (all_spelled instruction instruction_laws trap_ts trap_i refl, refl)
 
 -- groups of some depth
@@ -172,7 +172,7 @@ items_spelled : (items K kh).spells parts body_ts
 items_spelled = ((None, Grouped group) ∷ [], refl, (body_ts, [], refl, (refl, ([], body_ts, refl, refl, inr (group, refl, (2, group_spelled)))), refl, refl))
 
 folded : expr.spells body body_ts
-unfolding text_table table uncovered uleb leb digits
+unfolding instruction text_table table uncovered uleb leb digits
 folded = all_spelled expr expr_laws body_ts body refl
 
 abbrev made_ts : List TextToken

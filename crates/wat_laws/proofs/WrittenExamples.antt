@@ -12,6 +12,7 @@ use Rattle.wast_grammar.specs.Alike.{move}
 use Rattle.wast_grammar.proofs.GrammarLaws.{all_spelled}
 use Rattle.wast_parser.specs.Identifiers.{ByName}
 use Rattle.wast_mnemonics.specs.TextTable.{text_table}
+use Rattle.wast_core_instr.specs.InstructionSyntax.{instruction}
 use Rattle.wast_exports.specs.Exports as exports
 use Rattle.wast_data.specs.DataTree as values
 use Rattle.wast_field_syntax.specs.FieldTree.{Func, Memory, MemoryOf, ActiveData, Field, Define, ExportField, DataField}
@@ -96,7 +97,7 @@ abbrev filled_field : Field Name ℕ
 filled_field = Define (record { place = 9; id = Some ((codes "m", 0), 16); given = None; exports = []; defined = MemoryOf false None ab })
 
 memory : WrittenTokens memory_inline memory_written
-unfolding text_table table
+unfolding instruction text_table table
 memory = record {
   tree = of_fields (filled_field ∷ []);
   fields = filled_field ∷ [];
