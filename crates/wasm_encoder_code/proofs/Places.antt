@@ -5,7 +5,8 @@ use Rattle.wasm_encoder_base.specs.Instr.{instr_bytes, expr_bytes}
 use Rattle.wasm_encoder_code.specs.Body.{locals_bytes}
 use Rattle.wasm_encoder_code.specs.Laws.{PlaceBegins}
 
-past_items : {A : Type 0} (spell : A → List ℕ) (xs : List A) (k : ℕ) (after : List ℕ) → drop (length (flat_map spell (take k xs))) (flat_map spell xs ++ after) ≡ flat_map spell (drop k xs) ++ after
+-- the bytes of items from one on
+pub past_items : {A : Type 0} (spell : A → List ℕ) (xs : List A) (k : ℕ) (after : List ℕ) → drop (length (flat_map spell (take k xs))) (flat_map spell xs ++ after) ≡ flat_map spell (drop k xs) ++ after
 past_items spell xs zero after = refl
 past_items spell [] (suc k) after = refl
 past_items spell (x ∷ xs) (suc k) after =

@@ -13,7 +13,7 @@ use Rattle.wasm_encoder_custom.specs.CoreDump.{IsValue, value_bytes, named_bytes
 use Rattle.wasm_encoder_custom.specs.Laws.{IsFrame}
 use Rattle.wasm_encoder_custom.specs.declared.dump.CoreDumpValue.{CoreDumpValue}
 use Rattle.wasm_encoder_custom.specs.declared.dump.CoreDumpValue.TheVariants.{Missing, I32, I64, F32, F64}
-use Rattle.wasm_encoder_custom.proofs.UniqueParts.{unique_after}
+use Rattle.wasm_encoder_base.proofs.UniqueTypes.{unique_after}
 
 -- numbers of 32 and of 64 bits, the low byte first
 unique_four : Unique (λ n. n < 2 ^ 32) (to_le_bytes w32)

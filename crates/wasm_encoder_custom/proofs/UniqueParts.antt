@@ -1,9 +1,9 @@
 -- Custom sections, fields of producers and hints are told apart by their bytes.
-use Rattle.std.proofs.Common.{ℕ, List, [], ◌∷◌, ◌++◌, refl, append_assoc}
+use Rattle.std.proofs.Common.{[], ◌++◌, refl, append_assoc}
 use Rattle.wasm_encoder_base.specs.Unique.{Unique, Injective, Any}
 use Rattle.wasm_encoder_base.proofs.UniqueBytes.{unique_list, unique_name, unique_sized}
 use Rattle.wasm_encoder_base.proofs.UniqueLeb.{unique_uleb}
-use Rattle.wasm_encoder_base.proofs.UniqueParts.{unique_pair, unique_via, unique_where, unique_byte, cons_tail, injective_pair, injective_via, injective_where, injective_bytes}
+use Rattle.wasm_encoder_base.proofs.UniqueParts.{unique_pair, unique_via, unique_where, unique_byte, injective_pair, injective_via, injective_where, injective_bytes}
 use Rattle.wasm_encoder_custom.specs.BranchHints.{FunctionHints, hint_bytes, function_hints_bytes}
 use Rattle.wasm_encoder_custom.specs.Custom.{Custom, custom_body, custom_bytes}
 use Rattle.wasm_encoder_custom.specs.Producers.{Producer, producer_bytes, Field, field_bytes}
@@ -26,10 +26,6 @@ pub unique_field : Unique Any field_bytes
 unique_field =
     unique_where (λ f _. (tt, tt))
     (unique_via {A = Field} (λ f. (f.name, f.values)) (λ p. record { name = p.0; values = p.1 }) (λ f. refl) (unique_pair unique_name (unique_list unique_producer)))
-
--- after one byte
-pub unique_after : {A : Type 0} {P : A → Type 0} {e : A → List ℕ} (b : ℕ) → Unique P e → Unique P (λ x. b ∷ e x)
-unique_after b u = record { reads = λ x y r s p q e. u.reads x y r s p q (cons_tail e) }
 
 unique_hint : Unique Any hint_bytes
 unique_hint =

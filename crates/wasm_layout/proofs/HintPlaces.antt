@@ -19,16 +19,16 @@ use Rattle.wasm_layout.specs.IsModule.{IsHint, AreHints}
 use Rattle.wasm_layout.specs.Laws.{bodies_bytes, HintPlaces}
 
 -- what stands before a section that is there, and the gaps from it on
-record Split (xs : List Section) (s : Section) (ys : List Section) (gs : List (List Custom)) : Type 0 where
-  front : List Piece
-  gaps : List (List Custom)
-  is : weave (xs ++ (s ∷ ys)) gs ≡ front ++ (Known s ∷ weave ys gaps)
+pub record Split (xs : List Section) (s : Section) (ys : List Section) (gs : List (List Custom)) : Type 0 where
+  pub front : List Piece
+  pub gaps : List (List Custom)
+  pub is : weave (xs ++ (s ∷ ys)) gs ≡ front ++ (Known s ∷ weave ys gaps)
 
 no_gaps : (ys : List Section) → weave ys [] ≡ map Known ys
 no_gaps [] = refl
 no_gaps (y ∷ ys) = refl
 
-split : (xs : List Section) (s : Section) (ys : List Section) (gs : List (List Custom)) → Split xs s ys gs
+pub split : (xs : List Section) (s : Section) (ys : List Section) (gs : List (List Custom)) → Split xs s ys gs
 split [] s ys [] = record { front = []; gaps = []; is = ap (λ v. Known s ∷ v) (sym (no_gaps ys)) }
 split [] s ys (g ∷ gs) = record { front = map Free g; gaps = gs; is = refl }
 split (x ∷ xs) s ys [] = let r = split xs s ys [] in record { front = Known x ∷ r.front; gaps = r.gaps; is = ap (λ v. Known x ∷ v) (sym (no_gaps (xs ++ (s ∷ ys))) ∙ r.is) }

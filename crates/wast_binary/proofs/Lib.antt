@@ -2,7 +2,6 @@ mod Absent
 mod AtKind
 mod Called
 mod CountPut
-mod Counts
 mod DataCount
 mod Few
 mod FewNames

@@ -27,7 +27,7 @@ use Rattle.wast_section_items.specs.Sound.{TypeSound, BodySound}
 use Rattle.wast_custom_sections.proofs.Sizes.{uleb_some, counted_size}
 use Rattle.wast_binary.specs.Parts.{module_of, pieces_of, RunsFit, KindSound}
 use Rattle.wast_binary.specs.Puts.{Puts, PutsList}
-use Rattle.wast_binary.proofs.Counts.{counted_count}
+use Rattle.wast_custom_sections.proofs.Counts.{counted_count}
 use Rattle.wast_binary.proofs.SectionSizes.{list_fits, entry_some, entry_fits, imports_some, imports_fit, export_some, export_fits, table_item_some, table_item_fits, global_item_some, global_item_fits, element_some, element_fits, data_some, data_fits, code_some, codes_fit}
 use Rattle.wast_binary.proofs.PutLists.{as_pieces}
 

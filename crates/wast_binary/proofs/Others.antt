@@ -1,10 +1,10 @@
 -- What is no list, as pieces of a module: custom sections, the start function, the count of data segments, branch hints and names.
-use Rattle.std.proofs.Common.{◌≡◌, ℕ, zero, suc, ◌<◌, Bool, true, false, not, ◌&&◌, ◌||◌, List, [], ◌∷◌, ◌++◌, map, length, replicate, codes, All, Option, Some, None, Result, Ok, Err, refl, sym, ap, ◌∙◌, arith, subst, append-nil}
+use Rattle.std.proofs.Common.{◌≡◌, ℕ, zero, suc, Bool, true, false, not, ◌&&◌, ◌||◌, List, [], ◌∷◌, ◌++◌, map, length, replicate, codes, All, Option, Some, None, Result, Ok, Err, refl, sym, ap, ◌∙◌, arith, subst, append-nil}
 use Rattle.std.specs.Prelude.{is_some, slice_get, OnOk, IsErrOf}
 use Rattle.std.specs.List.{flat_map, sum_by, AllByRecursion, list_any}
 use Rattle.std.specs.Option.{option_flatten}
 use Rattle.std.proofs.lemmas.Bool.{false≢true}
-use Rattle.std.proofs.lemmas.List.{length-append, take_all, length-map}
+use Rattle.std.proofs.lemmas.List.{length-append, take_all}
 use Rattle.std.proofs.lemmas.List.Elements.{All-nil, All-cons}
 use Rattle.wasm_encoder_base.specs.Bytes.{counted, sized, optional}
 use Rattle.wasm_encoder_base.specs.EncodeError.{EncodeError}
@@ -26,8 +26,8 @@ use Rattle.wast_grammar.specs.Spelling.{same_name}
 use Rattle.wast_parser.specs.Identifiers.{Named}
 use Rattle.wast_customs.specs.CustomTree.{CustomPlace}
 use Rattle.wast_module_fields.specs.FieldTree.{Field}
-use Rattle.wasm_layout.specs.AbstractModule.{Function, FunctionHints, Naming, InnerNaming, NameMaps, AbstractModule}
-use Rattle.wasm_layout.specs.IsModule.{IsU32, IfThere, Rise, IsMap, IsInner, AreNames}
+use Rattle.wasm_layout.specs.AbstractModule.{Function, FunctionHints, NameMaps, AbstractModule}
+use Rattle.wasm_layout.specs.IsModule.{IsU32, IfThere, Rise, AreNames}
 use Rattle.wasm_layout.specs.Layout.{Piece, Known, Free, piece_bytes, if_there, section, functions_in, function_at, placed_hints, name_bytes}
 use Rattle.wasm_layout.specs.Lays.{Fits}
 use Rattle.wasm_layout.specs.Present.{has_any, has_names, is_called, is_present}
@@ -35,9 +35,10 @@ use Rattle.wasm_layout.specs.Section.{Starts, DataCount, Hints, Codes, Datas, Na
 use Rattle.wast_meant.specs.CustomsMeant.{custom_of, customs_in, At, Of}
 use Rattle.wast_meant.specs.FieldsMeant.{datas_of}
 use Rattle.wast_meant.specs.NamesMeant.{given_name}
-use Rattle.wast_meant.specs.Binary.{bytes_of, naming_with, inner_with, maps_with}
+use Rattle.wast_meant.specs.Binary.{bytes_of}
 use Rattle.wast_meaning.specs.Made.{is_made}
 use Rattle.wast_meant.specs.Meaning.{without_customs}
+use Rattle.wast_meant.proofs.Renamed.{named}
 use Rattle.wast_meant_laws.proofs.AtStops.{in_one_gap}
 use Rattle.wast_meant_laws.proofs.Gaps.{called_same}
 use Rattle.wast_encode_laws.proofs.Hints.{hint_functions}
@@ -148,29 +149,6 @@ module _ (m : AbstractModule (List ℕ)) (names : NameMaps (List ℕ)) (are : Ar
   names_puts false true (Err error) e put size large = record { put = tt; sizes = tt; sound = tt; too_large = λ t whole sizes. large t are sizes.0 }
   names_puts false false r e put size large = absurd (false≢true (sym e))
 
--- maps with other names have the same indices
-module _ {A B : Type 0} (f : A → B) where
-  same_indices : (ns : List (Naming A)) → map (λ n. n.index) (map (naming_with f) ns) ≡ map (λ n. n.index) ns
-  same_indices [] = refl
-  same_indices (n ∷ ns) = ap (λ v. n.index ∷ v) (same_indices ns)
-
-  same_inner : (ns : List (InnerNaming A)) → map (λ n. n.index) (map (inner_with f) ns) ≡ map (λ n. n.index) ns
-  same_inner [] = refl
-  same_inner (n ∷ ns) = ap (λ v. n.index ∷ v) (same_inner ns)
-
-  map_is : (ns : List (Naming A)) → IsMap ns → IsMap (map (naming_with f) ns)
-  map_is ns h = subst (Rise 0) (sym (same_indices ns)) h
-
-  each_inner : (ns : List (InnerNaming A)) → AllByRecursion IsInner ns → AllByRecursion IsInner (map (inner_with f) ns)
-  each_inner [] h = tt
-  each_inner (n ∷ ns) h = (record { is_some = subst (λ k. 0 < k) (sym (length-map n.names (naming_with f))) h.0.is_some; is_map = map_is n.names h.0.is_map }, each_inner ns h.1)
-
-  with_names : (names : NameMaps A) → AreNames names → AreNames (maps_with f names)
-  with_names names h = record {
-    items = λ space. map_is (names.items space) (h.items space);
-    inner = λ space. record { indices = subst (Rise 0) (sym (same_inner (names.inner space))) (h.inner space).indices; each = each_inner (names.inner space) (h.inner space).each };
-  }
-
 -- OF A MODULE of resolved fields
 module _ (given : Option (List ℕ)) (id : Option (Named Name ℕ)) (fs : List (Field Name ℕ)) where
   abbrev that : AbstractModule (List ℕ)
@@ -228,7 +206,7 @@ module _ (given : Option (List ℕ)) (id : Option (Named Name ℕ)) (fs : List (
 
       -- names
       names_are : AreNames (maps_in given id fs)
-      names_are = with_names bytes_of _ (are_names same_name is_made fs (given_name is_made given id) (names_fit same_name is_made fs few can.settled))
+      names_are = named bytes_of _ (are_names same_name is_made fs (given_name is_made given id) (names_fit same_name is_made fs few can.settled))
 
       same_called : is_called (codes "name") that.customs ≡ is_called (codes "name") (map custom_of (flat_map customs_in fs) ∷ [])
       same_called = called_same (codes "name") (flat_map customs_in fs) (is_present (in_one_gap (flat_map customs_in fs) (without_customs same_name is_made (given_name is_made given id) fs)))

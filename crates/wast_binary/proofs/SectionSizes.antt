@@ -16,7 +16,7 @@ use Rattle.wasm_encoder_sections.specs.Codes.{function_item}
 use Rattle.wasm_layout.specs.AbstractModule as abstract
 use Rattle.wast_section_items.specs.Fits.{Counted, CompositeFits, EntryFits, ImportsFit, ExportFits, ExprFits, TableFits, GlobalFits, ElementFits, DataFits, BodyFits}
 use Rattle.wast_custom_sections.proofs.Sizes.{uleb_some, sized_size, cons_size, counted_size}
-use Rattle.wast_binary.proofs.Counts.{reference_some, val_some, counted_count, instr_fits}
+use Rattle.wast_custom_sections.proofs.Counts.{reference_some, val_some, counted_count, instr_fits}
 
 -- LISTS
 module _ {A : Type 0} (f : A → List ℕ) (Fits : A → Type 0) (each : (x : A) → length (f x) < 2 ^ 32 → Fits x) where

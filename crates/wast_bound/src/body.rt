@@ -6,10 +6,9 @@ ghost use Rattle.wast_value_types.specs.ValueViews.{val_tree};
 ghost use Rattle.wast_signatures.specs.SignatureViews.{use_tree};
 ghost use Rattle.wast_core_instr.specs.ExpressionViews.{expression_tree};
 ghost use Rattle.wast_core_instr.specs.InstructionViews.{instruction_tree};
-ghost use Rattle.wast_fields.specs.FuncViews.{local_tree};
+ghost use Rattle.wast_fields.specs.FuncViews.{function_tree, local_tree};
 ghost use Rattle.wast_meaning.specs.Demands.{func_demands, instrs_demands, mention_demands, use_demands};
 ghost use Rattle.wast_meaning.specs.Mentions.{instr_mentions, local_mentions, val_mentions};
-ghost use Rattle.wast_parts.specs.Views.{function_tree};
 ghost use Rattle.wast_bound.specs.Bound.{are_kept};
 ghost use Rattle.wast_bound.specs.Places.{among};
 

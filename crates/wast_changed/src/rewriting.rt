@@ -3,7 +3,8 @@ ghost use Rattle.std.specs.Prelude.{◌≡◌, ℕ, OnOk};
 ghost use Rattle.wast_grammar.specs.Tokens.{Name};
 ghost use Rattle.wast_core_instr.specs.ExpressionViews.{expression_tree};
 ghost use Rattle.wast_fields.specs.FieldTree as spec;
-ghost use Rattle.wast_changed.specs.Rewritten.{ByPlace, expr_changed, function_of};
+ghost use Rattle.wast_fields.specs.FuncViews.{function_tree};
+ghost use Rattle.wast_changed.specs.Rewritten.{ByPlace, expr_changed};
 
 use crate::changing::Changing;
 use std::alloc::{AllocError, Global};
@@ -31,5 +32,5 @@ pub trait Rewriting<'a>: Changing<'a> {
         locals: &[Local<'a>],
         body: &mut Expression<'a>,
     ) -> Result<(), AllocError>
-        ensures { OnOk result (expression_tree body.new ≡ expr_changed (in_function self.now (function_of ty.now locals.now body.old)) (expression_tree body.old)) };
+        ensures { OnOk result (expression_tree body.new ≡ expr_changed (in_function self.now (function_tree ty.now locals.now body.old)) (expression_tree body.old)) };
 }

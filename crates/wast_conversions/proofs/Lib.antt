@@ -4,5 +4,6 @@ pub mod Empty
 mod Expressions
 pub mod Logarithms
 mod Opcodes
+mod Refused
 mod Signatures
 pub mod Trees

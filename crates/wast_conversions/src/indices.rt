@@ -21,7 +21,7 @@ pub fn index(index: &Index<'_>) -> u32
 }
 
 /// The number of an index that may be left out, and is 0 then.
-pub(crate) fn optional_index(written: &Option<Index<'_>>) -> u32
+pub fn optional_index(written: &Option<Index<'_>>) -> u32
     requires { IfThere IsNumber (option_map index_tree written.now) }
     ensures same { result ≡ optional_meant (option_map index_tree written.now) }
     ensures sound { IsU32 (optional_meant (option_map index_tree written.now)) }

@@ -3,8 +3,8 @@
 //! Each function takes a tree that is resolved, in which each index is a number and each use of a type has its index, and that is
 //! covered, in which no form stands that has no bytes here. It answers the encoder's value, or the number, that the tree stands for:
 //! [`val_type`] the type of values of `(ref null 3)`, [`table_arg`] 0 where no table is written, [`instruction`] `i32.const -1` of
-//! `i32.const 0xffffffff`. What makes lists takes an allocator, and is refused only for want of memory, but for [`const_expr`]: it writes
-//! the instructions, and refuses a count in them past 4294967295 too.
+//! `i32.const 0xffffffff`. What makes lists takes an allocator, and is refused only for want of memory, but for [`const_expr`] and
+//! [`push_instruction`]: they write instructions, and refuse a count in them past 4294967295 too.
 //!
 //! An alignment becomes its logarithm. It can be encoded where it is a power of two below 65536.
 //!
@@ -26,6 +26,7 @@
 //! stands for.
 #![tactic(auto)]
 
+mod body;
 mod bulk;
 mod expression;
 mod gc;
@@ -36,8 +37,9 @@ mod operands;
 mod types;
 mod vector_arg;
 
+pub use body::{push_encoded, push_instruction};
 pub use expression::const_expr;
-pub use indices::index;
+pub use indices::{index, optional_index};
 pub use instructions::instruction;
 pub use items::{entity_type, export_kind, global_type, memory_type, table_type};
 pub use operands::{
@@ -46,5 +48,5 @@ pub use operands::{
 };
 pub use types::{
     array_type, field_type, func_type, heap_type, ref_type, storage_type, struct_type, sub_type,
-    val_type,
+    type_index, val_type,
 };

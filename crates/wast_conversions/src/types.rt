@@ -284,8 +284,8 @@ fn supertype(parent: &Option<Index<'_>>) -> Option<u32>
     }
 }
 
-/// The number of the type of a use (6.6.3).
-pub(crate) fn type_index(ty: &TypeUse<'_, FunctionType<'_>>) -> u32
+/// The number of the type of a use (6.6.3), which is no name.
+pub fn type_index(ty: &TypeUse<'_, FunctionType<'_>>) -> u32
     requires { UseResolved (use_tree ty.now) }
     ensures same { result ≡ use_meant (use_tree ty.now) }
     ensures sound { IsU32 (use_meant (use_tree ty.now)) }

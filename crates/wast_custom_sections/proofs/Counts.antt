@@ -1,12 +1,9 @@
 -- An instruction of fewer than 2^32 bytes has counts that are less.
-use Rattle.std.proofs.Common.{ℕ, ◌≡◌, ◌<◌, ◌≤◌, ◌^◌, Bool, true, false, List, length, subst, arith, flat_map, length-append, Result}
+use Rattle.std.proofs.Common.{ℕ, ◌<◌, ◌≤◌, ◌^◌, Bool, true, false, List, length, arith, flat_map, length-append}
 use Rattle.wasm_encoder_base.specs.Bytes.{counted}
 use Rattle.wasm_encoder_base.specs.Leb.{uleb}
 use Rattle.wasm_encoder_base.specs.Types.{HeapType, Abstract, Concrete, reference_bytes, ValType, I32Type, I64Type, F32Type, F64Type, V128Type, Reference, val_bytes}
 use Rattle.wasm_encoder_base.specs.Instr.{Instr, Operands, NoOperands, Index, Pair, Indirect, Init, LabelTable, Block, TryTable, Heap, Cast, ValTypes, I32, I64, F32, F64, V128, Lane, Shuffle, Memory, MemoryLane, Fence, Catch, CatchTag, CatchTagRef, CatchAll, CatchAllRef, block_bytes, catch_bytes, operand_bytes, instr_bytes, counts_fit}
-use Rattle.wasm_encoder_base.specs.Encodes.{Encodes}
-use Rattle.wasm_encoder_base.specs.EncodeError.{EncodeError}
-use Rattle.wasm_encoder_instr.specs.Instruction.{instr_view}
 use Rattle.wasm_encoder_instr.specs.declared.instruction.Instruction.{Instruction}
 use Rattle.wast_core_instr.specs.InstructionViews.{instruction_tree}
 use Rattle.wast_core_instr.specs.declared.instruction.Instruction as tree
@@ -14,12 +11,12 @@ use Rattle.wast_conversions.specs.Instructions.{instr_meant}
 use Rattle.wast_conversions.specs.Rows.{bytes_meant, FitsMeant}
 use Rattle.wast_custom_sections.proofs.Sizes.{uleb_some, count_size}
 
-reference_some : (nullable : Bool) (h : HeapType) → 1 ≤ length (reference_bytes nullable h)
+pub reference_some : (nullable : Bool) (h : HeapType) → 1 ≤ length (reference_bytes nullable h)
 reference_some true (Abstract a) = omega arith
 reference_some true (Concrete n) = omega arith
 reference_some false h = omega arith
 
-val_some : (t : ValType) → 1 ≤ length (val_bytes t)
+pub val_some : (t : ValType) → 1 ≤ length (val_bytes t)
 val_some I32Type = omega arith
 val_some I64Type = omega arith
 val_some F32Type = omega arith
@@ -33,7 +30,7 @@ catch_some (CatchTagRef tag label) = omega arith
 catch_some (CatchAll label) = omega arith
 catch_some (CatchAllRef label) = omega arith
 
-counted_count : {A : Type 0} (f : A → List ℕ) → ((x : A) → 1 ≤ length (f x)) → (xs : List A) → length xs ≤ length (counted f xs)
+pub counted_count : {A : Type 0} (f : A → List ℕ) → ((x : A) → 1 ≤ length (f x)) → (xs : List A) → length xs ≤ length (counted f xs)
 counted_count f one xs = omega (arith, count_size f one xs, length-append (uleb (length xs)) (flat_map f xs))
 
 operands_fit : (o : Operands) → length (operand_bytes o) < 2 ^ 32 → counts_fit o
@@ -61,12 +58,6 @@ operands_fit Fence h = tt
 
 pub instr_fits : (i : Instr) → length (instr_bytes i) < 2 ^ 32 → counts_fit i.operands
 instr_fits i h = let less : length (operand_bytes i.operands) < 2 ^ 32 = omega (arith, length-append i.opcode (operand_bytes i.operands)) in operands_fit i.operands less
-
--- the instruction that is meant
-pub encodes_meant : (i : tree.Instruction) (j : Instruction) (before after : List ℕ) (r : Result (Unit {0}) EncodeError) → instr_view j ≡ instr_meant (instruction_tree i)
-    → Encodes (instr_bytes (instr_view j)) (counts_fit (instr_view j).operands) before after r → Encodes (bytes_meant i) (FitsMeant i) before after r
-unfolding bytes_meant FitsMeant
-encodes_meant i j before after r e h = let P : Instr → Type 0 = λ k. Encodes (instr_bytes k) (counts_fit k.operands) before after r in subst P e h
 
 pub meant_fits : (i : tree.Instruction) → length (bytes_meant i) < 2 ^ 32 → FitsMeant i
 unfolding bytes_meant FitsMeant

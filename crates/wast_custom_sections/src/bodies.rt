@@ -1,13 +1,10 @@
 //! Where the instructions of a function's body begin, and the branch hints there (branch hinting).
 ghost use Rattle.std.specs.Prelude.{◌≡◌, ◌+◌, ◌<◌, ◌^◌, ◌++◌, [], ◌∷◌, length, map, take, All, IfOk, OnOk, IsErrOf};
 ghost use Rattle.std.specs.List.{flat_map, range_with_len};
-ghost use Rattle.wasm_encoder_base.specs.Encodes.{Encodes};
-ghost use Rattle.wasm_encoder_base.specs.Instr.{instr_bytes};
 ghost use Rattle.wasm_encoder_base.specs.Views.{val_view};
 ghost use Rattle.wasm_encoder_code.specs.Body.{locals_bytes};
 ghost use Rattle.wasm_encoder_code.specs.Locals.{LocalsFit};
 ghost use Rattle.wasm_encoder_code.specs.Sink.{IsMade};
-ghost use Rattle.wasm_encoder_instr.specs.Instruction.{instr_view, can_encode_instr, fits_instr};
 ghost use Rattle.wast_module_fields.specs.FuncViews.{local_tree};
 ghost use Rattle.wast_expressions.specs.Partial.{hint_tree};
 ghost use Rattle.wast_core_instr.specs.InstructionViews.{instruction_operands, instruction_tree};
@@ -16,7 +13,7 @@ ghost use Rattle.wast_conversions.specs.Types.{val_meant};
 ghost use Rattle.wast_conversions.specs.Operands.{OperandsAligned};
 ghost use Rattle.wast_conversions.specs.Resolved.{ValResolved, InstrResolved, InstrsResolved};
 ghost use Rattle.wast_conversions.specs.Covered.{val_forms, instr_forms, instrs_forms};
-ghost use Rattle.wast_conversions.specs.Rows.{bytes_meant, FitsMeant};
+ghost use Rattle.wast_conversions.specs.Rows.{bytes_meant};
 ghost use Rattle.wast_custom_sections.specs.Hints.{PlacesFit, BodyReady};
 ghost use Rattle.wast_custom_sections.specs.Hinted.{places_of, placed_at, among, body_meant};
 
@@ -25,7 +22,7 @@ use std::alloc::{AllocError, Global};
 use wasm_encoder_base::{EncodeError, ValType};
 use wasm_encoder_code::Function;
 use wasm_encoder_custom::BranchHint;
-use wast_conversions::{instruction, val_type};
+use wast_conversions::{push_instruction, val_type};
 use wast_core_instr::{Expression, Instruction};
 use wast_module_fields::Local;
 
@@ -140,37 +137,8 @@ fn put_placed(
     ensures fits { OnOk result (length body.new < 2 ^ 32) }
     ensures too_large { IsErrOf result EncodeError.TooLarge → length body.old + length (bytes_meant instr.now) < 2 ^ 32 → ⊥ }
 {
-    put_instruction(alloc, instr, body)?;
+    push_instruction(alloc, instr, body)?;
     put_place(body, places)
-}
-
-/// Appends an instruction to a body.
-fn put_instruction(
-    alloc: Global,
-    instr: &Instruction<'_>,
-    body: &mut Function,
-) -> Result<(), EncodeError>
-    requires resolved { InstrResolved (instruction_tree instr.now) }
-    requires covered { instr_forms (instruction_tree instr.now) ≡ [] }
-    requires aligned { OperandsAligned (instruction_operands instr.now) }
-    ensures { Encodes (bytes_meant instr.now) (FitsMeant instr.now) body.old body.new result }
-{
-    match instruction(alloc, instr) {
-        Ok(converted) => push(body, &converted),
-        Err(_) => Err(EncodeError::Memory),
-    }
-}
-
-/// Appends an instruction of the encoder.
-fn push(
-    body: &mut Function,
-    instruction: &wasm_encoder_code::Instruction<'_>,
-) -> Result<(), EncodeError>
-    requires { can_encode_instr instruction.now }
-    ensures { Encodes (instr_bytes (instr_view instruction.now)) (fits_instr instruction.now) body.old body.new result }
-{
-    body.instruction(instruction)?;
-    Ok(())
 }
 
 /// Appends to places where a body ends.

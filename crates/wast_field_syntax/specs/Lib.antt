@@ -20,6 +20,7 @@ pub use Rattle.wast_parser.specs.State
 pub use Rattle.wast_exports.specs.ExportViews
 pub use Rattle.wast_exports.specs.Exports
 pub use Rattle.wast_core_instr.specs.ExpressionViews
+pub use Rattle.wast_core_instr.specs.declared.expression.Expression
 pub use Rattle.wast_parser.specs.Look
 pub use Rattle.wast_data.specs.DataViews
 pub use Rattle.wast_signatures.specs.SignatureViews

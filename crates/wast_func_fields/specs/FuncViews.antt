@@ -1,5 +1,5 @@
 -- What the grammar sees of the code's functions, globals and tags.
-use Rattle.std.specs.Prelude.{ℕ, Bool, true, false, map, option_map}
+use Rattle.std.specs.Prelude.{ℕ, Bool, true, false, List, map, option_map}
 use Rattle.wast_field_syntax.specs.Tokens.{Name}
 use Rattle.wast_field_syntax.specs.Identifiers.{identifier_tree}
 use Rattle.wast_value_types.specs.ValueViews.{val_tree, global_tree}
@@ -8,6 +8,7 @@ use Rattle.wast_signatures.specs.TypeTree as types
 use Rattle.wast_signatures.specs.SignatureViews.{name_tree, use_tree}
 use Rattle.wast_signatures.specs.declared.signature.FunctionType.{FunctionType}
 use Rattle.wast_signatures.specs.declared.type_use.TypeUse.{TypeUse}
+use Rattle.wast_field_syntax.specs.Expression.{Expression}
 use Rattle.wast_field_syntax.specs.ExpressionViews.{expression_tree}
 use Rattle.wast_field_syntax.specs.ExportViews.{inline_export_tree}
 use Rattle.wast_imports.specs.ImportTree.{ExternType, OfFunc, OfExactFunc, OfGlobal, OfTag}
@@ -48,9 +49,13 @@ abbrev pub func_type_tree : Bool → TypeUse FunctionType → ExternType Name �
 func_type_tree true ty = OfExactFunc (use_tree ty)
 func_type_tree false ty = OfFunc (use_tree ty)
 
+-- the function of these parts
+abbrev pub function_tree : TypeUse FunctionType → List Local → Expression → spec.Function Name ℕ
+function_tree ty locals body = record { type_use = use_tree ty; locals = map local_tree locals; body = expression_tree body }
+
 abbrev pub defined_func : FuncKind → TypeUse FunctionType → spec.Defined Name ℕ
 defined_func (funcs.Import i is_exact) ty = imported i (func_type_tree is_exact ty)
-defined_func (funcs.Inline locals body) ty = spec.Func (record { type_use = use_tree ty; locals = map local_tree locals.items; body = expression_tree body })
+defined_func (funcs.Inline locals body) ty = spec.Func (function_tree ty locals.items body)
 
 abbrev pub func_definition : Func → spec.Definition Name ℕ
 func_definition f = record { place = f.span; id = option_map identifier_tree f.id; given = option_map name_tree f.name; exports = inline_export_tree f.exports; defined = defined_func f.kind f.ty }

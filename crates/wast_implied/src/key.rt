@@ -133,7 +133,7 @@ fn key_of_index<'a>(alloc: Global, index: &Index<'a>) -> Result<IndexKey<'a>, Al
 }
 
 /// The byte of an abstract heap type in a binary (5.3.3), or a number below those where it is of a proposal.
-fn word_code(ty: AbstractHeapType) -> u8
+pub fn word_code(ty: AbstractHeapType) -> u8
     ensures { result ≡ word_code (heap_word ty) }
 {
     match ty {

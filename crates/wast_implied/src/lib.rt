@@ -8,7 +8,7 @@
 //!
 //! [`Implied::of`] gathers the types of a module's fields; [`Implied::types`] are those to add, in order, each at the place of the field
 //! that uses it first; [`Implied::number_of`] tells which type a use takes. Fields are only borrowed. Signatures are kept in order, so
-//! that n of them cost n log n whatever they are.
+//! that n of them cost n log n whatever they are. [`word_code`] is what an abstract heap type is there.
 //!
 //! # What has to be believed
 //!
@@ -27,3 +27,4 @@ mod key;
 mod uses;
 
 pub use gathered::{Implied, ImpliedType};
+pub use key::word_code;

@@ -4,7 +4,7 @@ use Rattle.std.specs.List.{AllByRecursion, list_any}
 use Rattle.wasm_layout.specs.Section.{SectionKind, Types, Imports, Functions, Tables, Memories, Tags, Globals, Exports, Starts, Elements, DataCount, Hints, Codes, Datas, Names, order}
 use Rattle.wasm_layout.specs.AbstractModule.{Naming, InnerNaming, NameMaps, FunctionHints, AbstractModule}
 use Rattle.wasm_layout.specs.Present.{has_any, MapKind, OfModule, OfItems, Inner, map_order, has_map, is_called, is_present}
-use Rattle.wasm_layout.specs.IsModule.{Rise, IsMap, IsInner, AreInner, AreHints, IsModule}
+use Rattle.wasm_layout.specs.IsModule.{Rise, IsMap, IsInner, AreInner, AreNames, AreHints, IsModule}
 use Rattle.wast_parser_core.proofs.WordSets.{some_map}
 use Rattle.wast_meant.specs.Binary.{naming_with, inner_with, maps_with, module_with}
 
@@ -58,6 +58,9 @@ module _ {A B : Type 0} (f : A → B) where
   inner_is : (ns : List (InnerNaming A)) → AreInner ns → AreInner (map (inner_with f) ns)
   inner_is ns h = record { indices = subst (Rise 0) (sym (same_inner ns)) h.indices; each = each_inner ns h.each }
 
+  pub named : (names : NameMaps A) → AreNames names → AreNames (maps_with f names)
+  named names h = record { items = λ space. map_is (names.items space) (h.items space); inner = λ space. inner_is (names.inner space) (h.inner space) }
+
   each_hint : (m : AbstractModule A) (gs : List FunctionHints) → AllByRecursion (AreHints m) gs → AllByRecursion (AreHints (module_with f m)) gs
   each_hint m [] h = tt
   each_hint m (g ∷ gs) h = (record { function = h.0.function; is_at = h.0.is_at; is_some = h.0.is_some; indices = h.0.indices; each = h.0.each }, each_hint m gs h.1)
@@ -75,10 +78,7 @@ module _ {A B : Type 0} (f : A → B) where
     start = h.start;
     elements = h.elements;
     datas = h.datas;
-    names = record {
-      items = λ space. map_is (m.names.items space) (h.names.items space);
-      inner = λ space. inner_is (m.names.inner space) (h.names.inner space);
-    };
+    names = named m.names h.names;
     hint_functions = h.hint_functions;
     hints = each_hint m m.hints h.hints;
     gaps = h.gaps ∙ sym (λ i. length (filter (λ k. same_sections m k i) order) + 1);

@@ -52,7 +52,8 @@ use Rattle.wast_meant.specs.NamesMeant.{naming}
 use Rattle.wast_name_maps.specs.Gathered.{name_if, bound_names, label_names, type_groups, import_groups, defined_groups, field_groups}
 use Rattle.wast_name_maps.specs.Given.{given, identified, sig_names}
 use Rattle.wast_name_maps.specs.Numbered.{Numbered, Fit, NameFits, NamesJoined, NamesJoin}
-use Rattle.wast_name_maps.proofs.Joining.{viewed, flat_of, joins_then, unfit_front}
+use Rattle.wast_spaces.proofs.Written.{viewed}
+use Rattle.wast_name_maps.proofs.Joining.{flat_of, joins_then, unfit_front}
 
 -- NAMES: one is the same as itself
 pub same_self : (xs : List ℕ) → pointwise nat_eq xs xs ≡ true

@@ -1,11 +1,11 @@
 -- What comes behind what has come.
-use Rattle.std.proofs.Common.{◌≡◌, ℕ, zero, suc, ◌+◌, ◌<◌, ◌≤◌, ◌^◌, List, [], ◌∷◌, ◌++◌, map, length, take, drop, get_or, Result, Ok, Err, refl, sym, subst, ◌∙◌, ap, arith, append_assoc, append-nil, take-append-drop, take_all, length-append}
+use Rattle.std.proofs.Common.{◌≡◌, ℕ, zero, suc, ◌+◌, ◌<◌, ◌≤◌, ◌^◌, List, [], ◌∷◌, ◌++◌, length, take, drop, get_or, Result, Ok, Err, refl, sym, subst, ◌∙◌, ap, arith, append_assoc, append-nil, take_all, length-append}
 use Rattle.std.specs.List.{flat_map, AllByRecursion}
-use Rattle.std.proofs.lemmas.List.{take_more}
 use Rattle.std.proofs.lemmas.Grind.{flat_map-append}
 use Rattle.wasm_encoder_bytes.specs.declared.error.EncodeError.{EncodeError}
 use Rattle.wasm_encoder_bytes.specs.declared.error.EncodeError.TheVariants.{TooLarge}
 use Rattle.wasm_encoder_base.specs.Lists.{with_item, HasRoom}
+use Rattle.wast_spaces.proofs.Joins.{one_more, all_of}
 use Rattle.wast_name_maps.specs.Listed.{with_items}
 use Rattle.wast_name_maps.specs.Numbered.{Numbered, none_yet, entries, behind, Fit, Joined, Joins}
 
@@ -154,21 +154,11 @@ module _ {A B : Type 0} {one : ℕ → A → List B} {spell : B → List ℕ} {C
 
 -- LOOPS over what brings some, element by element
 module _ {X A : Type 0} (view : X → List A) where
-  one_more : (xs : List X) (i : ℕ) (x : X) → i < length xs → x ≡ get_or xs i x → flat_map view (take (i + 1) xs) ≡ flat_map view (take i xs) ++ view x
-  one_more xs i x h e =
-      ap (flat_map view) (take_more xs i x h ∙ ap (λ y. take i xs ++ y ∷ []) (sym e)) ∙ flat_map-append view (take i xs) (x ∷ [])
-      ∙ ap (λ l. flat_map view (take i xs) ++ l) (append-nil (view x))
-
-  all_of : (xs : List X) (i : ℕ) (x : X) → i < length xs → x ≡ get_or xs i x → flat_map view xs ≡ (flat_map view (take i xs) ++ view x) ++ flat_map view (drop (i + 1) xs)
-  all_of xs i x h e =
-      ap (flat_map view) (sym (take-append-drop (i + 1) xs)) ∙ flat_map-append view (take (i + 1) xs) (drop (i + 1) xs)
-      ∙ ap (λ l. l ++ flat_map view (drop (i + 1) xs)) (one_more xs i x h e)
-
   module _ {B : Type 0} {one : ℕ → A → List B} {spell : B → List ℕ} {CanBe : B → Type 0} where
     pub joined_more : (old mid new : Numbered) (xs : List X) (i : ℕ) (x : X) → i < length xs → x ≡ get_or xs i x → Joined one spell CanBe old mid (flat_map view (take i xs))
         → Joined one spell CanBe mid new (view x) → Joined one spell CanBe old new (flat_map view (take (i + 1) xs))
     joined_more old mid new xs i x h e first more =
-        subst (Joined one spell CanBe old new) (sym (one_more xs i x h e)) (joined_then old mid new (flat_map view (take i xs)) (view x) first more)
+        subst (Joined one spell CanBe old new) (sym (one_more view xs i x h e)) (joined_then old mid new (flat_map view (take i xs)) (view x) first more)
 
     pub joined_all : (old new : Numbered) (xs : List X) (i : ℕ) (ys : List A) → length xs ≤ i → flat_map view xs ≡ ys → Joined one spell CanBe old new (flat_map view (take i xs)) → Joined one spell CanBe old new ys
     joined_all old new xs i ys h same j = subst (Joined one spell CanBe old new) (ap (flat_map view) (take_all i xs h) ∙ same) j
@@ -176,18 +166,10 @@ module _ {X A : Type 0} (view : X → List A) where
     pub unfit_at : (old mid : Numbered) (xs : List X) (i : ℕ) (x : X) (ys : List A) (e : EncodeError) → i < length xs → x ≡ get_or xs i x → flat_map view xs ≡ ys
         → Joined one spell CanBe old mid (flat_map view (take i xs)) → (e ≡ TooLarge → ¬ Fit one CanBe mid (view x)) → e ≡ TooLarge → ¬ Fit one CanBe old ys
     unfit_at old mid xs i x ys e h is same first unfit =
-        subst (λ l. e ≡ TooLarge → ¬ Fit one CanBe old l) (sym (all_of xs i x h is) ∙ same)
+        subst (λ l. e ≡ TooLarge → ¬ Fit one CanBe old l) (sym (all_of view xs i x h is) ∙ same)
         (unfit_front old (flat_map view (take i xs) ++ view x) (flat_map view (drop (i + 1) xs)) e (unfit_then old mid (flat_map view (take i xs)) (view x) e first unfit))
 
 -- LISTS of which each element brings some
-pub viewed : {A B C : Type 0} (view : A → B) (of : B → List C) (xs : List A) → flat_map (λ x. of (view x)) xs ≡ flat_map of (map view xs)
-viewed view of [] = refl
-viewed view of (x ∷ xs) = ap (λ l. of (view x) ++ l) (viewed view of xs)
-
-pub each_one : {A B C : Type 0} (view : A → B) (of : B → C) (xs : List A) → flat_map (λ x. of (view x) ∷ []) xs ≡ map of (map view xs)
-each_one view of [] = refl
-each_one view of (x ∷ xs) = ap (λ l. of (view x) ∷ l) (each_one view of xs)
-
 pub flat_of : {A B C : Type 0} (g : B → List C) (f : A → List B) (xs : List A) → flat_map (λ x. flat_map g (f x)) xs ≡ flat_map g (flat_map f xs)
 flat_of g f [] = refl
 flat_of g f (x ∷ xs) = ap (λ v. flat_map g (f x) ++ v) (flat_of g f xs) ∙ sym (flat_map-append g (f x) (flat_map f xs))

@@ -31,7 +31,8 @@ use Rattle.wast_meant.specs.NamesMeant.{naming, named_from, named, inner_naming,
 use Rattle.wast_meant.specs.NamesMeant as meant
 use Rattle.wast_name_maps.specs.Gathered.{name_if, bound_names, opened_name, label_names, type_groups, function_groups, nameless_groups, tag_groups, import_groups, defined_groups, field_groups}
 use Rattle.wast_name_maps.specs.Given.{given, identified, local_names, sig_names}
-use Rattle.wast_name_maps.specs.Locals.{inner_count, param_count, params_by, locals_by}
+use Rattle.wast_spaces.specs.Params.{inner_count, param_count}
+use Rattle.wast_name_maps.specs.Locals.{params_by, locals_by}
 use Rattle.wast_name_maps.specs.Maps.{maps_in}
 
 -- MAPS with other names

@@ -1,18 +1,10 @@
 -- The names of the locals of a function, by how many parameters each type has that is written.
-use Rattle.std.specs.Prelude.{ℕ, Bool, List, [], ◌++◌, length, replicate, slice_get, Option, Some, None, unwrap_or}
+use Rattle.std.specs.Prelude.{ℕ, List, [], ◌++◌, replicate, slice_get, Option, Some, None, unwrap_or}
 use Rattle.wast_grammar.specs.Tokens.{Name}
 use Rattle.wast_parser.specs.Identifiers.{Reference, ByNumber}
-use Rattle.wast_signatures.specs.TypeTree.{InnerType, FuncType, TypeUse, TypeItem}
+use Rattle.wast_signatures.specs.TypeTree.{TypeUse}
 use Rattle.wast_module_fields.specs.FieldTree.{Function}
 use Rattle.wast_name_maps.specs.Given.{local_names}
-
--- one that is no function type has none
-abbrev pub inner_count : InnerType Name ℕ → ℕ
-inner_count (FuncType s) = length s.params
-inner_count _ = 0
-
-abbrev pub param_count : TypeItem Name ℕ × Bool → ℕ
-param_count t = inner_count t.0.definition.comp.inner
 
 -- the count of the type that an index means as a number
 abbrev pub count_by : List ℕ → Option (Reference Name ℕ) → ℕ

@@ -11,14 +11,13 @@ ghost use Rattle.wast_meaning.specs.Implied.{written_types};
 ghost use Rattle.wast_meant.specs.NamesMeant.{imported};
 ghost use Rattle.wast_name_maps.specs.Gathered.{defined_groups, field_groups, function_groups, import_groups, label_names, nameless_groups, tag_groups, type_groups};
 ghost use Rattle.wast_name_maps.specs.Kinds.{inside_view};
-ghost use Rattle.wast_name_maps.specs.Locals.{param_count};
+ghost use Rattle.wast_spaces.specs.Params.{param_count};
 ghost use Rattle.wast_name_maps.specs.Numbered.{BuildsGroups, GroupsJoin};
 
 use crate::groups::Groups;
 use crate::kinds::Inside;
 use crate::labels::names_of_labels;
 use crate::locals::names_of_locals;
-use crate::params::param_counts;
 use crate::types::{names_of_fields, names_of_params, names_of_tag_params};
 use std::alloc::Global;
 use wasm_encoder_base::EncodeError;
@@ -26,6 +25,7 @@ use wast_module_fields::{
     Expression, Func, FuncKind, FunctionType, ImportGroup1Item, ImportGroup2Item, ImportItems,
     Imports, ItemKind, ItemSig, Local, ModuleField, Tag, TagKind, TagType, TypeItem, TypeUse,
 };
+use wast_spaces::param_counts;
 
 /// The names inside of items, by the items.
 pub(crate) fn groups_of(

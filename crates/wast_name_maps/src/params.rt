@@ -1,77 +1,11 @@
-//! How many parameters types have.
-ghost use Rattle.std.specs.Prelude.{◌≡◌, [], ◌∷◌, ◌++◌, true, IfOk, OnOk, map, option_map, slice_get, unwrap_or};
-ghost use Rattle.std.specs.List.{flat_map};
+//! How many parameters the type of a function has.
+ghost use Rattle.std.specs.Prelude.{◌≡◌, option_map, slice_get, unwrap_or};
 ghost use Rattle.wast_parser.specs.Identifiers.{index_tree};
-ghost use Rattle.wast_core_types.specs.TypeViews.{inner_tree, item_tree};
-ghost use Rattle.wast_module_fields.specs.ModuleFieldViews.{field_tree};
-ghost use Rattle.wast_meaning.specs.Implied.{written_types};
-ghost use Rattle.wast_name_maps.specs.Locals.{count_by, inner_count, param_count};
+ghost use Rattle.wast_name_maps.specs.Locals.{count_by};
 
-use std::alloc::{AllocError, Global};
-use wast_core_types::InnerTypeKind;
-use wast_module_fields::{ModuleField, TypeItem};
 use wast_parser::Index;
 
-/// Those of the types that fields write, in order; one that is no function type has none. Fails only for want of memory.
-pub(crate) fn param_counts(
-    alloc: Global,
-    fields: &[ModuleField<'_>],
-) -> Result<Vec<usize>, AllocError>
-    ensures { IfOk result (λ counts. counts.items ≡ map param_count (flat_map written_types (map field_tree fields.now))) }
-{
-    let mut counts = Vec::new(alloc);
-    for field in fields {
-        match count_field(field, &mut counts) {
-            Ok(()) => {}
-            Err(e) => return Err(e),
-        }
-    }
-    Ok(counts)
-}
-
-/// Appends those of a field.
-fn count_field(field: &ModuleField<'_>, counts: &mut Vec<usize>) -> Result<(), AllocError>
-    ensures { OnOk result (counts.new.items ≡ counts.old.items ++ map param_count (written_types (field_tree field.now))) }
-{
-    match field {
-        ModuleField::TypeItem(item) => count_type(item, counts),
-        ModuleField::Rec(group) => count_types(&group.types, counts),
-        _ => Ok(()),
-    }
-}
-
-/// Appends those of types that stand in a group.
-fn count_types(items: &[TypeItem<'_>], counts: &mut Vec<usize>) -> Result<(), AllocError>
-    ensures { OnOk result (counts.new.items ≡ counts.old.items ++ map param_count (map (λ t. (t, true)) (map item_tree items.now))) }
-{
-    for item in items {
-        match count_type(item, counts) {
-            Ok(()) => {}
-            Err(e) => return Err(e),
-        }
-    }
-    Ok(())
-}
-
-/// Appends that of a type.
-fn count_type(item: &TypeItem<'_>, counts: &mut Vec<usize>) -> Result<(), AllocError>
-    ensures { OnOk result (counts.new.items ≡ counts.old.items ++ inner_count (item_tree item.now).definition.comp.inner ∷ []) }
-{
-    counts.push(params_of(&item.def.kind))?;
-    Ok(())
-}
-
-/// How many parameters a type has.
-fn params_of(kind: &InnerTypeKind<'_>) -> usize
-    ensures { result ≡ inner_count (inner_tree kind.now) }
-{
-    match kind {
-        InnerTypeKind::Func(signature) => signature.params.len(),
-        _ => 0,
-    }
-}
-
-/// How many the type has that an index means as a number, by those counts.
+/// How many the type has that an index means as a number, by the counts of all types.
 pub(crate) fn count_by(counts: &[usize], index: &Option<Index<'_>>) -> usize
     ensures { result ≡ count_by counts.now (option_map index_tree index.now) }
 {

@@ -1,6 +1,5 @@
 -- Labels, and instructions one after the other.
-use Rattle.std.proofs.Common.{◌≡◌, ℕ, List, [], ◌∷◌, ◌++◌, map, Option, None, refl, sym, ◌∙◌, ap, Result, Ok, Err}
-use Rattle.std.specs.Prelude.{IfOk, OnOk}
+use Rattle.std.proofs.Common.{◌≡◌, ℕ, List, [], ◌∷◌, ◌++◌, map, Option, None, refl, sym, ◌∙◌, ap}
 use Rattle.std.proofs.lemmas.List.{map-append}
 use Rattle.wasm_encoder_base.specs.Balanced.{Turn, Opens, Closes, Stays}
 use Rattle.wast_grammar.specs.Tokens.{Name}
@@ -119,11 +118,3 @@ module _ (s : Spaces) (locals : names.Space Name) where
       ∙ ap (λ j. instrs_changed (by_place s locals) [] (map instruction_tree xs) ++ j ∷ []) tree
       ∙ sym (ap (instrs_changed (by_place s locals) []) (map-append instruction_tree xs (x ∷ []))
       ∙ threaded_append backward (λ earlier j. instr_changed (by_place s locals earlier j) j) [] (map instruction_tree xs) (i ∷ []))
-
-pub if_weaker : {T E : Type 0} {P Q : T → Type 0} (r : Result T E) → ((x : T) → P x → Q x) → IfOk r P → IfOk r Q
-if_weaker (Ok x) f h = f x h
-if_weaker (Err e) f h = h
-
-pub on_always : {T E A : Type 0} (r : Result T E) → A → OnOk r A
-on_always (Ok x) a = a
-on_always (Err e) a = tt

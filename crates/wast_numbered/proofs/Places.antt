@@ -1,5 +1,5 @@
 -- The index spaces of a module where locals and labels are known too.
-use Rattle.std.proofs.Common.{◌≡◌, ◌⊎◌, inl, inr, refl, sym, subst}
+use Rattle.std.proofs.Common.{◌≡◌, ◌⊎◌, refl}
 use Rattle.wast_grammar.specs.Tokens.{Name}
 use Rattle.wast_names.specs.Space as names
 use Rattle.wast_meaning.specs.Scope.{labels_or, locals_or}
@@ -8,15 +8,7 @@ use Rattle.wast_meaning.specs.declared.space.Space.{Space}
 use Rattle.wast_meaning.specs.declared.space.Space.TheVariants as spaces
 use Rattle.wast_spaces.specs.Views.{spaces_of}
 use Rattle.wast_spaces.specs.declared.spaces.Spaces.{Spaces}
-
--- the spaces that stand in one arm
-module _ {X : Type 0} (P : X → Type 0) where
-  one : (x a : X) → P a → x ≡ a → P x
-  one x a h e = subst P (sym e) h
-
-  either : {Q : Type 0} (x a : X) → P a → (Q → P x) → (x ≡ a) ⊎ Q → P x
-  either x a h others (inl e) = one x a h e
-  either x a h others (inr q) = others q
+use Rattle.wast_scopes.proofs.Either.{one, either}
 
 abbrev IsOfModule : Space → Type 0
 IsOfModule k =

@@ -1,17 +1,13 @@
 //! How many parameters types have.
-ghost use Rattle.std.specs.Prelude.{◌≡◌, [], ◌∷◌, ◌++◌, false, true, IfOk, OnOk, map, length};
-ghost use Rattle.std.specs.List.{flat_map};
-ghost use Rattle.wast_core_types.specs.TypeViews.{inner_tree, item_tree};
+ghost use Rattle.std.specs.Prelude.{◌≡◌, [], ◌∷◌, ◌++◌, IfOk, OnOk, map};
 ghost use Rattle.wast_module_fields.specs.ModuleFieldViews.{field_tree};
-ghost use Rattle.wast_meaning.specs.Implied.{written_types};
 ghost use Rattle.wast_implied.specs.Views.{implied_tree, known};
 ghost use Rattle.wast_numbered.specs.Params as spec;
-ghost use Rattle.wast_numbered.specs.Params.{implied_count, inner_count, param_count};
+ghost use Rattle.wast_numbered.specs.Params.{implied_count};
 
 use std::alloc::{AllocError, Global};
-use wast_core_types::InnerTypeKind;
 use wast_implied::{Implied, ImpliedType};
-use wast_module_fields::{ModuleField, TypeItem};
+use wast_module_fields::ModuleField;
 
 /// Those of the types of fields by their numbers: of those that are written, and then of those that uses imply, which are at hand; one that
 /// is no function type has none. Fails only for want of memory.
@@ -22,22 +18,8 @@ pub fn param_counts<'a>(
 ) -> Result<Vec<usize>, AllocError>
     ensures { IfOk result (λ counts. counts.items ≡ spec.param_counts (map field_tree fields.now) (known implied.now).implied) }
 {
-    let mut counts = written_counts(alloc, fields)?;
+    let mut counts = wast_spaces::param_counts(alloc, fields)?;
     count_signatures(implied.types(), &mut counts)?;
-    Ok(counts)
-}
-
-/// Those of the types that fields write, in order. Fails only for want of memory.
-fn written_counts<'a>(alloc: Global, fields: &[ModuleField<'a>]) -> Result<Vec<usize>, AllocError>
-    ensures { IfOk result (λ counts. counts.items ≡ map param_count (flat_map written_types (map field_tree fields.now))) }
-{
-    let mut counts = Vec::new(alloc);
-    for field in fields {
-        match count_field(field, &mut counts) {
-            Ok(()) => {}
-            Err(e) => return Err(e),
-        }
-    }
     Ok(counts)
 }
 
@@ -60,46 +42,4 @@ fn count_signature(ty: &ImpliedType<'_>, counts: &mut Vec<usize>) -> Result<(), 
 {
     counts.push(ty.signature.params.len())?;
     Ok(())
-}
-
-/// Appends those of a field.
-fn count_field(field: &ModuleField<'_>, counts: &mut Vec<usize>) -> Result<(), AllocError>
-    ensures { OnOk result (counts.new.items ≡ counts.old.items ++ map param_count (written_types (field_tree field.now))) }
-{
-    match field {
-        ModuleField::TypeItem(item) => count_type(item, counts),
-        ModuleField::Rec(group) => count_types(&group.types, counts),
-        _ => Ok(()),
-    }
-}
-
-/// Appends those of types that stand in a group.
-fn count_types(items: &[TypeItem<'_>], counts: &mut Vec<usize>) -> Result<(), AllocError>
-    ensures { OnOk result (counts.new.items ≡ counts.old.items ++ map param_count (map (λ t. (t, true)) (map item_tree items.now))) }
-{
-    for item in items {
-        match count_type(item, counts) {
-            Ok(()) => {}
-            Err(e) => return Err(e),
-        }
-    }
-    Ok(())
-}
-
-/// Appends that of a type.
-fn count_type(item: &TypeItem<'_>, counts: &mut Vec<usize>) -> Result<(), AllocError>
-    ensures { OnOk result (counts.new.items ≡ counts.old.items ++ inner_count (item_tree item.now).definition.comp.inner ∷ []) }
-{
-    counts.push(params_of(&item.def.kind))?;
-    Ok(())
-}
-
-/// How many parameters a type has.
-fn params_of(kind: &InnerTypeKind<'_>) -> usize
-    ensures { result ≡ inner_count (inner_tree kind.now) }
-{
-    match kind {
-        InnerTypeKind::Func(signature) => signature.params.len(),
-        _ => 0,
-    }
 }

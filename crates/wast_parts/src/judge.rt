@@ -5,7 +5,7 @@ ghost use Rattle.wast_core_instr.specs.ExpressionViews.{expression_tree};
 ghost use Rattle.wast_meaning.specs.Mentions as spec;
 ghost use Rattle.wast_mentions.specs.Judging.{Judged};
 ghost use Rattle.wast_mentions.specs.Views.{mention_tree};
-ghost use Rattle.wast_parts.specs.Views.{function_tree};
+ghost use Rattle.wast_module_fields.specs.FuncViews.{function_tree};
 
 use wast_core_instr::Expression;
 use wast_mentions::{Judge, Judgement, Mention};

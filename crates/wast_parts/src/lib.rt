@@ -14,10 +14,6 @@
 //!
 //! # What has to be believed
 //!
-//! | File of `specs/` | Says |
-//! |---|---|
-//! | `Views` | which function of the definitions is judged |
-//!
 //! What a judge answers is said by `Judging` of `wast_mentions`, and which parts a field is by `wast_meaning`'s file `Mentions`.
 #![tactic(auto)]
 

@@ -24,7 +24,8 @@ use Rattle.wast_meaning.specs.Numbered.{numbering, numberings, numbered}
 use Rattle.wast_spaces.specs.declared.spaces.Spaces.{Spaces}
 use Rattle.wast_spaces.specs.Views.{spaces_of}
 use Rattle.wast_numbered.proofs.Unnamed.{nameless_params}
-use Rattle.wast_numbered.specs.Params.{inner_count, param_count, implied_count, param_counts}
+use Rattle.wast_spaces.specs.Params.{inner_count, param_count}
+use Rattle.wast_numbered.specs.Params.{implied_count, param_counts}
 use Rattle.wast_numbered.specs.Place.{so_many, nameless, sig_with, fields_in, joined, scope_with, here, by_place, numberings_by}
 use Rattle.wast_resolve.specs.Known.{Tells}
 

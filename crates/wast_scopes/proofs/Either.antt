@@ -11,10 +11,10 @@ use Rattle.wast_scopes.specs.Numbered.{Look}
 use Rattle.wast_scopes.specs.Views.{module_look}
 
 module _ {X : Type 0} (P : X → Type 0) where
-  one : (x a : X) → P a → x ≡ a → P x
+  pub one : (x a : X) → P a → x ≡ a → P x
   one x a h e = subst P (sym e) h
 
-  either : {Q : Type 0} (x a : X) → P a → (Q → P x) → (x ≡ a) ⊎ Q → P x
+  pub either : {Q : Type 0} (x a : X) → P a → (Q → P x) → (x ≡ a) ⊎ Q → P x
   either x a h others (inl e) = one x a h e
   either x a h others (inr q) = others q
 

@@ -1,6 +1,6 @@
 -- Identifiers of parameters and locals.
-use Rattle.std.proofs.Common.{◌≡◌, ℕ, ◌+◌, ◌<◌, List, [], ◌∷◌, ◌++◌, Option, None, map, take, length, refl, sym, ◌∙◌, ap, Result, Ok, Err}
-use Rattle.std.specs.Prelude.{option_map, IfOk, OnOk}
+use Rattle.std.proofs.Common.{◌≡◌, ℕ, ◌+◌, ◌<◌, List, [], ◌∷◌, ◌++◌, Option, None, map, take, length, refl, sym, ◌∙◌, ap}
+use Rattle.std.specs.Prelude.{option_map}
 use Rattle.std.proofs.lemmas.List.{map-append, take_more}
 use Rattle.wast_parser.specs.Identifier.{Identifier}
 use Rattle.wast_parser.specs.Identifiers.{identifier_tree}
@@ -27,11 +27,3 @@ param_ids (x ∷ xs) = ap (λ l. option_map identifier_tree x.0 ∷ l) (param_id
 pub local_ids : (xs : List Local) → map (option_map identifier_tree) (map (λ l. l.id) xs) ≡ map (λ l. l.id) (map local_tree xs)
 local_ids [] = refl
 local_ids (x ∷ xs) = ap (λ l. option_map identifier_tree x.id ∷ l) (local_ids xs)
-
-pub if_weaker : {T E : Type 0} {P Q : T → Type 0} (r : Result T E) → ((x : T) → P x → Q x) → IfOk r P → IfOk r Q
-if_weaker (Ok x) f h = f x h
-if_weaker (Err e) f h = h
-
-pub on_always : {T E A : Type 0} (r : Result T E) → A → OnOk r A
-on_always (Ok x) a = a
-on_always (Err e) a = tt

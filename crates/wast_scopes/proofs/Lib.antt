@@ -2,9 +2,10 @@ mod Blocks
 mod Pairs
 pub mod Told
 pub mod Module
-mod Either
+pub mod Either
 mod Adds
 mod Judged
 mod Scopes
 mod Walks
 mod Ids
+pub mod Outcomes

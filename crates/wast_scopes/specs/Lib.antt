@@ -3,6 +3,5 @@ pub mod NumberedViews
 pub mod Open
 pub mod Signatures
 pub mod Known
-pub mod FunctionViews
 pub mod Views
 pub mod Laws

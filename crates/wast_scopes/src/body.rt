@@ -7,7 +7,7 @@ ghost use Rattle.wast_parser.specs.Identifiers.{identifier_tree, index_tree};
 ghost use Rattle.wast_signatures.specs.SignatureViews.{use_tree};
 ghost use Rattle.wast_core_instr.specs.ExpressionViews.{expression_tree};
 ghost use Rattle.wast_core_instr.specs.InstructionViews.{instruction_tree};
-ghost use Rattle.wast_module_fields.specs.FuncViews.{local_tree};
+ghost use Rattle.wast_module_fields.specs.FuncViews.{function_tree, local_tree};
 ghost use Rattle.wast_names.specs.Demand.{Answers};
 ghost use Rattle.wast_names.specs.Space as names;
 ghost use Rattle.wast_names.specs.Views.{space};
@@ -17,7 +17,6 @@ ghost use Rattle.wast_mentions.specs.Views.{mention_tree};
 ghost use Rattle.wast_scopes.specs.Known.{after, func_by, instr_by, instrs_by, known_by, look_among, mention_by, params_by, params_of_index_by, use_by, with_labels};
 ghost use Rattle.wast_scopes.specs.Numbered.{params_in};
 ghost use Rattle.wast_scopes.specs.NumberedViews.{sig_of_numbered, value_of_numbered};
-ghost use Rattle.wast_scopes.specs.FunctionViews.{function_tree};
 ghost use Rattle.wast_scopes.specs.Views.{known};
 
 use crate::labels::Labels;

@@ -23,7 +23,7 @@
 //! | `Known` | what is known, seen by look-ups, and what is demanded by it |
 //! | `Numbered` | signatures as numbered, and which are the same |
 //! | `Open` | blocks that are open, and the levels of their names |
-//! | `Signatures`, `NumberedViews`, `FunctionViews`, `Views` | what is known by a [`Scope`] and a [`Place`] |
+//! | `Signatures`, `NumberedViews`, `Views` | what is known by a [`Scope`] and a [`Place`] |
 //! | `Laws` | the laws below |
 //!
 //! The laws tie them to the definitions of `wast_meaning`'s files `Scope` and `Demands`: what is demanded by what a scope tells is what is

@@ -1,17 +1,17 @@
 //! Signatures in which each index is the number that it means.
 ghost use Rattle.std.specs.Prelude.{◌≡◌, map, IfOk};
 ghost use Rattle.std.specs.Cmp.Lexicographic.{pointwise};
-ghost use Rattle.wast_value_types.specs.ValueViews.{heap_word, heap_tree, val_tree};
+ghost use Rattle.wast_value_types.specs.ValueViews.{heap_tree, val_tree};
 ghost use Rattle.wast_signatures.specs.SignatureViews.{param_tree, sig_tree};
 ghost use Rattle.wast_names.specs.Views.{space};
-ghost use Rattle.wast_meaning.specs.Implied.{word_code};
 ghost use Rattle.wast_scopes.specs.Numbered.{numbered_heap, numbered_sig, numbered_value, same_numbered_sig, same_numbered_value};
 ghost use Rattle.wast_scopes.specs.NumberedViews.{sig_of_numbered, value_of_numbered};
 
 use std::alloc::{AllocError, Global};
+use wast_implied::word_code;
 use wast_names::Namespace;
 use wast_signatures::{FunctionType, Param};
-use wast_value_types::{AbstractHeapType, HeapType, ValType};
+use wast_value_types::{HeapType, ValType};
 
 /// A value type. An abstract heap type is there as its byte in a binary, or a number of its own where it has none; an index as the
 /// number that it means, or as none where its name means nothing.
@@ -179,27 +179,5 @@ fn numbered_reference<'a>(
             exact: true,
             number: types.number_of(index),
         },
-    }
-}
-
-/// The byte of an abstract heap type in a binary (5.3.3), or a number below those where it is of a proposal.
-fn word_code(ty: AbstractHeapType) -> u8
-    ensures { result ≡ word_code (heap_word ty) }
-{
-    match ty {
-        AbstractHeapType::Func => 0x70,
-        AbstractHeapType::Extern => 0x6f,
-        AbstractHeapType::Exn => 0x69,
-        AbstractHeapType::Cont => 0,
-        AbstractHeapType::Any => 0x6e,
-        AbstractHeapType::Eq => 0x6d,
-        AbstractHeapType::Struct => 0x6b,
-        AbstractHeapType::Array => 0x6a,
-        AbstractHeapType::I31 => 0x6c,
-        AbstractHeapType::NoFunc => 0x73,
-        AbstractHeapType::NoExtern => 0x72,
-        AbstractHeapType::None => 0x71,
-        AbstractHeapType::NoExn => 0x74,
-        AbstractHeapType::NoCont => 1,
     }
 }

@@ -1,21 +1,20 @@
 -- Bodies of functions as they are meant.
 use Rattle.std.proofs.Common.{◌≡◌, ℕ, ◌+◌, ◌<◌, ◌^◌, List, [], ◌∷◌, ◌++◌, map, take, length, All, slice_index_or, append-nil, append_assoc, sym, ap, ◌∙◌, subst}
-use Rattle.std.specs.Prelude.{Result, Ok, Err, OnOk, OnErr, IsErrOf}
+use Rattle.std.specs.Prelude.{Result, Err, OnOk}
 use Rattle.std.specs.List.{flat_map, AllByRecursion}
 use Rattle.std.proofs.lemmas.Grind.{flat_map-append}
 use Rattle.std.proofs.lemmas.List.{take_more}
 use Rattle.std.proofs.lemmas.List.Elements.{All-map}
 use Rattle.std.proofs.lemmas.List.Folds.{flat_map-map}
-use Rattle.wasm_encoder_base.specs.Encodes.{Encodes, Puts}
+use Rattle.wasm_encoder_base.specs.Encodes.{Puts}
 use Rattle.wasm_encoder_base.specs.EncodeError.{EncodeError}
-use Rattle.wasm_encoder_base.specs.EncodeError.TheVariants.{Memory, TooLarge}
+use Rattle.wasm_encoder_base.specs.EncodeError.TheVariants.{Memory}
 use Rattle.wasm_encoder_base.specs.Instr.{Instr, IsInstr, instr_bytes, counts_fit}
 use Rattle.wasm_encoder_base.specs.Lists.{Listed}
 use Rattle.wasm_encoder_base.specs.Types.{ValType, IsValType}
 use Rattle.wasm_encoder_code.specs.Body.{body_bytes, locals_bytes}
 use Rattle.wasm_encoder_code.specs.Locals.{LocalsFit}
 use Rattle.wasm_encoder_code.specs.Sink.{IsMade}
-use Rattle.wasm_encoder_instr.specs.Instruction.{instr_view}
 use Rattle.wasm_encoder_instr.specs.declared.instruction.Instruction.{Instruction}
 use Rattle.wasm_encoder_sections.specs.Codes.{function_item}
 use Rattle.wasm_encoder_sections.specs.Writes.{Writes}
@@ -32,18 +31,6 @@ use Rattle.wast_section_items.specs.Appends.{Appends}
 use Rattle.wast_section_items.specs.Fits.{ExprFits, BodyFits}
 use Rattle.wast_section_items.specs.Sound.{BodySound}
 use Rattle.wast_section_items.proofs.Appending.{appends_one, unappended}
-
--- an instruction that is the one that is meant
-pub encodes_meant : (i : tree.Instruction) (j : Instruction) (before after : List ℕ) (r : Result (Unit {0}) EncodeError) → instr_view j ≡ instr_meant (instruction_tree i)
-    → Encodes (instr_bytes (instr_view j)) (counts_fit (instr_view j).operands) before after r → Encodes (bytes_meant i) (FitsMeant i) before after r
-unfolding bytes_meant FitsMeant
-encodes_meant i j before after r e h = let P : Instr → Type 0 = λ k. Encodes (instr_bytes k) (counts_fit k.operands) before after r in subst P e h
-
--- an instruction that is refused
-pub unpushed : {T : Type 0} (spelling : List ℕ) (fits : Type 0) (before after : List ℕ) (r : Result T EncodeError) (e : EncodeError) → r ≡ Err e → OnErr r (after ≡ before) → (IsErrOf r TooLarge → fits → ⊥)
-    → Encodes spelling fits before after (Err e)
-unpushed spelling fits before after (Ok x) e was rest large = cc
-unpushed spelling fits before after (Err x) e was rest large = record { spelled = tt; fit = tt; unchanged = rest; too_large = λ t. let error : e ≡ TooLarge = cc in large (was ∙ ap Err error) }
 
 -- the bytes of one more
 pub more_behind : (is : List tree.Instruction) (k : ℕ) (i : tree.Instruction) (start before after : List ℕ) → k < length is → i ≡ slice_index_or is k i

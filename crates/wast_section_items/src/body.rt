@@ -1,11 +1,10 @@
 //! Bodies of functions.
 ghost use Rattle.std.specs.Prelude.{◌≡◌, ◌++◌, ℕ, [], ◌∷◌, All, IfOk, OnOk, map};
 ghost use Rattle.std.specs.List.{flat_map, AllByRecursion};
-ghost use Rattle.wasm_encoder_base.specs.Encodes.{Encodes, Puts};
-ghost use Rattle.wasm_encoder_base.specs.Instr.{instr_bytes, IsInstr};
+ghost use Rattle.wasm_encoder_base.specs.Encodes.{Puts};
+ghost use Rattle.wasm_encoder_base.specs.Instr.{IsInstr};
 ghost use Rattle.wasm_encoder_base.specs.Types.{IsValType};
 ghost use Rattle.wasm_encoder_base.specs.Views.{val_view};
-ghost use Rattle.wasm_encoder_instr.specs.Instruction.{instr_view, can_encode_instr, fits_instr};
 ghost use Rattle.wasm_encoder_code.specs.Body.{body_bytes, locals_bytes};
 ghost use Rattle.wasm_encoder_code.specs.Locals.{LocalsFit};
 ghost use Rattle.wasm_encoder_code.specs.Sink.{IsMade};
@@ -16,7 +15,7 @@ ghost use Rattle.wast_core_instr.specs.InstructionViews.{instruction_operands, i
 ghost use Rattle.wast_fields.specs.FieldTree.{Define};
 ghost use Rattle.wast_fields.specs.FuncViews.{local_tree, func_definition};
 ghost use Rattle.wast_conversions.specs.Types.{val_meant};
-ghost use Rattle.wast_conversions.specs.Instructions.{instr_meant, instrs_meant};
+ghost use Rattle.wast_conversions.specs.Instructions.{instrs_meant};
 ghost use Rattle.wast_conversions.specs.Operands.{OperandsAligned};
 ghost use Rattle.wast_conversions.specs.Resolved.{ValResolved, InstrResolved};
 ghost use Rattle.wast_conversions.specs.Covered.{val_forms, instr_forms};
@@ -35,7 +34,7 @@ use std::alloc::{AllocError, Global};
 use wasm_encoder_base::{EncodeError, ValType};
 use wasm_encoder_code::Function;
 use wasm_encoder_sections::CodeSection;
-use wast_conversions::{instruction, val_type};
+use wast_conversions::{push_encoded, push_instruction, val_type};
 use wast_core_instr::{Expression, Instruction};
 use wast_customs::CustomPlaceAnchor;
 use wast_fields::{Func, FuncKind, Local};
@@ -127,7 +126,7 @@ fn body_of(
 {
     let mut body = Function::new_with_locals_types(alloc, types)?;
     push_expression(alloc, expression, &mut body)?;
-    push(&mut body, &wasm_encoder_code::Instruction::End)?;
+    push_encoded(&mut body, &wasm_encoder_code::Instruction::End)?;
     Ok(body)
 }
 
@@ -174,35 +173,5 @@ fn push_instructions(
     for instr in instrs {
         push_instruction(alloc, instr, body)?;
     }
-    Ok(())
-}
-
-/// Appends an instruction; refused, the body is unchanged.
-fn push_instruction(
-    alloc: Global,
-    instr: &Instruction<'_>,
-    body: &mut Function,
-) -> Result<(), EncodeError>
-    requires resolved { InstrResolved (instruction_tree instr.now) }
-    requires covered { instr_forms (instruction_tree instr.now) ≡ [] }
-    requires aligned { OperandsAligned (instruction_operands instr.now) }
-    ensures same { Encodes (bytes_meant instr.now) (FitsMeant instr.now) body.old body.new result }
-    ensures sound { OnOk result (IsInstr (instr_meant (instruction_tree instr.now))) }
-{
-    match instruction(alloc, instr) {
-        Ok(converted) => push(body, &converted),
-        Err(_) => Err(EncodeError::Memory),
-    }
-}
-
-/// Appends an instruction of the encoder; refused, the body is unchanged.
-fn push(
-    body: &mut Function,
-    instruction: &wasm_encoder_code::Instruction<'_>,
-) -> Result<(), EncodeError>
-    requires { can_encode_instr instruction.now }
-    ensures { Encodes (instr_bytes (instr_view instruction.now)) (fits_instr instruction.now) body.old body.new result }
-{
-    body.instruction(instruction)?;
     Ok(())
 }

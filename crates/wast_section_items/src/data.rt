@@ -21,10 +21,10 @@ ghost use Rattle.wast_section_items.specs.Ready.{ConstantReady, DataModeReady, F
 use crate::adding::{add_active_data, add_passive_data};
 use crate::constant::constant;
 use crate::item::SectionItem;
-use crate::uses::memory_index;
 use std::alloc::{AllocError, Global};
 use wasm_encoder_base::EncodeError;
 use wasm_encoder_sections::DataSection;
+use wast_conversions::optional_index;
 use wast_core_instr::Expression;
 use wast_customs::CustomPlaceAnchor;
 use wast_data::DataVal;
@@ -93,7 +93,7 @@ fn add_active(
     ensures { Appends (data_bytes expr_bytes) DataFits IsData (segments.ActiveData (optional_meant (option_map index_tree memory.now)) (expr_meant (expression_tree offset.now)) bytes.now ∷ []) section.old section.new result }
 {
     match constant(alloc, offset) {
-        Ok(offset) => add_active_data(section, memory_index(memory), &offset, bytes),
+        Ok(offset) => add_active_data(section, optional_index(memory), &offset, bytes),
         Err(e) => Err(e),
     }
 }

@@ -12,10 +12,10 @@ ghost use Rattle.wasm_layout.specs.AbstractModule as abstract;
 
 use crate::adding::add_function;
 use crate::item::SectionItem;
-use crate::uses::type_index;
 use std::alloc::Global;
 use wasm_encoder_base::EncodeError;
 use wasm_encoder_sections::FunctionSection;
+use wast_conversions::type_index;
 use wast_customs::CustomPlaceAnchor;
 use wast_fields::{Func, FuncKind};
 

@@ -14,11 +14,11 @@ ghost use Rattle.wast_section_items.specs.Ready.{FieldReady};
 
 use crate::adding::add_tag;
 use crate::item::SectionItem;
-use crate::uses::type_index;
 use std::alloc::Global;
 use wasm_encoder_base::EncodeError;
 use wasm_encoder_items::{TagKind as EncodedKind, TagType as EncodedType};
 use wasm_encoder_sections::TagSection;
+use wast_conversions::type_index;
 use wast_customs::CustomPlaceAnchor;
 use wast_fields::{Tag, TagKind};
 use wast_imports::TagType;

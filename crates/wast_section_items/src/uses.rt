@@ -1,29 +1,14 @@
-//! Uses of types, and indices.
+//! Indices.
 ghost use Rattle.std.specs.Prelude.{◌≡◌, All, IfOk, OnOk, map, option_map};
 ghost use Rattle.std.specs.List.{AllByRecursion};
 ghost use Rattle.wasm_layout.specs.IsModule.{IsU32};
 ghost use Rattle.wast_parser.specs.Identifiers.{index_tree};
-ghost use Rattle.wast_signatures.specs.SignatureViews.{use_tree};
-ghost use Rattle.wast_conversions.specs.Types.{number_of, use_meant};
-ghost use Rattle.wast_conversions.specs.Operands.{optional_meant};
-ghost use Rattle.wast_conversions.specs.Resolved.{IfThere, IsNumber, UseResolved};
+ghost use Rattle.wast_conversions.specs.Types.{number_of};
+ghost use Rattle.wast_conversions.specs.Resolved.{IfThere, IsNumber};
 
 use std::alloc::{AllocError, Global};
 use wast_conversions::index;
 use wast_parser::Index;
-use wast_signatures::{FunctionType, TypeUse};
-
-/// The number of the type of a use (6.6.3).
-pub(crate) fn type_index(ty: &TypeUse<'_, FunctionType<'_>>) -> u32
-    requires { UseResolved (use_tree ty.now) }
-    ensures same { result ≡ use_meant (use_tree ty.now) }
-    ensures sound { IsU32 (use_meant (use_tree ty.now)) }
-{
-    match &ty.index {
-        Some(number) => index(number),
-        None => unreachable!(),
-    }
-}
 
 /// The number of an index that may be left out.
 pub(crate) fn table_index(written: &Option<Index<'_>>) -> Option<u32>
@@ -34,18 +19,6 @@ pub(crate) fn table_index(written: &Option<Index<'_>>) -> Option<u32>
     match written {
         Some(written) => Some(index(written)),
         None => None,
-    }
-}
-
-/// The number of an index that may be left out, and is 0 then.
-pub(crate) fn memory_index(written: &Option<Index<'_>>) -> u32
-    requires { IfThere IsNumber (option_map index_tree written.now) }
-    ensures same { result ≡ optional_meant (option_map index_tree written.now) }
-    ensures sound { IsU32 (optional_meant (option_map index_tree written.now)) }
-{
-    match written {
-        Some(written) => index(written),
-        None => 0,
     }
 }
 

@@ -58,22 +58,24 @@ pub joins_then : {T : Type 0} (r : Result T Problem) (old mid new : Spaces) (fro
 joins_then (Ok x) old mid new front bs first second = joined_then old mid new front bs first second
 joins_then (Err p) old mid new front bs first second = refused_then old mid front bs p first second
 
--- LOOPS over what brings items, element by element
-module _ {X : Type 0} (view : X → List (Bound Name ℕ)) where
-  one_more : (xs : List X) (i : ℕ) (x : X) → i < length xs → x ≡ get_or xs i x → flat_map view (take (i + 1) xs) ≡ flat_map view (take i xs) ++ view x
+-- LISTS to which each element brings some
+module _ {X A : Type 0} (view : X → List A) where
+  pub one_more : (xs : List X) (i : ℕ) (x : X) → i < length xs → x ≡ get_or xs i x → flat_map view (take (i + 1) xs) ≡ flat_map view (take i xs) ++ view x
   one_more xs i x h e =
       ap (flat_map view) (take_more xs i x h ∙ ap (λ y. take i xs ++ y ∷ []) (sym e)) ∙ flat_map-append view (take i xs) (x ∷ [])
       ∙ ap (λ l. flat_map view (take i xs) ++ l) (append-nil (view x))
 
-  all_of : (xs : List X) (i : ℕ) (x : X) → i < length xs → x ≡ get_or xs i x → flat_map view xs ≡ (flat_map view (take i xs) ++ view x) ++ flat_map view (drop (i + 1) xs)
+  pub all_of : (xs : List X) (i : ℕ) (x : X) → i < length xs → x ≡ get_or xs i x → flat_map view xs ≡ (flat_map view (take i xs) ++ view x) ++ flat_map view (drop (i + 1) xs)
   all_of xs i x h e =
       ap (flat_map view) (sym (take-append-drop (i + 1) xs)) ∙ flat_map-append view (take (i + 1) xs) (drop (i + 1) xs)
       ∙ ap (λ l. l ++ flat_map view (drop (i + 1) xs)) (one_more xs i x h e)
 
+-- LOOPS over what brings items, element by element
+module _ {X : Type 0} (view : X → List (Bound Name ℕ)) where
   pub joined_more : (old mid new : Spaces) (xs : List X) (i : ℕ) (x : X) → i < length xs → x ≡ get_or xs i x → Joined old mid (flat_map view (take i xs)) → Joined mid new (view x)
       → Joined old new (flat_map view (take (i + 1) xs))
   joined_more old mid new xs i x h e first more =
-      subst (Joined old new) (sym (one_more xs i x h e)) (joined_then old mid new (flat_map view (take i xs)) (view x) first more)
+      subst (Joined old new) (sym (one_more view xs i x h e)) (joined_then old mid new (flat_map view (take i xs)) (view x) first more)
 
   pub joined_all : (old new : Spaces) (xs : List X) (i : ℕ) → length xs ≤ i → Joined old new (flat_map view (take i xs)) → Joined old new (flat_map view xs)
   joined_all old new xs i h j = subst (λ l. Joined old new (flat_map view l)) (take_all i xs h) j
@@ -81,7 +83,7 @@ module _ {X : Type 0} (view : X → List (Bound Name ℕ)) where
   pub refused_at : (old mid : Spaces) (xs : List X) (i : ℕ) (x : X) (p : Problem) → i < length xs → x ≡ get_or xs i x → Joined old mid (flat_map view (take i xs))
       → Refuses (joining (spaces_of mid) (view x)) p → Refuses (joining (spaces_of old) (flat_map view xs)) p
   refused_at old mid xs i x p h e first refused =
-      subst (λ l. Refuses (joining (spaces_of old) l) p) (sym (all_of xs i x h e))
+      subst (λ l. Refuses (joining (spaces_of old) l) p) (sym (all_of view xs i x h e))
       (refused_first old (flat_map view (take i xs) ++ view x) (flat_map view (drop (i + 1) xs)) p (refused_then old mid (flat_map view (take i xs)) (view x) p first refused))
 
 -- a list of which each element is one item

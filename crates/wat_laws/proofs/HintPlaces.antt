@@ -8,6 +8,7 @@ use Rattle.wasm_encoder_base.specs.Instr.{instr_bytes, expr_bytes}
 use Rattle.wasm_encoder_base.specs.Leb.{uleb}
 use Rattle.wasm_encoder_base.specs.Lists.{listed}
 use Rattle.wasm_encoder_base.proofs.LebSteps.{uleb-last}
+use Rattle.wasm_encoder_code.proofs.Places.{past_items}
 use Rattle.wasm_encoder_code.specs.Body.{Body, locals_bytes, body_bytes, place_of}
 use Rattle.wasm_encoder_custom.specs.Custom.{custom_body}
 use Rattle.wasm_encoder_custom.specs.BranchHints as binary
@@ -41,17 +42,7 @@ from_item (y ∷ ys) zero x e = (ys, ap (λ z. z ∷ ys) (inside y x e))
     inside a b e = cc
 from_item (y ∷ ys) (suc k) x e = from_item ys k x e
 
--- BYTES
-past_items : {A : Type 0} (spell : A → List ℕ) (xs : List A) (k : ℕ) (after : List ℕ) → drop (length (flat_map spell (take k xs))) (flat_map spell xs ++ after) ≡ flat_map spell (drop k xs) ++ after
-past_items spell xs zero after = refl
-past_items spell [] (suc k) after = refl
-past_items spell (x ∷ xs) (suc k) after =
-    ap (λ l. drop l ((spell x ++ flat_map spell xs) ++ after)) (length-append (spell x) (flat_map spell (take k xs)))
-    ∙ ap (drop (length (spell x) + length (flat_map spell (take k xs)))) (append_assoc (spell x) (flat_map spell xs) after)
-    ∙ drop-append-add (spell x) (flat_map spell xs ++ after) (length (flat_map spell (take k xs)))
-    ∙ past_items spell xs k after
-
--- the instructions of a body from one on, and the end, with what stands behind it
+-- BYTES: the instructions of a body from one on, and the end, with what stands behind it
 at_place : (body : Body) (k : ℕ) (after : List ℕ) → drop (place_of body k) (body_bytes body ++ after) ≡ flat_map instr_bytes (drop k body.instructions) ++ (0x0B ∷ after)
 at_place body k after =
     ap (drop (place_of body k)) (append_assoc (locals_bytes body.locals) (expr_bytes body.instructions) after)

@@ -1,31 +1,13 @@
 -- A section that is there stands among the pieces of its module, and so in its bytes.
-use Rattle.std.proofs.Common.{◌≡◌, ℕ, true, List, [], ◌∷◌, ◌++◌, map, refl, sym, ap, ◌∙◌, append_assoc, flat_map}
+use Rattle.std.proofs.Common.{◌≡◌, ℕ, true, List, [], ◌∷◌, ◌++◌, refl, sym, ap, ◌∙◌, append_assoc, flat_map}
 use Rattle.std.proofs.lemmas.Grind.{flat_map-append}
-use Rattle.wasm_encoder_custom.specs.Custom.{Custom}
 use Rattle.wasm_encoder.specs.Module.{header}
 use Rattle.wasm_layout.specs.Section.{SectionKind, Types, Imports, Functions, Tables, Memories, Tags, Globals, Exports, Starts, Elements, DataCount, Hints, Codes, Datas, Names, order}
 use Rattle.wasm_layout.specs.AbstractModule.{AbstractModule}
 use Rattle.wasm_layout.specs.Present.{has_any, is_present}
-use Rattle.wasm_layout.specs.Layout.{if_there, Section, section, sections, Piece, Known, Free, weave, piece_bytes, pieces, layout}
+use Rattle.wasm_layout.specs.Layout.{if_there, Section, section, sections, Known, weave, piece_bytes, pieces, layout}
+use Rattle.wasm_layout.proofs.HintPlaces.{split}
 use Rattle.wat_laws.specs.HintPlaces.{SectionStands}
-
--- what stands before a section that is there, and the gaps from it on
-record Split (xs : List Section) (s : Section) (ys : List Section) (gs : List (List Custom)) : Type 0 where
-  front : List Piece
-  gaps : List (List Custom)
-  is : weave (xs ++ (s ∷ ys)) gs ≡ front ++ (Known s ∷ weave ys gaps)
-
-no_gaps : (ys : List Section) → weave ys [] ≡ map Known ys
-no_gaps [] = refl
-no_gaps (y ∷ ys) = refl
-
-split : (xs : List Section) (s : Section) (ys : List Section) (gs : List (List Custom)) → Split xs s ys gs
-split [] s ys [] = record { front = []; gaps = []; is = ap (λ v. Known s ∷ v) (sym (no_gaps ys)) }
-split [] s ys (g ∷ gs) = record { front = map Free g; gaps = gs; is = refl }
-split (x ∷ xs) s ys [] = let r = split xs s ys [] in record { front = Known x ∷ r.front; gaps = r.gaps; is = ap (λ v. Known x ∷ v) (sym (no_gaps (xs ++ (s ∷ ys))) ∙ r.is) }
-split (x ∷ xs) s ys (g ∷ gs) =
-    let r = split xs s ys gs in
-    record { front = map Free g ++ (Known x ∷ r.front); gaps = r.gaps; is = ap (λ v. map Free g ++ (Known x ∷ v)) r.is ∙ sym (append_assoc (map Free g) (Known x ∷ r.front) (Known s ∷ weave ys r.gaps)) }
 
 -- a list with an item has one
 pub any_around : {A : Type 0} (xs : List A) (y : A) (ys : List A) → has_any (xs ++ (y ∷ ys)) ≡ true

@@ -1,5 +1,5 @@
 use Rattle.std.proofs.Common.{sym, ◌∙◌}
-use Rattle.wast_parts.specs.Views.{function_tree}
+use Rattle.wast_fields.specs.FuncViews.{function_tree}
 use Rattle.wast_bound.proofs.Function.{func_then}
 use Rattle.wast_bound.proofs.body.is_function_bound.Goals as goal
 

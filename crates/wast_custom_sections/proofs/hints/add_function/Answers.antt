@@ -1,8 +1,8 @@
 use Rattle.std.proofs.lemmas.Result.{err_from_is_err_and}
-use Rattle.wast_custom_sections.proofs.Errors.{unwritten}
+use Rattle.wasm_encoder_sections.proofs.Refused.{unwritten}
 use Rattle.wast_custom_sections.proofs.hints.add_function.Goals as goal
 
 pub returns-in_err-section : goal.returns-in_err-section
 returns-in_err-section c =
     let p = err_from_is_err_and c.from_residual.result c.from_residual.ensures.1 in
-    rw (p.1, p.2) (unwritten _ _ _ _ _ _ _ c.function_hints.result c.in_err-section.field-0.0 c.in_err-section.was c.function_hints.follows.holds-at-none c.function_hints.ensures.adds (λ room fit. (room, fit)))
+    rw (p.1, p.2) (unwritten _ _ _ _ _ c.function_hints.result c.in_err-section.field-0.0 c.in_err-section.was c.function_hints.follows.holds-at-none c.function_hints.ensures.adds.too_large (λ room fit. (room, fit)))

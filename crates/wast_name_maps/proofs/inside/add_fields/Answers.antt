@@ -2,7 +2,8 @@ use Rattle.std.proofs.lemmas.Result.{err_from_is_err_and}
 use Rattle.wast_module_fields.specs.ModuleFieldViews.{field_tree}
 use Rattle.wast_name_maps.specs.Gathered.{field_groups}
 use Rattle.wast_name_maps.specs.Kinds.{inside_view}
-use Rattle.wast_name_maps.proofs.Joining.{joined_all, joined_more, unfit_at, viewed}
+use Rattle.wast_spaces.proofs.Written.{viewed}
+use Rattle.wast_name_maps.proofs.Joining.{joined_all, joined_more, unfit_at}
 use Rattle.wast_name_maps.proofs.Gathering.{code_groups}
 use Rattle.wast_name_maps.proofs.inside.add_fields.Goals as goal
 

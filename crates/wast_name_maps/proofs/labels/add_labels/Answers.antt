@@ -1,7 +1,8 @@
 use Rattle.std.proofs.lemmas.Result.{err_from_is_err_and}
 use Rattle.wast_core_instr.specs.InstructionViews.{instruction_tree}
 use Rattle.wast_name_maps.specs.Gathered.{label_names}
-use Rattle.wast_name_maps.proofs.Joining.{joined_all, joined_more, unfit_at, viewed}
+use Rattle.wast_spaces.proofs.Written.{viewed}
+use Rattle.wast_name_maps.proofs.Joining.{joined_all, joined_more, unfit_at}
 use Rattle.wast_name_maps.proofs.Gathering.{code_labels}
 use Rattle.wast_name_maps.proofs.labels.add_labels.Goals as goal
 

@@ -11,7 +11,7 @@ use Rattle.wast_module_fields.specs.ModuleFieldViews.{field_tree}
 use Rattle.wast_meaning.specs.Implied.{written_types}
 use Rattle.wast_name_maps.specs.Gathered.{field_groups}
 use Rattle.wast_name_maps.specs.Kinds.{inside_view, maps_of}
-use Rattle.wast_name_maps.specs.Locals.{param_count}
+use Rattle.wast_spaces.specs.Params.{param_count}
 use Rattle.wast_name_maps.specs.Subsections.{subsection_if}
 use Rattle.wast_name_maps.proofs.Meant.{inside_meant}
 use Rattle.wast_name_maps.proofs.Ordered.{inside_fit, inside_if, inside_listed, inside_rise, inside_size_fits}

@@ -1,7 +1,8 @@
 use Rattle.std.proofs.lemmas.Result.{err_from_is_err_and}
 use Rattle.wast_signatures.specs.SignatureViews.{param_tree}
 use Rattle.wast_name_maps.specs.Given.{given}
-use Rattle.wast_name_maps.proofs.Joining.{each_one, joined_all, joined_more, unfit_at}
+use Rattle.wast_spaces.proofs.Written.{each_one}
+use Rattle.wast_name_maps.proofs.Joining.{joined_all, joined_more, unfit_at}
 use Rattle.wast_name_maps.proofs.Gathering.{param_names}
 use Rattle.wast_name_maps.proofs.types.add_params.Goals as goal
 

@@ -6,7 +6,7 @@ use Rattle.wast_meaning.specs.Changed.{instr_changed}
 use Rattle.wast_meaning.specs.Numbered.{numbering}
 use Rattle.wast_meaning.specs.Spaces.{listed}
 use Rattle.wast_numbered.specs.Place.{here}
-use Rattle.wast_numbered.proofs.Labelled.{on_always}
+use Rattle.wast_scopes.proofs.Outcomes.{on_always}
 use Rattle.wast_numbered.proofs.body.number_by.Goals as goal
 
 pub returns-clause-tree : goal.returns-clause-tree

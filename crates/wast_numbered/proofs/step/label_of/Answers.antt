@@ -4,7 +4,8 @@ use Rattle.wast_parser.specs.Identifiers.{identifier_tree}
 use Rattle.wast_typed_operands.specs.declared.block.BlockType.{BlockType}
 use Rattle.wast_core_instr.specs.InstructionViews.{instruction_operands}
 use Rattle.wast_meaning.specs.Scope.{own_label}
-use Rattle.wast_numbered.proofs.Labelled.{unlabelled, if_weaker}
+use Rattle.wast_scopes.proofs.Outcomes.{if_weaker}
+use Rattle.wast_numbered.proofs.Labelled.{unlabelled}
 use Rattle.wast_numbered.proofs.step.label_of.Goals as goal
 
 pub returns-in-Block : goal.returns-in-Block

@@ -3,7 +3,7 @@ use Rattle.wast_meaning.specs.Mentions.{Body}
 use Rattle.wast_module_fields.specs.Local.{Local}
 use Rattle.wast_mentions.specs.Judging.{Judged}
 use Rattle.wast_mentions.proofs.Judging.{judged_as}
-use Rattle.wast_parts.specs.Views.{function_tree}
+use Rattle.wast_module_fields.specs.FuncViews.{function_tree}
 use Rattle.wast_parts.proofs.OfAnyKind.{func_says}
 use Rattle.wast_parts.proofs.definitions.tell_func.Goals as goal
 

@@ -4,12 +4,11 @@ use Rattle.wasm_encoder_base.specs.Table as table
 use Rattle.wast_grammar.specs.Spelling.{same_name}
 use Rattle.wast_signatures.specs.SignatureViews.{use_tree}
 use Rattle.wast_core_instr.specs.ExpressionViews.{expression_tree}
-use Rattle.wast_module_fields.specs.FuncViews.{local_tree}
+use Rattle.wast_module_fields.specs.FuncViews.{function_tree, local_tree}
 use Rattle.wast_names.specs.Space as names
 use Rattle.wast_names.specs.Views.{space}
 use Rattle.wast_meaning.specs.Mentions.{local_mentions}
 use Rattle.wast_meaning.specs.Spaces.{space_word}
-use Rattle.wast_scopes.specs.FunctionViews.{function_tree}
 use Rattle.wast_scopes.specs.Known.{use_by, mention_by, params_by, locals_by, instrs_by, with_locals}
 use Rattle.wast_scopes.specs.Views.{known}
 use Rattle.wast_names.proofs.Demands.{refuses_first}

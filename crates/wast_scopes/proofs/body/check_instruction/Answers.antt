@@ -8,7 +8,7 @@ use Rattle.wast_core_instr.specs.InstructionViews.{instruction_tree}
 use Rattle.wast_meaning.specs.Scope.{turn_of_head, own_label}
 use Rattle.wast_scopes.specs.Views.{known}
 use Rattle.wast_typed_operands.specs.declared.block.BlockType.{BlockType}
-use Rattle.wast_scopes.proofs.Ids.{on_always}
+use Rattle.wast_scopes.proofs.Outcomes.{on_always}
 use Rattle.wast_scopes.proofs.Judged.{answers_as}
 use Rattle.wast_scopes.proofs.Scopes.{opened, closed, stayed, heard_opened, heard_closed, heard_stayed}
 use Rattle.wast_mentions.proofs.Turns.{block_opens, loop_opens, if_opens, try_opens, try_table_opens, end_closes, delegate_closes, other_turn}

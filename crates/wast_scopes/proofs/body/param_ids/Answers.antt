@@ -1,7 +1,8 @@
 use Rattle.std.proofs.Common.{map, ap, ◌∙◌}
 use Rattle.std.specs.Prelude.{option_map}
 use Rattle.wast_parser.specs.Identifiers.{identifier_tree}
-use Rattle.wast_scopes.proofs.Ids.{param_ids, if_weaker}
+use Rattle.wast_scopes.proofs.Outcomes.{if_weaker}
+use Rattle.wast_scopes.proofs.Ids.{param_ids}
 use Rattle.wast_scopes.proofs.body.param_ids.Goals as goal
 
 pub returns-in-Some : goal.returns-in-Some

@@ -10,7 +10,7 @@ use Rattle.wast_section_items.proofs.data.add_active.Goals as goal
 
 pub returns-in-Ok : goal.returns-in-Ok
 returns-in-Ok c =
-    adds_data _ c.in-Ok.ensures.same.fit _ c.in-Ok.ensures.same.ok _ _ c.add_active_data.result _ _ _ c.memory_index.ensures.same c.memory_index.ensures.sound c.in-Ok.ensures.sound c.add_active_data.ensures
+    adds_data _ c.in-Ok.ensures.same.fit _ c.in-Ok.ensures.same.ok _ _ c.add_active_data.result _ _ _ c.optional_index.ensures.same c.optional_index.ensures.sound c.in-Ok.ensures.sound c.add_active_data.ensures
 
 pub returns-in-Err : goal.returns-in-Err
 returns-in-Err c = unappended (data_bytes expr_bytes) DataFits IsData _ _ c.in-Err.e (λ t fit. c.in-Err.ensures.same.too_large (ap Err t) fit.0.0)

@@ -2,7 +2,7 @@ use Rattle.std.proofs.Common.{◌∙◌}
 use Rattle.wast_grammar.specs.Spelling.{same_name}
 use Rattle.wast_meaning.specs.Demands.{part_demands}
 use Rattle.wast_meaning.specs.Mentions.{Body}
-use Rattle.wast_parts.specs.Views.{function_tree}
+use Rattle.wast_fields.specs.FuncViews.{function_tree}
 use Rattle.wast_bound.proofs.Kept.{judged_one}
 use Rattle.wast_bound.proofs.parts.NamesPartJudge.judge_function.Goals as goal
 

@@ -1,5 +1,5 @@
 use Rattle.wast_meaning.specs.Mentions.{Body}
-use Rattle.wast_parts.specs.Views.{function_tree}
+use Rattle.wast_module_fields.specs.FuncViews.{function_tree}
 use Rattle.wast_scopes.specs.Known.{part_by}
 use Rattle.wast_scopes.specs.Views.{known}
 use Rattle.wast_demands.proofs.Joined.{judged_one}

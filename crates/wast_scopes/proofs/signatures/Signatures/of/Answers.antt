@@ -13,7 +13,7 @@ use Rattle.wast_spaces.specs.Views.{spaces_of}
 use Rattle.wast_implied.specs.Views.{known}
 use Rattle.wast_scopes.specs.Numbered.{numbered_sig}
 use Rattle.wast_scopes.specs.Signatures.{func_type}
-use Rattle.wast_scopes.proofs.Ids.{if_weaker}
+use Rattle.wast_scopes.proofs.Outcomes.{if_weaker}
 use Rattle.wast_scopes.proofs.signatures.Signatures.of.Goals as goal
 
 pub returns-in-Ok : goal.returns-in-Ok

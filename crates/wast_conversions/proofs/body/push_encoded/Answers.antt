@@ -1,6 +1,6 @@
 use Rattle.std.proofs.lemmas.Result.{err_from_is_err_and}
-use Rattle.wast_custom_sections.proofs.Errors.{unpushed}
-use Rattle.wast_custom_sections.proofs.bodies.push.Goals as goal
+use Rattle.wast_conversions.proofs.Refused.{unpushed}
+use Rattle.wast_conversions.proofs.body.push_encoded.Goals as goal
 
 pub returns-in_err-body : goal.returns-in_err-body
 returns-in_err-body c =
