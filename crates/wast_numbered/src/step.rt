@@ -8,6 +8,7 @@ ghost use Rattle.wast_numbered.specs.Steps.{step_of, step_view};
 use std::alloc::{AllocError, Global};
 use wast_core_instr::Instruction;
 use wast_parser::Id;
+use wast_spaces::copy;
 use wast_well_formed::Turn;
 
 /// What an instruction does to the blocks that are open, and the label of the one that it opens.
@@ -39,15 +40,5 @@ fn label_of<'a>(alloc: Global, instruction: &Instruction<'a>) -> Result<Option<I
         Instruction::Try(block) => copy(alloc, &block.label),
         Instruction::TryTable(try_table) => copy(alloc, &try_table.block.label),
         _ => Ok(None),
-    }
-}
-
-/// The same identifier, or none.
-fn copy<'a>(alloc: Global, id: &Option<Id<'a>>) -> Result<Option<Id<'a>>, AllocError>
-    ensures { IfOk result (λ copy. copy ≡ id.now) }
-{
-    match id {
-        Some(id) => Ok(Some(id.clone(alloc)?)),
-        None => Ok(None),
     }
 }

@@ -30,6 +30,7 @@ use wast_module_fields::{Expression, Instruction, Local};
 use wast_names::Namespace;
 use wast_parser::{Error, Id, Index};
 use wast_signatures::{FunctionType, Param, TypeUse};
+use wast_spaces::copy;
 
 /// Tests all that is mentioned in a constant expression.
 ///
@@ -237,16 +238,6 @@ fn add_locals<'a>(
         ids.push(copy(alloc, &local.id)?)?;
     }
     Ok(())
-}
-
-/// The same identifier, or none.
-fn copy<'a>(alloc: Global, id: &Option<Id<'a>>) -> Result<Option<Id<'a>>, AllocError>
-    ensures { IfOk result (λ copy. copy ≡ id.now) }
-{
-    match id {
-        Some(id) => Ok(Some(id.clone(alloc)?)),
-        None => Ok(None),
-    }
 }
 
 // INSTRUCTIONS

@@ -302,8 +302,8 @@ fn ids_of<'a>(alloc: Global, fields: &[StructField<'a>]) -> Result<Vec<Option<Id
     Ok(ids)
 }
 
-/// The same identifier, or none.
-fn copy<'a>(alloc: Global, id: &Option<Id<'a>>) -> Result<Option<Id<'a>>, AllocError>
+/// The identifier that an item bears, once more, or none. Fails only for want of memory.
+pub fn copy<'a>(alloc: Global, id: &Option<Id<'a>>) -> Result<Option<Id<'a>>, AllocError>
     ensures { IfOk result (λ copy. copy ≡ id.now) }
 {
     match id {
