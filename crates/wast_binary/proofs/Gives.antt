@@ -11,8 +11,10 @@ use Rattle.wasm_layout.specs.Present.{has_any, says_data, is_present}
 use Rattle.wasm_layout.specs.Section.{SectionKind, Types, Imports, Functions, Tables, Memories, Tags, Globals, Exports, Starts, Elements, DataCount, Hints, Codes, Datas, Names}
 use Rattle.wast_meant.specs.FieldsMeant.{types_of, imports_of, defined_in, functions_of, tables_of, memories_of, tags_of, globals_of, exports_of, starts_of, elements_of, datas_of}
 use Rattle.wast_meant.specs.NamesMeant.{imported, imported_function, defined_function, bodies_in, hints_from}
+use Rattle.wast_binary.specs.Gives.{defined_gives, gives}
 use Rattle.wast_binary.specs.Parts.{module_of}
-use Rattle.wast_binary.proofs.Lists.{flat_flat, all_flat, all_of}
+use Rattle.wast_name_maps.proofs.Joining.{flat_of}
+use Rattle.wast_binary.proofs.Lists.{all_flat, all_of}
 
 pub not_so : {A : Type 0} → true ≡ false → A
 not_so e = absurd (false≢true (sym e))
@@ -40,28 +42,6 @@ neither true b e = not_so e
 neither false b e = (refl, e)
 
 module _ {N P : Type 0} where
-  -- whether what is defined has something in the section of a kind
-  abbrev pub defined_gives : SectionKind → List (Defined N P) → Bool
-  defined_gives Functions ds = has_any (flat_map functions_of ds)
-  defined_gives Tables ds = has_any (flat_map tables_of ds)
-  defined_gives Memories ds = has_any (flat_map memories_of ds)
-  defined_gives Tags ds = has_any (flat_map tags_of ds)
-  defined_gives Globals ds = has_any (flat_map globals_of ds)
-  defined_gives DataCount ds = has_any (flat_map functions_of ds)
-  defined_gives Hints ds = has_any (flat_map functions_of ds)
-  defined_gives Codes ds = has_any (flat_map functions_of ds)
-  defined_gives k ds = false
-
-  -- whether a field has
-  abbrev pub gives : SectionKind → Field N P → Bool
-  gives Types f = has_any (types_of f)
-  gives Imports f = has_any (imports_of f)
-  gives Exports f = has_any (exports_of f)
-  gives Starts f = has_any (starts_of f)
-  gives Elements f = has_any (elements_of f)
-  gives Datas f = has_any (datas_of f)
-  gives k f = defined_gives k (defined_in f)
-
   -- HINTS: a field without functions has no bodies
   abbrev Bodiless : Option (Function N P) → Type 0
   Bodiless o = o ≡ None
@@ -92,7 +72,7 @@ module _ {N P : Type 0} where
 -- WHERE NO FIELD has anything
 module _ (given : Option (List ℕ)) (id : Option (Named Name ℕ)) (fs : List (Field Name ℕ)) where
   of_defined : {B : Type 0} (part : Defined Name ℕ → List B) → list_any (λ f. has_any (flat_map part (defined_in f))) fs ≡ false → has_any (flat_map part (flat_map defined_in fs)) ≡ false
-  of_defined part e = ap has_any (flat_flat part defined_in fs) ∙ any_joined (λ f. flat_map part (defined_in f)) fs ∙ e
+  of_defined part e = ap has_any (sym (flat_of part defined_in fs)) ∙ any_joined (λ f. flat_map part (defined_in f)) fs ∙ e
 
   -- but for names, which a module without fields may have
   abbrev pub Absent : SectionKind → Type 0

@@ -28,7 +28,8 @@ use Rattle.wast_binary.specs.Parts.{module_of, pieces_of, StopSound}
 use Rattle.wast_binary.specs.Puts.{SizesFit}
 use Rattle.wast_binary.specs.Weight.{AreFew}
 use Rattle.wast_binary.proofs.FewNames.{names_fit, bodies_fit}
-use Rattle.wast_binary.proofs.Lists.{all_at, all_more, all_flat, flat_all, all_both, flat_flat}
+use Rattle.wast_name_maps.proofs.Joining.{flat_of}
+use Rattle.wast_binary.proofs.Lists.{all_at, all_more, all_flat, flat_all, all_both}
 
 abbrev pub first_stop : Stop
 first_stop = At BeforeFirst
@@ -50,7 +51,7 @@ module _ (given : Option (List ℕ)) (id : Option (Named Name ℕ)) (fs : List (
   laid = laid_out same_name is_made name fs
 
   pub bytes_at_stops : flat_map piece_bytes (pieces that) ≡ flat_map stop_bytes stops
-  bytes_at_stops = ap (flat_map piece_bytes) laid ∙ flat_flat piece_bytes at stops
+  bytes_at_stops = ap (flat_map piece_bytes) laid ∙ sym (flat_of piece_bytes at stops)
 
   -- SIZES, of all pieces and stop by stop
   abbrev Fit : Piece → Type 0

@@ -46,9 +46,6 @@ no_counts f x h = tt
 body_some : (f : Function) → 1 ≤ length (uleb f.type_index)
 body_some f = uleb_some f.type_index
 
-runs_of : (f : Function) → BodyFits f → RunsFit f
-runs_of f h = h.locals.counts
-
 all_runs : (fs : List Function) → AllByRecursion BodyFits fs → AllByRecursion RunsFit fs
 all_runs [] h = tt
 all_runs (f ∷ fs) h = (h.0.locals.counts, all_runs fs h.1)

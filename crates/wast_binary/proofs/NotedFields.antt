@@ -1,5 +1,5 @@
 -- Which kinds of section are noted with fields.
-use Rattle.std.proofs.Common.{◌≡◌, ℕ, ◌+◌, ◌<◌, ◌≤◌, Bool, true, false, List, [], ◌∷◌, length, get_or, refl, sym, ◌∙◌}
+use Rattle.std.proofs.Common.{◌≡◌, ℕ, ◌+◌, ◌<◌, ◌≤◌, Bool, true, false, List, [], ◌∷◌, length, get_or, refl, sym, ap, ◌∙◌}
 use Rattle.wast_grammar.specs.Tokens.{Name}
 use Rattle.wast_signatures.specs.declared.signature.FunctionType.{FunctionType}
 use Rattle.wast_signatures.specs.declared.type_use.TypeUse.{TypeUse}
@@ -22,14 +22,31 @@ use Rattle.wast_module_fields.specs.TableKind.TheVariants as tables
 use Rattle.wast_module_fields.specs.ModuleFieldViews.{field_tree}
 use Rattle.wast_module_fields.specs.declared.field.ModuleField.{ModuleField}
 use Rattle.wast_module_fields.specs.declared.field.ModuleField.TheVariants as fields
-use Rattle.wast_binary.specs.Noted.{noted, has, Covers}
+use Rattle.wast_binary.specs.Noted.{Notes, has, Covers}
 use Rattle.wast_binary.specs.Sources.{fields_in}
 use Rattle.wast_binary.specs.Views.{kind_view}
 use Rattle.wast_binary.specs.declared.present.Present.{Present}
 use Rattle.wast_binary.specs.declared.stop.Kind.{Kind}
 use Rattle.wast_binary.specs.declared.stop.Kind.TheVariants as kinds
-use Rattle.wast_binary.proofs.Gives.{not_so, defined_gives, gives, absent}
+use Rattle.wast_binary.specs.Gives.{defined_gives, gives}
+use Rattle.wast_binary.proofs.Gives.{not_so, absent}
 use Rattle.wast_binary.proofs.Left.{Left, goes, ends, any_seen}
+
+-- what is noted with a field
+abbrev noted : Present → ModuleField → Present
+noted p (fields.TypeItem x) = record p { types = true }
+noted p (fields.Rec x) = record p { types = true }
+noted p (fields.Import x) = record p { imports = true }
+noted p (fields.Func x) = record p { functions = true }
+noted p (fields.Table x) = record p { tables = true }
+noted p (fields.Memory x) = record p { memories = true }
+noted p (fields.Tag x) = record p { tags = true }
+noted p (fields.Global x) = record p { globals = true }
+noted p (fields.Export x) = record p { exports = true }
+noted p (fields.Start x) = record p { starts = true }
+noted p (fields.Elem x) = record p { elements = true }
+noted p (fields.Data x) = record p { datas = true }
+noted p (fields.Custom x) = p
 
 -- WHAT IS DEFINED, whatever its kind, is in no other section
 imported_gives : (from name : List ℕ) (t : ExternType Name ℕ) (k : Kind) → defined_gives (kind_view k) (Imported from name t ∷ []) ≡ false
@@ -112,6 +129,11 @@ module _ (p : Present) where
   stays (fields.Data x) kinds.Datas h = not_so h
   stays f k h = h
 
+  pub notes : (q : Present) (f g : ModuleField) → f ≡ g → noted p g ≡ q → Notes f p q
+  notes q f g same is k h =
+      let has_none : has (noted p g) k ≡ false = ap (λ r. has r k) is ∙ h in
+      (stays g k has_none, ap (λ e. gives (kind_view k) (field_tree e)) same ∙ field_gives g k has_none)
+
 -- ALL FIELDS
 abbrev test : Kind → ModuleField → Bool
 test k f = gives (kind_view k) (field_tree f)
@@ -120,8 +142,8 @@ test k f = gives (kind_view k) (field_tree f)
 abbrev pub NotedSoFar : Present → List ModuleField → ℕ → Type 0
 NotedSoFar p fs i = (k : Kind) → has p k ≡ false → Left (test k) fs i
 
-pub one_noted : (p : Present) (fs : List ModuleField) (i : ℕ) (f : ModuleField) → i < length fs → f ≡ get_or fs i f → NotedSoFar p fs i → NotedSoFar (noted p f) fs (i + 1)
-one_noted p fs i f l e so k h = goes (test k) fs i f l e (field_gives p f k h) (so k (stays p f k h))
+pub one_noted : (p q : Present) (fs : List ModuleField) (i : ℕ) (f : ModuleField) → i < length fs → f ≡ get_or fs i f → Notes f p q → NotedSoFar p fs i → NotedSoFar q fs (i + 1)
+one_noted p q fs i f l e notes so k h = let n = notes k h in goes (test k) fs i f l e n.1 (so k n.0)
 
 pub all_noted : (p : Present) (fs : List ModuleField) (i : ℕ) → length fs ≤ i → NotedSoFar p fs i → Covers p fs
 all_noted p fs i l so given id kinds.Names h = not_so h

@@ -1,5 +1,6 @@
 pub mod Can
 pub mod DataCount
+pub mod Gives
 pub mod Noted
 pub mod Parts
 pub mod Puts

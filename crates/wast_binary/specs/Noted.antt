@@ -3,30 +3,15 @@ use Rattle.std.specs.Prelude.{ℕ, ◌≡◌, Bool, true, false, List, Option}
 use Rattle.wast_grammar.specs.Tokens.{Name}
 use Rattle.wast_parser.specs.Identifiers.{Named}
 use Rattle.wast_module_fields.specs.declared.field.ModuleField.{ModuleField}
-use Rattle.wast_module_fields.specs.declared.field.ModuleField.TheVariants as fields
+use Rattle.wast_module_fields.specs.ModuleFieldViews.{field_tree}
 use Rattle.wasm_layout.specs.Present.{is_present}
+use Rattle.wast_binary.specs.Gives.{gives}
 use Rattle.wast_binary.specs.Parts.{module_of}
 use Rattle.wast_binary.specs.Sources.{fields_in}
 use Rattle.wast_binary.specs.Views.{kind_view}
 use Rattle.wast_binary.specs.declared.present.Present.{Present}
 use Rattle.wast_binary.specs.declared.stop.Kind.{Kind}
 use Rattle.wast_binary.specs.declared.stop.Kind.TheVariants as kinds
-
--- what is noted with a field
-abbrev pub noted : Present → ModuleField → Present
-noted p (fields.TypeItem x) = record p { types = true }
-noted p (fields.Rec x) = record p { types = true }
-noted p (fields.Import x) = record p { imports = true }
-noted p (fields.Func x) = record p { functions = true }
-noted p (fields.Table x) = record p { tables = true }
-noted p (fields.Memory x) = record p { memories = true }
-noted p (fields.Tag x) = record p { tags = true }
-noted p (fields.Global x) = record p { globals = true }
-noted p (fields.Export x) = record p { exports = true }
-noted p (fields.Start x) = record p { starts = true }
-noted p (fields.Elem x) = record p { elements = true }
-noted p (fields.Data x) = record p { datas = true }
-noted p (fields.Custom x) = p
 
 -- whether what is noted has a section of a kind in it
 abbrev pub has : Present → Kind → Bool
@@ -45,6 +30,10 @@ has p kinds.Hints = p.functions
 has p kinds.Codes = p.functions
 has p kinds.Datas = p.datas
 has p kinds.Names = true
+
+-- one more field is noted: a kind that isn't had then wasn't before, and the field has nothing in its section
+abbrev pub Notes : ModuleField → Present → Present → Type 0
+Notes f old new = (kind : Kind) → has new kind ≡ false → (has old kind ≡ false) × (gives (kind_view kind) (field_tree f) ≡ false)
 
 -- a section that it doesn't have is absent from the module of these fields, whatever it is called
 abbrev pub Covers : Present → List ModuleField → Type 0

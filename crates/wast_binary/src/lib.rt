@@ -7,8 +7,8 @@
 //!
 //! Which module fields stand for is said by `Meaning` of `wast_meant`, and which bytes are its binary by `Lays` of `wasm_layout`. Of `specs/`,
 //! `Can` says what is known of fields that can be encoded, and `Parts` and `Puts` what stands at each stop and what appending it leaves. The
-//! others serve private contracts: `Views` and `Sources` say what contracts see of stops and of what is encoded, `Noted` which sections are known
-//! to be absent, `DataCount` which instructions refer to data, and `Weight` how much there is in fields.
+//! others serve private contracts: `Views` and `Sources` say what contracts see of stops and of what is encoded, `Gives` in which sections a field
+//! has something and `Noted` which are known to be absent, `DataCount` which instructions refer to data, and `Weight` how much there is in fields.
 #![tactic(auto)]
 
 mod data_count;

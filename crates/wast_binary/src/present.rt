@@ -1,6 +1,6 @@
 //! Which kinds of section there may be.
 ghost use Rattle.std.specs.Prelude.{◌≡◌};
-ghost use Rattle.wast_binary.specs.Noted.{Covers, has, noted};
+ghost use Rattle.wast_binary.specs.Noted.{Covers, Notes, has};
 
 use crate::stop::Kind;
 use wast_module_fields::ModuleField;
@@ -47,10 +47,11 @@ impl Present {
 
     /// One more field.
     fn note(&mut self, field: &ModuleField<'_>)
-        ensures { self.new ≡ noted self.old field.now }
+        ensures { Notes field.now self.old self.new }
     {
         match field {
-            ModuleField::TypeItem(_) | ModuleField::Rec(_) => self.types = true,
+            ModuleField::TypeItem(_) => self.types = true,
+            ModuleField::Rec(_) => self.types = true,
             ModuleField::Import(_) => self.imports = true,
             ModuleField::Func(_) => self.functions = true,
             ModuleField::Table(_) => self.tables = true,

@@ -11,11 +11,11 @@ use Rattle.wast_name_maps.specs.Numbered.{Numbered, none_yet, entries, behind, F
 
 -- ALL of a list, and of its parts
 module _ {B : Type 0} (P : B → Type 0) where
-  all_front : (xs ys : List B) → AllByRecursion P (xs ++ ys) → AllByRecursion P xs
+  pub all_front : (xs ys : List B) → AllByRecursion P (xs ++ ys) → AllByRecursion P xs
   all_front [] ys h = tt
   all_front (x ∷ xs) ys h = (h.0, all_front xs ys h.1)
 
-  all_back : (xs ys : List B) → AllByRecursion P (xs ++ ys) → AllByRecursion P ys
+  pub all_back : (xs ys : List B) → AllByRecursion P (xs ++ ys) → AllByRecursion P ys
   all_back [] ys h = h
   all_back (x ∷ xs) ys h = all_back xs ys h.1
 

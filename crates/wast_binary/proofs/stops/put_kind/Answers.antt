@@ -6,46 +6,46 @@ use Rattle.wast_module_fields.specs.ModuleFieldViews.{field_tree}
 use Rattle.wast_section_items.specs.Ready.{FieldReady}
 use Rattle.wast_binary.proofs.AtKind.{at_kind}
 use Rattle.wast_binary.proofs.Hinted.{fields_hinted}
-use Rattle.wast_binary.proofs.Lists.{all_seen}
+use Rattle.wast_conversions.proofs.Each.{each_of}
 use Rattle.wast_binary.proofs.Listed as kinds
 use Rattle.wast_binary.proofs.Others as others
 use Rattle.wast_binary.proofs.stops.put_kind.Goals as goal
 
 pub put_types-requires : goal.put_types-requires
-put_types-requires c = all_seen FieldReady field_tree c.args.fields.now c.requires.can.ready
+put_types-requires c = each_of FieldReady field_tree c.args.fields.now c.requires.can.ready
 
 pub put_imports-requires : goal.put_imports-requires
-put_imports-requires c = all_seen FieldReady field_tree c.args.fields.now c.requires.can.ready
+put_imports-requires c = each_of FieldReady field_tree c.args.fields.now c.requires.can.ready
 
 pub put_functions-requires : goal.put_functions-requires
-put_functions-requires c = all_seen FieldReady field_tree c.args.fields.now c.requires.can.ready
+put_functions-requires c = each_of FieldReady field_tree c.args.fields.now c.requires.can.ready
 
 pub put_tables-requires : goal.put_tables-requires
-put_tables-requires c = all_seen FieldReady field_tree c.args.fields.now c.requires.can.ready
+put_tables-requires c = each_of FieldReady field_tree c.args.fields.now c.requires.can.ready
 
 pub put_memories-requires : goal.put_memories-requires
-put_memories-requires c = all_seen FieldReady field_tree c.args.fields.now c.requires.can.ready
+put_memories-requires c = each_of FieldReady field_tree c.args.fields.now c.requires.can.ready
 
 pub put_tags-requires : goal.put_tags-requires
-put_tags-requires c = all_seen FieldReady field_tree c.args.fields.now c.requires.can.ready
+put_tags-requires c = each_of FieldReady field_tree c.args.fields.now c.requires.can.ready
 
 pub put_globals-requires : goal.put_globals-requires
-put_globals-requires c = all_seen FieldReady field_tree c.args.fields.now c.requires.can.ready
+put_globals-requires c = each_of FieldReady field_tree c.args.fields.now c.requires.can.ready
 
 pub put_exports-requires : goal.put_exports-requires
-put_exports-requires c = all_seen FieldReady field_tree c.args.fields.now c.requires.can.ready
+put_exports-requires c = each_of FieldReady field_tree c.args.fields.now c.requires.can.ready
 
 pub put_start-requires : goal.put_start-requires
-put_start-requires c = all_seen FieldReady field_tree c.args.fields.now c.requires.can.ready
+put_start-requires c = each_of FieldReady field_tree c.args.fields.now c.requires.can.ready
 
 pub put_elements-requires : goal.put_elements-requires
-put_elements-requires c = all_seen FieldReady field_tree c.args.fields.now c.requires.can.ready
+put_elements-requires c = each_of FieldReady field_tree c.args.fields.now c.requires.can.ready
 
 pub put_codes-requires : goal.put_codes-requires
-put_codes-requires c = all_seen FieldReady field_tree c.args.fields.now c.requires.can.ready
+put_codes-requires c = each_of FieldReady field_tree c.args.fields.now c.requires.can.ready
 
 pub put_datas-requires : goal.put_datas-requires
-put_datas-requires c = all_seen FieldReady field_tree c.args.fields.now c.requires.can.ready
+put_datas-requires c = each_of FieldReady field_tree c.args.fields.now c.requires.can.ready
 
 pub put_hints-requires : goal.put_hints-requires
 put_hints-requires c = fields_hinted (fields_in c.args.fields.now) c.requires.can.ready
