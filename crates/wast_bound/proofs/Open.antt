@@ -17,12 +17,6 @@ abbrev pub borne : Name → List (Option (Named Name ℕ)) → Bool
 borne n labels = list_any (bears same_name n) (map name_in labels)
 
 -- AN INSTRUCTION ITSELF
-pub none_opened : (n : Name) (t : Turn) (label : Option (Named Name ℕ)) (closed : ℕ) → 0 < closed → false ≡ borne n (turned t label closed (λ outside. []))
-none_opened n Opens label zero lt = absurd (omega (arith, lt))
-none_opened n Opens label (suc k) lt = refl
-none_opened n Closes label closed lt = refl
-none_opened n Stays label closed lt = refl
-
 or_false : (b : Bool) → b ≡ (b || false)
 or_false true = refl
 or_false false = refl

@@ -16,12 +16,6 @@ past [] ys k le = let same : k ≡ k - 0 = omega arith in ap (slice_get ys) same
 past (x ∷ xs) ys zero le = absurd (omega (arith, le))
 past (x ∷ xs) ys (suc k) le = let less : k - length xs ≡ suc k - suc (length xs) = omega arith in past xs ys k (omega (arith, le)) ∙ ap (slice_get ys) less
 
--- what stands at a place, as it is seen
-pub seen_at : {X Y : Type 0} (view : X → Y) (xs : List X) (x : X) (k : ℕ) → k < length xs → x ≡ get_or xs k x → Some (view x) ≡ slice_get (map view xs) k
-seen_at view [] x k lt at = absurd (omega (arith, lt))
-seen_at view (y ∷ xs) x zero lt at = ap (λ z. Some (view z)) at
-seen_at view (y ∷ xs) x (suc k) lt at = seen_at view xs x k (omega (arith, lt)) at
-
 -- A loop over xs, whose i-th element is x and writes the types ts.
 module _ {X Y T : Type 0} (view : X → Y) (writes : Y → List T) (xs : List X) where
   -- those from a place on
@@ -43,9 +37,6 @@ module _ {X Y T : Type 0} (view : X → Y) (writes : Y → List T) (xs : List X)
         → slice_get (types_from (i + 1)) (k - length ts) ≡ whole
     number_past x ts k whole lt at same le l = sym (past ts (types_from (i + 1)) k le) ∙ sym (ap (λ l. slice_get l k) (here x ts lt at same)) ∙ l
 
-    pub number_ends : (k : ℕ) (whole : Option T) → length xs ≤ i → slice_get (types_from i) k ≡ whole → None ≡ whole
-    number_ends k whole end l = sym (ap (λ ts. slice_get ts k) (ended end)) ∙ l
-
     -- BY A TEST
     module _ (p : T → Bool) where
       found_or : (x : X) (ts : List T) → i < length xs → x ≡ get_or xs i x → ts ≡ writes (view x) → find p (types_from i) ≡ option_or (find p ts) (find p (types_from (i + 1)))
@@ -56,9 +47,6 @@ module _ {X Y T : Type 0} (view : X → Y) (writes : Y → List T) (xs : List X)
 
       pub found_past : (x : X) (ts : List T) (whole : Option T) → i < length xs → x ≡ get_or xs i x → ts ≡ writes (view x) → None ≡ find p ts → find p (types_from i) ≡ whole → find p (types_from (i + 1)) ≡ whole
       found_past x ts whole lt at same none l = ap (λ o. option_or o (find p (types_from (i + 1)))) none ∙ sym (found_or x ts lt at same) ∙ l
-
-      pub found_ends : (whole : Option T) → length xs ≤ i → find p (types_from i) ≡ whole → None ≡ whole
-      found_ends whole end l = sym (ap (find p) (ended end)) ∙ l
 
       -- where it is told what h says of the first that passes
       module _ (h : Option T → Bool) where

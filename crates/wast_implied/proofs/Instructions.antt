@@ -1,11 +1,9 @@
 -- Which instructions use a type, and what parts of fields use.
-use Rattle.std.proofs.Common.{◌≡◌, ℕ, Bool, true, false, List, [], ◌∷◌, Option, Some, None, is_some, refl, sym, ap}
+use Rattle.std.proofs.Common.{◌≡◌, ℕ, true, false, List, [], ◌∷◌, Option, Some, None, is_some, refl, sym, ap}
 use Rattle.std.specs.List.{flat_map}
 use Rattle.wast_grammar.specs.Tokens.{Name}
 use Rattle.wast_signatures.specs.TypeTree as types
 use Rattle.wast_signatures.specs.SignatureViews.{use_tree}
-use Rattle.wast_signatures.specs.declared.signature.FunctionType.{FunctionType}
-use Rattle.wast_signatures.specs.declared.type_use.TypeUse.{TypeUse}
 use Rattle.wast_typed_operands.specs.TypedViews.{try_table_tree}
 use Rattle.wast_core_instr.specs.InstructionViews.{bulk_operands, gc_operands, vector_arg_operands, proposal_operands, instruction_operands, instruction_tree}
 use Rattle.wast_core_instr.specs.declared.instruction.Instruction.{Instruction}
@@ -21,12 +19,12 @@ use Rattle.wast_core_instr.specs.declared.proposal.ProposalOp.TheVariants as pro
 use Rattle.wast_imports.specs.ImportViews.{tag_tree}
 use Rattle.wast_imports.specs.declared.item.TagType.{TagType}
 use Rattle.wast_module_fields.specs.MemoryViews.{defined_memory}
-use Rattle.wast_module_fields.specs.FuncViews.{defined_tag, func_type_tree}
+use Rattle.wast_module_fields.specs.FuncViews.{defined_tag}
 use Rattle.wast_module_fields.specs.MemoryKind.{MemoryKind}
 use Rattle.wast_module_fields.specs.MemoryKind.TheVariants as memories
 use Rattle.wast_module_fields.specs.TagKind.{TagKind}
 use Rattle.wast_module_fields.specs.TagKind.TheVariants as tags
-use Rattle.wast_meaning.specs.Mentions.{Mention, Uses, UsesInBlock, says, syntax_of, extern_mentions, defined_parts, instr_mentions, part_mentions}
+use Rattle.wast_meaning.specs.Mentions.{Mention, Uses, UsesInBlock, syntax_of, defined_parts, instr_mentions, part_mentions}
 use Rattle.wast_meaning.specs.Implied.{is_short}
 use Rattle.wast_implied.specs.Shapes.{shape}
 use Rattle.wast_implied.specs.Known.{Known, unless_taken, after_use, after_sigs, after_mentions}
@@ -84,9 +82,6 @@ pub try_table_uses : (p : ℕ) (k : Known) (x : _) → after_mentions p k (UsesI
 try_table_uses p k x = sym (ap (after_sigs p k) (used_try_table (syntax_of (instruction_tree (instructions.TryTable x)).head) (try_table_tree x)))
 
 -- DEFINITIONS
-pub func_imports : (is_exact : Bool) (u : TypeUse FunctionType) → flat_map part_mentions (says (extern_mentions (func_type_tree is_exact u))) ≡ Uses (use_tree u) ∷ []
-func_imports true u = refl
-func_imports false u = refl
 
 pub tag_says : (kind : TagKind) (ty : TagType) → flat_map part_mentions (defined_parts (defined_tag kind ty)) ≡ Uses (tag_tree ty) ∷ []
 tag_says (tags.Import i) ty = refl

@@ -1,12 +1,11 @@
 -- Names and groups of names, one by one.
-use Rattle.std.proofs.Common.{ℕ, zero, suc, ◌≡◌, ◌+◌, ◌<◌, ◌^◌, true, false, nat_eq, List, [], ◌∷◌, ◌++◌, length, map, replicate, Option, Some, None, Result, Ok, Err, OnOk, IsErrOf, refl, sym, ap, ◌∙◌, subst, arith, zero-add}
+use Rattle.std.proofs.Common.{ℕ, zero, suc, ◌≡◌, ◌+◌, ◌<◌, ◌^◌, true, false, nat_eq, List, [], ◌∷◌, ◌++◌, length, map, replicate, Option, None, Result, Ok, Err, OnOk, IsErrOf, refl, sym, ap, ◌∙◌, subst, arith, zero-add}
 use Rattle.std.proofs.Common.{true≢false}
 use Rattle.std.specs.List.{flat_map, AllByRecursion}
-use Rattle.std.proofs.lemmas.Bool.{eqb-true}
 use Rattle.std.proofs.lemmas.List.{length-map}
 use Rattle.std.proofs.lemmas.List.Folds.{flat_map-map}
 use Rattle.wasm_encoder_bytes.specs.declared.error.EncodeError.{EncodeError}
-use Rattle.wasm_encoder_bytes.specs.declared.error.EncodeError.TheVariants.{Memory, TooLarge}
+use Rattle.wasm_encoder_bytes.specs.declared.error.EncodeError.TheVariants.{TooLarge}
 use Rattle.wasm_encoder_base.specs.Bytes.{counted}
 use Rattle.wasm_encoder_base.specs.Leb.{uleb}
 use Rattle.wasm_encoder_base.specs.Lists.{Listed, listed, list_bytes, with_item, HasRoom}
@@ -15,12 +14,8 @@ use Rattle.wasm_layout.specs.AbstractModule.{Naming, InnerNaming}
 use Rattle.wasm_layout.specs.Layout as layout
 use Rattle.wast_meant.specs.NamesMeant.{naming, named_from, named, inner_naming, inner_from, inner_named}
 use Rattle.wast_name_maps.specs.Listed.{name_item, inner_item}
-use Rattle.wast_name_maps.specs.Numbered.{Numbered, none_yet, entries, Fit, NameFits, NamesJoined, NamesJoin, GroupFits, group_naming, GroupsJoined, GroupsJoin}
+use Rattle.wast_name_maps.specs.Numbered.{Numbered, none_yet, entries, Fit, NameFits, NamesJoined, GroupFits, group_naming, GroupsJoined, GroupsJoin}
 use Rattle.wast_name_maps.proofs.Joining.{joined_nothing, joined_single, fit_nothing, can_single, room_single}
-
--- want of memory is not a size
-pub memory_apart : (e : EncodeError) → e ≡ Memory → e ≡ TooLarge → ⊥
-memory_apart e m t = let z : Memory ≡ TooLarge = sym m ∙ t in cc
 
 -- ENTRIES are what has names
 pub named_are : {A : Type 0} (n : ℕ) (os : List (Option A)) → entries naming n os ≡ named_from n os
@@ -34,18 +29,6 @@ groups_are n (g ∷ gs) = ap (λ v. inner_naming n (named g) ++ v) (groups_are (
 -- ONE NAME
 abbrev at : Listed → ℕ → Numbered
 at list n = record { list = list; next = n }
-
-pub name_none : (list : Listed) (n : ℕ) → NamesJoined (at list n) (at list (n + 1)) (None ∷ [])
-name_none list n = joined_nothing (at list n) (at list (n + 1)) (None ∷ []) refl refl
-
-pub name_joins : {T : Type 0} (r : Result T EncodeError) (list new : Listed) (n : ℕ) (name : List ℕ) → OnOk r (new ≡ with_item list (naming_bytes (record { index = n; name = name }))) → OnOk r (n < 2 ^ 32) → OnOk r (HasRoom list)
-    → OnOk r (length name < 2 ^ 32) → (IsErrOf r TooLarge → n < 2 ^ 32 → HasRoom list → length name < 2 ^ 32 → ⊥) → NamesJoin r (at list n) (at new (n + 1)) (Some name ∷ [])
-name_joins (Ok x) list new n name same index room size large =
-    joined_single (at list n) (at new (n + 1)) (Some name ∷ []) (record { index = n; name = name }) refl (ap (λ l. at l (n + 1)) same) (record { index = index; name = size }) room
-name_joins (Err e) list new n name same index room size large = λ is fits.
-    let r : Naming (List ℕ) = record { index = n; name = name } in
-    let can : NameFits r = can_single (at list n) (Some name ∷ []) r refl fits in
-    large (ap (λ x. Err x) is) can.index (room_single (at list n) (Some name ∷ []) r refl fits) can.name
 
 -- none of so many has a name
 none_named : (n k : ℕ) → entries naming n (replicate {A = Option (List ℕ)} k None) ≡ []
@@ -84,18 +67,9 @@ pub inner_bytes : (ns : List (InnerNaming (List ℕ))) → list_bytes (listed in
 inner_bytes ns = ap (λ n. uleb n ++ flat_map inner_item ns) (sym (length-map ns layout.inner_naming)) ∙ ap (λ b. uleb (length (map layout.inner_naming ns)) ++ b) (sym (flat_map-map inner_naming_bytes layout.inner_naming ns))
 
 -- ONE GROUP, without names and with some
-none_inside : (n : ℕ) (os : List (Option (List ℕ))) → named os ≡ [] → entries group_naming n (os ∷ []) ≡ []
-none_inside n os e = ap (λ v. inner_naming n v ++ []) e
 
 some_inside : (n : ℕ) (os : List (Option (List ℕ))) (x : Naming (List ℕ)) (xs : List (Naming (List ℕ))) → named os ≡ x ∷ xs → entries group_naming n (os ∷ []) ≡ record { index = n; names = x ∷ xs } ∷ []
 some_inside n os x xs e = ap (λ v. inner_naming n v ++ []) e
-
-pub group_none : (names : Numbered) (os : List (Option (List ℕ))) (list : Listed) (n : ℕ) → NamesJoined none_yet names os → nat_eq names.list.count 0 ≡ true → GroupsJoined (at list n) (at list (n + 1)) (os ∷ [])
-group_none names os list n h none = of (named os) refl
-  where
-    of : (ns : List (Naming (List ℕ))) → named os ≡ ns → GroupsJoined (at list n) (at list (n + 1)) (os ∷ [])
-    of [] e = joined_nothing (at list n) (at list (n + 1)) (os ∷ []) (none_inside n os e) refl
-    of (x ∷ xs) e = let z : suc (length xs) ≡ 0 = sym (ap length e) ∙ sym (ap (λ (l : Listed). l.count) (list_is names os h)) ∙ eqb-true names.list.count 0 none in cc
 
 pub group_joins : {T : Type 0} (r : Result T EncodeError) (names : Numbered) (os : List (Option (List ℕ))) (list new : Listed) (n : ℕ) → NamesJoined none_yet names os → nat_eq names.list.count 0 ≡ false
     → OnOk r (new ≡ with_item list (uleb n ++ list_bytes names.list)) → OnOk r (n < 2 ^ 32) → OnOk r (HasRoom list) → (IsErrOf r TooLarge → n < 2 ^ 32 → HasRoom list → ⊥) → GroupsJoin r (at list n) (at new (n + 1)) (os ∷ [])

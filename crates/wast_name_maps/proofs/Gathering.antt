@@ -11,7 +11,6 @@ use Rattle.wasm_encoder_base.specs.Table.{Space}
 use Rattle.wasm_encoder_custom.specs.Names.{InnerSpace}
 use Rattle.wast_grammar.specs.Tokens.{Name}
 use Rattle.wast_parser.specs.Identifiers.{identifier_tree}
-use Rattle.wast_value_types.specs.declared.global_type.GlobalType.{GlobalType}
 use Rattle.wast_parser_base.specs.Identifier.{Identifier}
 use Rattle.wast_parser_base.specs.declared.index.NameAnnotation.{NameAnnotation}
 use Rattle.wast_value_types.specs.declared.val_type.ValType.{ValType}
@@ -27,19 +26,9 @@ use Rattle.wast_imports.specs.ImportViews.{extern_tree, item_tree, member_tree, 
 use Rattle.wast_imports.specs.declared.item.ItemSig.{ItemSig}
 use Rattle.wast_imports.specs.declared.import.ImportGroup1Item.{ImportGroup1Item}
 use Rattle.wast_imports.specs.declared.import.ImportGroup2Item.{ImportGroup2Item}
-use Rattle.wast_module_fields.specs.ElemViews.{defined_table}
-use Rattle.wast_module_fields.specs.FuncViews.{defined_global}
-use Rattle.wast_module_fields.specs.MemoryViews.{defined_memory}
 use Rattle.wast_module_fields.specs.Local.{Local}
-use Rattle.wast_module_fields.specs.GlobalKind.{GlobalKind}
-use Rattle.wast_module_fields.specs.GlobalKind.TheVariants as globals
-use Rattle.wast_module_fields.specs.TableKind.{TableKind}
-use Rattle.wast_module_fields.specs.TableKind.TheVariants as tables
-use Rattle.wast_module_fields.specs.MemoryKind.{MemoryKind}
-use Rattle.wast_module_fields.specs.MemoryKind.TheVariants as memories
 use Rattle.wast_module_fields.specs.ModuleFieldViews.{field_tree}
 use Rattle.wast_module_fields.specs.declared.field.ModuleField.{ModuleField}
-use Rattle.wast_module_fields.specs.declared.field.ModuleField.TheVariants as fields
 use Rattle.wast_meaning.specs.Implied.{func_sig}
 use Rattle.wast_meaning.specs.Spaces.{Bound, bound_import, bound_type, fields_of, items, space_number, same_space}
 use Rattle.wast_meaning.specs.Views.{space_view}
@@ -49,7 +38,7 @@ use Rattle.wast_meaning.specs.declared.space.Space.TheVariants as spaces
 use denote.Enum.Bare.{sameb}
 use denote.Enum.Declared.{tag_of}
 use Rattle.wast_meant.specs.NamesMeant.{naming}
-use Rattle.wast_name_maps.specs.Gathered.{name_if, bound_names, label_names, type_groups, import_groups, defined_groups, field_groups}
+use Rattle.wast_name_maps.specs.Gathered.{name_if, bound_names, label_names, type_groups, import_groups, field_groups}
 use Rattle.wast_name_maps.specs.Given.{given, identified, sig_names}
 use Rattle.wast_name_maps.specs.Numbered.{Numbered, Fit, NameFits, NamesJoined, NamesJoin}
 use Rattle.wast_spaces.proofs.Written.{viewed}
@@ -148,35 +137,6 @@ pub each_grouped : (k : InnerSpace) (sig : ItemSig) (ms : List ImportGroup2Item)
 each_grouped k sig ms = viewed (λ m. extern_tree sig.kind) (import_groups k) ms ∙ ap (flat_map (import_groups k)) (each_imported sig ms)
 
 -- FIELDS that have nothing inside
-table_groups : (k : InnerSpace) (counts : List ℕ) (x : TableKind) → defined_groups k counts (defined_table x) ≡ []
-table_groups k counts (tables.Import i ty) = refl
-table_groups k counts (tables.Normal ty init) = refl
-table_groups k counts (tables.Inline is_wide elem payload) = refl
-
-memory_groups : (k : InnerSpace) (counts : List ℕ) (x : MemoryKind) → defined_groups k counts (defined_memory x) ≡ []
-memory_groups k counts (memories.Import i ty) = refl
-memory_groups k counts (memories.Normal ty) = refl
-memory_groups k counts (memories.Inline is_wide values page) = refl
-
-global_groups : (k : InnerSpace) (counts : List ℕ) (ty : GlobalType) (x : GlobalKind) → defined_groups k counts (defined_global ty x) ≡ []
-global_groups k counts ty (globals.Import i) = refl
-global_groups k counts ty (globals.Inline init) = refl
-
-pub no_groups : (k : InnerSpace) (counts : List ℕ) (f : ModuleField) → ((x : _) → f ≡ fields.TypeItem x → ⊥) → ((x : _) → f ≡ fields.Rec x → ⊥) → ((x : _) → f ≡ fields.Import x → ⊥) → ((x : _) → f ≡ fields.Func x → ⊥)
-    → ((x : _) → f ≡ fields.Tag x → ⊥) → field_groups k counts (field_tree f) ≡ []
-no_groups k counts (fields.TypeItem x) t r i g a = absurd (t x refl)
-no_groups k counts (fields.Rec x) t r i g a = absurd (r x refl)
-no_groups k counts (fields.Import x) t r i g a = absurd (i x refl)
-no_groups k counts (fields.Func x) t r i g a = absurd (g x refl)
-no_groups k counts (fields.Tag x) t r i g a = absurd (a x refl)
-no_groups k counts (fields.Table x) t r i g a = table_groups k counts x.kind
-no_groups k counts (fields.Memory x) t r i g a = memory_groups k counts x.kind
-no_groups k counts (fields.Global x) t r i g a = global_groups k counts x.ty x.kind
-no_groups k counts (fields.Export x) t r i g a = refl
-no_groups k counts (fields.Start x) t r i g a = refl
-no_groups k counts (fields.Elem x) t r i g a = refl
-no_groups k counts (fields.Data x) t r i g a = refl
-no_groups k counts (fields.Custom x) t r i g a = refl
 
 -- the fields of a structure
 pub struct_named : (fs : List StructField) → flat_map struct_names fs ≡ map identified (map (λ f. f.id) (map struct_field_tree fs))

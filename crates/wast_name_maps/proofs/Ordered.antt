@@ -31,7 +31,7 @@ use Rattle.wast_name_maps.specs.declared.kinds.Map.{Map}
 use Rattle.wast_name_maps.specs.declared.kinds.Map.TheVariants as maps
 use Rattle.wast_name_maps.specs.declared.kinds.Items.TheVariants as items
 use Rattle.wast_name_maps.specs.declared.kinds.Inside.TheVariants as insides
-use Rattle.wast_name_maps.specs.Subsections.{ModuleFits, KindIs, if_any, module_bytes, subsection_if}
+use Rattle.wast_name_maps.specs.Subsections.{KindIs, if_any, module_bytes, subsection_if}
 
 abbrev pub items_bytes : Space → List (Naming (List ℕ)) → List ℕ
 items_bytes space names = flat_map name_subsection_bytes (if_there (has_any names) (Names space (map naming names)))
@@ -83,10 +83,6 @@ items_size s (n ∷ ns) total l h = let part = section_size (number_of s) (count
 inside_size : (s : InnerSpace) (ns : List (InnerNaming (List ℕ))) (total : ℕ) → length (inside_bytes s ns) ≤ total → total < 2 ^ 32 → length (counted inner_naming_bytes (map inner_naming ns)) < 2 ^ 32
 inside_size s [] total l h = empty_size
 inside_size s (n ∷ ns) total l h = let part = section_size (inner_number_of s) (counted inner_naming_bytes (map inner_naming (n ∷ ns))) in omega arith
-
-module_size : (name : Option (List ℕ)) (total : ℕ) → length (module_bytes name) ≤ total → total < 2 ^ 32 → ModuleFits name
-module_size None total l h = tt
-module_size (Some name) total l h = let part = section_size 0 (sized name) in omega arith
 
 -- where all maps fit, each does: its parts are short
 some_byte : (n : ℕ) → 1 ≤ length (uleb n)
@@ -154,9 +150,6 @@ inside_fit names s gs same h =
       each = subst (AllByRecursion GroupFits) (sym all) (can_groups 0 ns (h.are_names.inner s).indices (h.are_names.inner s).each (omega arith));
       count = subst (λ v. 0 < length v → 0 + length v < 2 ^ 32) (sym all) (λ l. omega arith);
     }
-
-pub module_fits : (names : NameMaps (List ℕ)) → NamesFit names → ModuleFits names.module_name
-module_fits names h = module_size names.module_name (length (name_bytes names)) (part_at names 0 (omega arith)) h.size
 
 -- INDICES RISE, since they are counted
 rises : (n least : ℕ) (os : List (Option (List ℕ))) → least ≤ n → AllByRecursion NameFits (named_from n os) → Rise least (map (λ r. r.index) (named_from n os))

@@ -15,9 +15,6 @@ pub twice : {X Y Z : Type 0} (g : Y → Z) (h : X → Y) (xs : List X) → map (
 twice g h [] = refl
 twice g h (x ∷ xs) = ap (λ l. g (h x) ∷ l) (twice g h xs)
 
-pub joined_both : (s : names.Space Name) (xs ys : List (Option (Named Name ℕ))) → joined (joined s xs) ys ≡ joined s (xs ++ ys)
-joined_both s xs ys = sym (reached_append grows s xs ys)
-
 -- LOOPS
 pub joined_more : {X : Type 0} (v : X → Option (Named Name ℕ)) (s now new : names.Space Name) (xs : List X) (i : ℕ) (x : X) → i < length xs → x ≡ get_or xs i x
     → now ≡ joined s (map v (take i xs)) → new ≡ names.grown same_name now (names.name_in (v x)) → new ≡ joined s (map v (take (i + 1) xs))

@@ -73,18 +73,6 @@ pub kept_below : (blocks : List OpenBlock) (levels : BTreeMap Identifier ℕ) (n
 kept_below blocks levels n k kept e = let below = level_below n (labels_of blocks) k (sym (kept.levels_are n) ∙ e) in omega (arith, below, labels_long blocks)
 
 -- ONE MORE BLOCK
-pub kept_opened : (blocks : List OpenBlock) (old new : BTreeMap Identifier ℕ) (b : OpenBlock) → IsKept blocks old → length blocks < 4294967295
-    → b.outer ≡ option_and_then (level_in old) (name_in (option_map identifier_tree b.label))
-    → ((n : Name) → level_in new n ≡ (if bears same_name n (name_in (option_map identifier_tree b.label)) then Some (length blocks) else level_in old n)) → IsKept (b ∷ blocks) new
-kept_opened blocks old new b kept few outer entered =
-    let label = name_in (option_map identifier_tree b.label) in
-    record {
-      few = omega (arith, few);
-      levels_are = λ n.
-          entered n ∙ ap (λ o. if bears same_name n label then Some (length blocks) else o) (kept.levels_are n)
-          ∙ ap (λ k. if bears same_name n label then Some k else level n (labels_of blocks)) (sym (labels_long blocks));
-      outer = (outer ∙ ap (λ f. option_and_then f label) (λ i n. kept.levels_are n i), kept.outer);
-    }
 
 -- ONE LESS
 left_level : (n : Name) (labels : Labels) (label : Option Name) (outer before : Option ℕ) → outer ≡ option_and_then (λ m. level m labels) label

@@ -1,12 +1,11 @@
 -- What judges and tests answer of demands.
-use Rattle.std.proofs.Common.{◌≡◌, ◌⊎◌, ℕ, List, [], ◌∷◌, ◌++◌, true, false, None, inl, inr, sym, subst, ◌∙◌, ap, append-nil, Result, Ok, Err}
+use Rattle.std.proofs.Common.{◌≡◌, ℕ, List, [], ◌∷◌, ◌++◌, None, sym, subst, ◌∙◌, ap, append-nil, Result, Ok, Err}
 use Rattle.std.specs.List.{flat_map}
 use Rattle.wast_grammar.specs.Tokens.{Name}
 use Rattle.wast_parser.specs.Problem.{Problem}
-use Rattle.wast_parser.specs.Reading.{out_of_memory}
 use Rattle.wast_names.specs.Walk.{first_unmet}
-use Rattle.wast_names.specs.Demand.{Demand, is_met, told, Tells, Refuses, Answers}
-use Rattle.wast_names.proofs.Walk.{first_met, first_not_met, unmet_after}
+use Rattle.wast_names.specs.Demand.{Demand, is_met, Refuses, Answers}
+use Rattle.wast_names.proofs.Walk.{unmet_after}
 use Rattle.wast_names.proofs.Demands.{refuses_second}
 use Rattle.wast_mentions.specs.Judging.{Judged}
 use Rattle.wast_scopes.specs.Views.{Refused}
@@ -30,9 +29,3 @@ pub answers_as : {T : Type 0} (r : Result T Problem) (xs ys : List (Demand Name 
 answers_as r xs ys e h = subst (λ ds. Answers r ds) e h
 
 -- ONE DEMAND
-pub met_one : (d : Demand Name ℕ) → d.holds ≡ true → first_unmet is_met (d ∷ []) ≡ None
-met_one d h = first_met is_met d [] h
-
-pub refused_one : (d : Demand Name ℕ) (p : Problem) → d.holds ≡ false → (p ≡ out_of_memory) ⊎ (p ≡ told d) → Refuses (d ∷ []) p
-refused_one d p h (inl memory) = inl memory
-refused_one d p h (inr tells) = inr (subst (λ o. Tells o p) (sym (first_not_met is_met d [] h)) tells)

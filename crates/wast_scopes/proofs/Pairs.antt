@@ -39,20 +39,10 @@ module _ {X : Type 0} (seen : X → NumberedValue) where
       → alike (drop i xs) (drop i ys) ≡ (same_numbered_value (seen x) (value_of_numbered y) && alike (drop (i + 1) xs) (drop (i + 1) ys))
   both xs ys i x y hx ex hy ey = ap (λ l. alike l (drop i ys)) (rest_is xs i x hx ex) ∙ ap (alike (x ∷ drop (i + 1) xs)) (rest_is ys i y hy ey)
 
-  -- two that are the same leave the rest
-  pub alike_more : (xs : List X) (ys : List NumberedType) (i : ℕ) (x : X) (y : NumberedType) (whole : Bool) → i < length xs → x ≡ get_or xs i x → i < length ys → y ≡ get_or ys i y
-      → same_numbered_value (seen x) (value_of_numbered y) ≡ true → alike (drop i xs) (drop i ys) ≡ whole → alike (drop (i + 1) xs) (drop (i + 1) ys) ≡ whole
-  alike_more xs ys i x y whole hx ex hy ey same l = sym (both xs ys i x y hx ex hy ey ∙ ap (λ b. b && alike (drop (i + 1) xs) (drop (i + 1) ys)) same) ∙ l
-
   -- two that aren't end it
   pub alike_stops : (xs : List X) (ys : List NumberedType) (i : ℕ) (x : X) (y : NumberedType) (whole : Bool) → i < length xs → x ≡ get_or xs i x → i < length ys → y ≡ get_or ys i y
       → same_numbered_value (seen x) (value_of_numbered y) ≡ false → alike (drop i xs) (drop i ys) ≡ whole → false ≡ whole
   alike_stops xs ys i x y whole hx ex hy ey other l = sym (both xs ys i x y hx ex hy ey ∙ ap (λ b. b && alike (drop (i + 1) xs) (drop (i + 1) ys)) other) ∙ l
-
-  -- and so does a shorter list
-  pub alike_short : (xs : List X) (ys : List NumberedType) (i : ℕ) (x : X) (whole : Bool) → i < length xs → x ≡ get_or xs i x → length ys ≤ i
-      → alike (drop i xs) (drop i ys) ≡ whole → false ≡ whole
-  alike_short xs ys i x whole hx ex hy l = sym (ap (λ l. alike l (drop i ys)) (rest_is xs i x hx ex) ∙ ap (alike (x ∷ drop (i + 1) xs)) (drop_all i ys hy)) ∙ l
 
   ended : (ys : List NumberedType) (i : ℕ) → i ≤ length ys → alike [] (drop i ys) ≡ nat_eq i (length ys)
   ended ys i h = of (nat_eq i (length ys)) refl

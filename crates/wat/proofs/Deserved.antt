@@ -11,9 +11,6 @@ use Rattle.wast_core.specs.ModuleSyntax.{wat}
 use Rattle.wasm_layout.specs.AbstractModule.{AbstractModule}
 use Rattle.wast_meant.specs.Means as worths
 use Rattle.wast_encode.specs.Encoded.{StandsFor, IsBinaryOf}
-use Rattle.wast_encode.specs.Encoded as encoded
-use Rattle.wast_encode.specs.declared.fault.EncodeFault.{EncodeFault}
-use Rattle.wast_encode.specs.declared.fault.EncodeFault.TheVariants as encoding
 use Rattle.wat_verdict.specs.Spells.{Spells}
 use Rattle.wat_verdict.specs.Naming.{unmet_demand}
 use Rattle.wat_verdict.specs.Verdict.{NotUtf8, Fails, Accepts, Assembles, tree_breach}
@@ -24,7 +21,7 @@ use Rattle.wat.specs.declared.fault.Fault.TheVariants as faults
 use Rattle.wat.specs.Unspelled.{IsUnspelled}
 use Rattle.wat.specs.Headline.{Deserves}
 use Rattle.wat.specs.NoText.{IsNoText}
-use Rattle.wat.specs.Judged.{IsEncoded, IsJudged, IsAnswered, IsTold, as_fault}
+use Rattle.wat.specs.Judged.{IsEncoded, IsJudged, IsAnswered, IsTold}
 
 pub no_text : (bytes : List ℕ) (f : Fault) → IsNoText bytes f → Deserves bytes f
 no_text bytes faults.TooLong t = t
@@ -59,13 +56,6 @@ unrefused tree ts s = elim s [
   | inl m ↦ sym (ap (λ (x : Module Name ℕ). x.refusal) m.4.1)
   | inr m ↦ sym (ap (λ (x : Module Name ℕ). x.refusal) m.1)
 ]
-
--- what encoding answers of a well formed tree
-pub judged_of : (tree : Module Name ℕ) (f : EncodeFault) → tree_breach tree ≡ None → encoded.Deserves 0 tree f → IsJudged tree (as_fault f)
-judged_of tree (encoding.Unmet error) b d = (b, d)
-judged_of tree (encoding.Uncovered span form) b d = (b, d.0, d.1)
-judged_of tree encoding.TooLarge b d = d
-judged_of tree encoding.Memory b d = tt
 
 module _ (bytes : List ℕ) (short : length bytes < 2 ^ 32) (utf8 : IsUtf8 bytes) where
   module _ (tree : Module Name ℕ) (s : Spells bytes tree) where
