@@ -83,10 +83,6 @@ neither : (a b : Bool) → not (a || b) ≡ true → (a ≡ false) × (not b ≡
 neither false b h = (refl, h)
 neither true b h = absurd (cc)
 
-is_not : (b : Bool) → not b ≡ true → b ≡ false
-is_not false h = refl
-is_not true h = absurd (cc)
-
 -- no fresh name is this one
 abbrev Avoids : Name → List Name → Type 0
 Avoids n [] = Unit {0}

@@ -293,9 +293,6 @@ spread_white opened at n y post o rest some white t =
           subst (λ k. Tiles false false k t.0 post) (sym far) (subst (λ b. Tiles false b ((at + n) + length y.text) t.0 post) (ends_white y.text blank) t.4);
     }
 
-starts_after : (p : ℕ → Bool) (opened : Bool) (from : ℕ) (rest : List ℕ) (y : Lexeme) (ls : List Lexeme) → Tiles false opened from rest (y ∷ ls) → starts p rest ≡ starts p y.text
-starts_after p opened from rest y ls t = ap (starts p) t.2 ∙ starts_front p y.text t.0 t.3.nonempty
-
 spread : (opened o : Bool) (at n : ℕ) (rest : List ℕ) (after : List Lexeme) → 0 < n → (o ≡ false) ⊎ (starts (λ d. not (is_line_end d)) rest ≡ false) → Tiles false o (at + n) rest after → Spread opened at n after
 spread opened o at n rest [] some closing t = spread_alone opened at n [] some refl refl
 spread opened o at n rest (y ∷ after) some closing t = elim (cases_Bool (is_white y.kind)) [
