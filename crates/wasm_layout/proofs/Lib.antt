@@ -1,6 +1,7 @@
 pub mod Examples
 pub mod HadBack
 pub mod HintPlaces
+pub mod Joined
 pub mod Pieces
 pub mod Readings
 pub mod Spelled

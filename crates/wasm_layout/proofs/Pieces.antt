@@ -14,6 +14,7 @@ use Rattle.wasm_layout.specs.Present.{is_present, is_called}
 use Rattle.wasm_layout.specs.Layout.{if_there, contents_of, Section, section, sections, Piece, Known, Free, weave, number, contents, piece_bytes, pieces, name_bytes}
 use Rattle.wasm_layout.specs.Lays.{Reads}
 use Rattle.wasm_layout.proofs.HadBack.{true_is_not_false, AreOf, once, had_back}
+use Rattle.wasm_layout.proofs.Joined.{all_joined}
 
 abbrev hints_text : List ℕ
 hints_text = codes "metadata.code.branch_hint"
@@ -187,10 +188,6 @@ free_gap (c ∷ cs) p q =
     let h = or_false (same_text hints_text c.name) (calls hints_text cs) q in
     ((not_names c n.0, not_hints c h.0), free_gap cs n.1 h.1)
 
-both : {A : Type 0} (P : A → Type 0) (xs ys : List A) → AllByRecursion P xs → AllByRecursion P ys → AllByRecursion P (xs ++ ys)
-both P [] ys p q = q
-both P (x ∷ xs) ys p q = (p.0, both P xs ys p.1 q)
-
 abbrev AreTitled : List Section → Type 0
 AreTitled ss = AllByRecursion (λ s. IsTitled s.kind s.contents) ss
 
@@ -205,7 +202,7 @@ sound [] (g ∷ gs) t p q = free_gap g (or_false (calls names_text g) (is_called
 sound (s ∷ ss) (g ∷ gs) t p q =
     let n = or_false (calls names_text g) (is_called names_text gs) p in
     let h = or_false (calls hints_text g) (is_called hints_text gs) q in
-    both IsSound (map Free g) (Known s ∷ weave ss gs) (free_gap g n.0 h.0) (t.0, sound ss gs t.1 n.1 h.1)
+    all_joined IsSound (map Free g) (Known s ∷ weave ss gs) (free_gap g n.0 h.0) (t.0, sound ss gs t.1 n.1 h.1)
 
 -- the sections of a module
 module _ (m : AbstractModule (List ℕ)) where
@@ -235,7 +232,7 @@ module _ (m : AbstractModule (List ℕ)) where
 
   all_titled : (ks : List SectionKind) → AreTitled (flat_map slot ks)
   all_titled [] = tt
-  all_titled (k ∷ ks) = both (λ s. IsTitled s.kind s.contents) (slot k) (flat_map slot ks) (slot_titled (is_present m k) k) (all_titled ks)
+  all_titled (k ∷ ks) = all_joined (λ s. IsTitled s.kind s.contents) (slot k) (flat_map slot ks) (slot_titled (is_present m k) k) (all_titled ks)
 
   slot_of : (b : Bool) (k : SectionKind) → AreOf (λ s. rank s.kind) (rank k) (if_there b (section m k))
   slot_of true k = (refl, tt)

@@ -2,7 +2,7 @@
 use Rattle.std.proofs.Common.{ℕ, zero, suc, ◌+◌, ◌<◌, List, [], ◌∷◌, length, take, get_or, sym, arith, subst}
 use Rattle.std.specs.List.{flat_map, AllByRecursion}
 use Rattle.std.proofs.lemmas.List.{take_more}
-use Rattle.wast_name_maps.proofs.Joining.{all_both as all_joined, all_front, all_back}
+use Rattle.wasm_layout.proofs.Joined.{all_joined, all_front, all_back}
 
 module _ {A : Type 0} (P : A → Type 0) where
   -- of one of them

@@ -25,12 +25,9 @@ use Rattle.wast_encode_laws.specs.Bounds.{BodyFits, BodiesFit}
 use Rattle.wast_encode_laws.specs.Formed.{HintsFit, IsFormed, DefinedFormed, FieldFormed}
 use Rattle.wast_encode_laws.proofs.Placed.{meant_of, bodies, sections_of, functions_placed}
 use Rattle.wast_encode_laws.proofs.Formed.{formed}
+use Rattle.wasm_layout.proofs.Joined.{all_joined}
 
 -- LISTS
-pub all_joined : {A : Type 0} (Q : A → Type 0) (xs ys : List A) → AllByRecursion Q xs → AllByRecursion Q ys → AllByRecursion Q (xs ++ ys)
-all_joined Q [] ys a b = b
-all_joined Q (x ∷ xs) ys a b = (a.0, all_joined Q xs ys a.1 b)
-
 all_both : {A : Type 0} (Q : A → Type 0) (xs ys : List A) → All Q xs → All Q ys → All Q (xs ++ ys)
 all_both Q [] ys a b = b
 all_both Q (x ∷ xs) ys a b = All-cons Q x (xs ++ ys) (All-head Q x xs a) (all_both Q xs ys (All-tail Q x xs a) b)

@@ -10,7 +10,8 @@ use Rattle.wasm_layout.specs.AbstractModule.{Naming, InnerNaming}
 use Rattle.wasm_layout.specs.IsModule.{Rise, IsMap, IsInner, AreInner, AreNames}
 use Rattle.wast_meant.specs.NamesMeant.{GivenName, naming, named_from, named, inner_naming, inner_from, inner_named, space_of, given_name, names_of, inner_names}
 use Rattle.wast_encode_laws.specs.Bounds.{inner_lists, NamesFit}
-use Rattle.wast_encode_laws.proofs.Hints.{all_joined, rise_below}
+use Rattle.wasm_layout.proofs.Joined.{all_joined}
+use Rattle.wast_encode_laws.proofs.Hints.{rise_below}
 
 module _ {A : Type 0} where
   own_rise : (n : ℕ) (o : Option A) (rest : List (Naming A)) → n < 2 ^ 32 → Rise (suc n) (map (λ x. x.index) rest) → Rise n (map (λ x. x.index) (naming n o ++ rest))

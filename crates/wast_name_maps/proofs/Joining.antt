@@ -5,23 +5,10 @@ use Rattle.std.proofs.lemmas.Grind.{flat_map-append}
 use Rattle.wasm_encoder_bytes.specs.declared.error.EncodeError.{EncodeError}
 use Rattle.wasm_encoder_bytes.specs.declared.error.EncodeError.TheVariants.{TooLarge}
 use Rattle.wasm_encoder_base.specs.Lists.{with_item, HasRoom}
+use Rattle.wasm_layout.proofs.Joined.{all_joined, all_front, all_back}
 use Rattle.wast_spaces.proofs.Joins.{one_more, all_of}
 use Rattle.wast_name_maps.specs.Listed.{with_items}
 use Rattle.wast_name_maps.specs.Numbered.{Numbered, none_yet, entries, behind, Fit, Joined, Joins}
-
--- ALL of a list, and of its parts
-module _ {B : Type 0} (P : B → Type 0) where
-  pub all_front : (xs ys : List B) → AllByRecursion P (xs ++ ys) → AllByRecursion P xs
-  all_front [] ys h = tt
-  all_front (x ∷ xs) ys h = (h.0, all_front xs ys h.1)
-
-  pub all_back : (xs ys : List B) → AllByRecursion P (xs ++ ys) → AllByRecursion P ys
-  all_back [] ys h = h
-  all_back (x ∷ xs) ys h = all_back xs ys h.1
-
-  pub all_both : (xs ys : List B) → AllByRecursion P xs → AllByRecursion P ys → AllByRecursion P (xs ++ ys)
-  all_both [] ys f b = b
-  all_both (x ∷ xs) ys f b = (f.0, all_both xs ys f.1 b)
 
 -- SO MANY: counts that fit together, and apart
 count_front : (c a b : ℕ) → (0 < a + b → c + (a + b) < 2 ^ 32) → 0 < a → c + a < 2 ^ 32
@@ -105,7 +92,7 @@ module _ {A B : Type 0} (one : ℕ → A → List B) (spell : B → List ℕ) wh
         let back = entries one (s.next + length xs) ys in
         let sum : length (entries one s.next (xs ++ ys)) ≡ length front + length back = ap length (entries_then one s.next xs ys) ∙ length-append front back in
         record {
-          each = subst (AllByRecursion CanBe) (sym (entries_then one s.next xs ys)) (all_both CanBe front back f.each b.each);
+          each = subst (AllByRecursion CanBe) (sym (entries_then one s.next xs ys)) (all_joined CanBe front back f.each b.each);
           count = subst (λ k. 0 < k → s.list.count + k < 2 ^ 32) (sym sum) (count_both s.list.count (length front) (length back) f.count b.count);
         }
 

@@ -22,7 +22,8 @@ use Rattle.wast_meant.specs.NamesMeant as meant
 use Rattle.wast_meant.specs.NamesMeant.{named, named_from, inner_named, inner_from}
 use Rattle.wast_name_maps.specs.Listed.{name_item, inner_item}
 use Rattle.wast_name_maps.specs.Numbered.{Numbered, none_yet, entries, Fit, NameFits, NamesJoined, GroupFits, group_naming, GroupsJoined}
-use Rattle.wast_name_maps.proofs.Joining.{all_both, flat_of}
+use Rattle.wasm_layout.proofs.Joined.{all_joined}
+use Rattle.wast_name_maps.proofs.Joining.{flat_of}
 use Rattle.wast_name_maps.proofs.Entries.{named_are, groups_are, list_is, groups_list_is, map_bytes, inner_bytes}
 use Rattle.wast_name_maps.specs.Fits.{NamesFit}
 use Rattle.wast_name_maps.specs.Kinds.{map_view}
@@ -271,7 +272,7 @@ pub record Done (names : NameMaps (List ℕ)) (base section : List ℕ) (i : ℕ
 pub done_more : (names : NameMaps (List ℕ)) (base old new : List ℕ) (i : ℕ) (d : MapKind) → i < 14 → Done names base old i → new ≡ old ++ kind_bytes names (get_or map_order i d) → KindIs names (get_or map_order i d) → Done names base new (i + 1)
 done_more names base old new i d l h same kind = record {
   bytes = order_step names i d base old new l h.bytes same;
-  kinds = subst (AllByRecursion (KindIs names)) (sym (take_more map_order i d l)) (all_both (KindIs names) (take i map_order) (get_or map_order i d ∷ []) h.kinds (kind, tt));
+  kinds = subst (AllByRecursion (KindIs names)) (sym (take_more map_order i d l)) (all_joined (KindIs names) (take i map_order) (get_or map_order i d ∷ []) h.kinds (kind, tt));
 }
 
 -- where the indices of each rise, all are names

@@ -1,11 +1,12 @@
 -- Sections that are built field by field.
-use Rattle.std.proofs.Common.{◌≡◌, ℕ, zero, suc, ◌<◌, ◌^◌, List, [], ◌∷◌, ◌++◌, map, length, take, sym, ap, ◌∙◌, subst, arith}
+use Rattle.std.proofs.Common.{◌≡◌, ℕ, zero, suc, ◌<◌, ◌^◌, List, [], ◌∷◌, map, length, take, sym, ap, ◌∙◌, subst, arith}
 use Rattle.std.specs.Prelude.{Result, Err}
 use Rattle.std.specs.List.{flat_map, AllByRecursion, slice_index_or}
 use Rattle.std.proofs.lemmas.List.Folds.{flat_map-map, length-flat_map-take}
 use Rattle.wasm_encoder_base.specs.EncodeError.{EncodeError}
 use Rattle.wasm_encoder_base.specs.EncodeError.TheVariants.{TooLarge}
 use Rattle.wasm_encoder_base.specs.Lists.{Listed, listed}
+use Rattle.wasm_layout.proofs.Joined.{all_front, all_back}
 use Rattle.wast_section_items.specs.Appends.{Appends}
 use Rattle.wast_sections.specs.Holds.{Holds, map_ok}
 
@@ -17,19 +18,11 @@ module _ {A : Type 0} (spell : A → List ℕ) (Fits Sound : A → Type 0) where
     pub fit : AllByRecursion Fits items
     pub sound : AllByRecursion Sound items
 
-  fit_front : (xs ys : List A) → AllByRecursion Fits (xs ++ ys) → AllByRecursion Fits xs
-  fit_front [] ys h = tt
-  fit_front (x ∷ xs) ys h = (h.0, fit_front xs ys h.1)
-
-  fit_back : (xs ys : List A) → AllByRecursion Fits (xs ++ ys) → AllByRecursion Fits ys
-  fit_back [] ys h = h
-  fit_back (x ∷ xs) ys h = fit_back xs ys h.1
-
   -- the items of one of these fields
   fit_at : {F : Type 0} (items : F → List A) (fs : List F) (k : ℕ) (d : F) → k < length fs → AllByRecursion Fits (flat_map items fs) → AllByRecursion Fits (items (slice_index_or fs k d))
   fit_at items [] k d l h = absurd (omega (arith, l))
-  fit_at items (f ∷ fs) zero d l h = fit_front (items f) (flat_map items fs) h
-  fit_at items (f ∷ fs) (suc k) d l h = fit_at items fs k d (omega (arith, l)) (fit_back (items f) (flat_map items fs) h)
+  fit_at items (f ∷ fs) zero d l h = all_front Fits (items f) (flat_map items fs) h
+  fit_at items (f ∷ fs) (suc k) d l h = fit_at items fs k d (omega (arith, l)) (all_back Fits (items f) (flat_map items fs) h)
 
   -- where those of one field are too large, those of all are
   pub too_large_at : {F T : Type 0} (tree : F → T) (items : T → List A) (fs : List F) (k : ℕ) (f : F) (before after : Listed) (r : Result (Unit {0}) EncodeError) (e : EncodeError) → k < length fs
