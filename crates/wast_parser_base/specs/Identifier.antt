@@ -28,6 +28,10 @@ hash_input x = fed.u32 x.generation ++ fed.str x.name
 abbrev pub read_name : List ℕ → ℕ → Identifier
 read_name name place = record { name = name; generation = 0; place = place }
 
+-- what each that is made is called
+abbrev pub made_text : List ℕ
+made_text = codes "gensym"
+
 -- the one that is made with this number
 abbrev pub made_name : ℕ → ℕ → Identifier
-made_name generation place = record { name = codes "gensym"; generation = generation; place = place }
+made_name generation place = record { name = made_text; generation = generation; place = place }

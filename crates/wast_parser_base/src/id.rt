@@ -4,8 +4,8 @@ ghost use Rattle.std.proofs.Common.{rules};
 ghost use Rattle.std.specs.Cmp.{partial_order_from_own_ties};
 ghost use Rattle.std.specs.Cmp.Rules.{comparing, hashing};
 ghost use Rattle.std.specs.Ordering.{as_partial_cmp};
-ghost use Rattle.std.specs.Cow.{cow_str_bytes};
-ghost use Rattle.std.specs.Prelude.{◌≡◌, IfOk};
+ghost use Rattle.std.specs.Cow.{cow_str_bytes, IsOwnedStr};
+ghost use Rattle.std.specs.Prelude.{◌≡◌, IfOk, IsOk};
 ghost use Rattle.wast_parser_base.specs.Identifier.{made_name, read_name};
 
 use std::alloc::{AllocError, Global};
@@ -56,9 +56,10 @@ impl<'a> Id<'a> {
     }
 
     /// The same for a name that may own its memory, as one that is written as a string with escapes. Such a name is put into a box,
-    /// so this fails only for want of memory.
+    /// so this fails only for want of memory, of which one that is borrowed needs none.
     pub fn decoded(alloc: Global, name: CowStr<'a, Global>, span: Span) -> Result<Self, AllocError>
-        ensures { IfOk result (λ id. id ≡ read_name (cow_str_bytes name.entry) span) }
+        ensures same { IfOk result (λ id. id ≡ read_name (cow_str_bytes name.entry) span) }
+        ensures borrowed { (IsOwnedStr name.entry → ⊥) → IsOk result }
     {
         match name {
             CowStr::Borrowed(name) => Ok(Id::new(name, span)),
@@ -107,9 +108,10 @@ impl<'a> Id<'a> {
         self.span
     }
 
-    /// The same identifier at the same place. Fails only for want of memory.
+    /// The same identifier at the same place. Fails only for want of memory, of which one that was made needs none.
     pub fn clone(&self, alloc: Global) -> Result<Self, AllocError>
-        ensures { IfOk result (λ copy. copy ≡ self.now) }
+        ensures same { IfOk result (λ copy. copy ≡ self.now) }
+        ensures made { (self.now.generation ≡ 0 → ⊥) → IsOk result }
     {
         let name = match &self.name {
             Name::Read(name) => Name::Read(*name),

@@ -11,5 +11,5 @@ returns c =
     on_ok_weaker c.push.result
     (λ h. h
     ∙ ap (λ f. map field_tree c.args.out.now.items ++ f ∷ []) c.export_field.ensures
-    ∙ ap (λ own. map field_tree c.args.out.now.items ++ export_of c.args.span (kind_view c.args.kind) (identifier_tree own) (export_name_tree c.args.export) ∷ []) c.in_ok-own.ensures)
+    ∙ ap (λ own. map field_tree c.args.out.now.items ++ export_of c.args.span (kind_view c.args.kind) (identifier_tree own) (export_name_tree c.args.export) ∷ []) c.in_ok-own.ensures.same)
     c.push.ensures

@@ -15,7 +15,7 @@ returns-in_ok-clone-clause-written c =
     let said = sym c.is_said-is_said.ensures ∙ c.if-is_said.true in
     on_ok_weaker c.write_parts.result
     (λ h. h ∙ ap (λ l. map field_tree c.args.out.now.items ++ l)
-    (said_parts (made c.args.gensym.now) d (identifier_tree c.own_id-id.result) _ said c.own_id-id.ensures.named (ap identifier_tree c.in_ok-clone.ensures)))
+    (said_parts (made c.args.gensym.now) d (identifier_tree c.own_id-id.result) _ said c.own_id-id.ensures.named (ap identifier_tree c.in_ok-clone.ensures.same)))
     c.write_parts.ensures
 
 pub returns-in_ok-clone-clause-counted : goal.returns-in_ok-clone-clause-counted
