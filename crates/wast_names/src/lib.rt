@@ -2,7 +2,7 @@
 //!
 //! A [`Namespace`] counts the items of one index space, and knows their names. [`Namespace::register`] adds an item;
 //! [`Namespace::resolve`] makes an index the number that it means, and [`Namespace::number_of`] only tells it. Names are kept in
-//! order, so n items cost n log n whatever their names are.
+//! order, so n items cost n log n whatever their names are. [`copied_id`] copies the identifier that an item bears.
 //!
 //! ```
 //! let mut names = Namespace::new(alloc);
@@ -40,4 +40,4 @@
 pub mod laws;
 mod namespace;
 
-pub use namespace::{Namespace, resolve_error};
+pub use namespace::{Namespace, copied_id, resolve_error};

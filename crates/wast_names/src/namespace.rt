@@ -1,6 +1,6 @@
 //! Name spaces.
 
-ghost use Rattle.std.specs.Prelude.{◌≡◌, ◌⊎◌, ℕ, ◌+◌, ◌-◌, ◌^◌, ◌<◌, Bool, true, false, List, [], ◌∷◌, IfErr, IfOk, OnErr, OnOk, None, Some, is_some, option_map, length, map};
+ghost use Rattle.std.specs.Prelude.{◌≡◌, ◌⊎◌, ℕ, ◌+◌, ◌-◌, ◌^◌, ◌<◌, Bool, true, false, List, [], ◌∷◌, IfErr, IfOk, IsOk, OnErr, OnOk, None, Some, is_some, option_map, length, map};
 ghost use Rattle.wast_parser.specs.Tokens.{Name};
 ghost use Rattle.wast_parser.specs.Spelling.{same_name};
 ghost use Rattle.wast_parser.specs.Identifiers.{identifier_tree, index_tree};
@@ -9,7 +9,7 @@ ghost use Rattle.wast_names.specs.Demand.{Answers, Refuses, Unknown, told};
 ghost use Rattle.wast_names.specs.Views.{space};
 ghost use Rattle.wast_names.specs.Space.{bound, distinct, empty, fresh, grown, is_free, known, last_counts, name_in, number_of, registered, resolved, space_of};
 
-use std::alloc::Global;
+use std::alloc::{AllocError, Global};
 use std::collections::BTreeMap;
 use wast_parser::{Error, Id, Index};
 
@@ -47,7 +47,7 @@ impl<'a> Namespace<'a> {
     {
         let mut names = Namespace::new(alloc);
         for item in items {
-            names.register(copy(alloc, item)?, desc)?;
+            names.register(copied_id(alloc, item)?, desc)?;
         }
         Ok(names)
     }
@@ -186,12 +186,12 @@ pub fn resolve_error(alloc: Global, id: &Id<'_>, ns: &str) -> Error
     }
 }
 
-/// The same identifier, or none.
-fn copy<'a>(alloc: Global, item: &Option<Id<'a>>) -> Result<Option<Id<'a>>, Error>
-    ensures copied { IfOk result (λ copy. copy ≡ item.now) }
-    ensures memory { IfErr result (λ e. e ≡ out_of_memory) }
+/// The identifier that an item bears, once more, or none. Fails only for want of memory, of which none is asked for where it bears none.
+pub fn copied_id<'a>(alloc: Global, id: &Option<Id<'a>>) -> Result<Option<Id<'a>>, AllocError>
+    ensures same { IfOk result (λ copy. copy ≡ id.now) }
+    ensures none { id.now ≡ None → IsOk result }
 {
-    match item {
+    match id {
         Some(id) => Ok(Some(id.clone(alloc)?)),
         None => Ok(None),
     }

@@ -7,8 +7,8 @@ ghost use Rattle.wast_numbered.specs.Steps.{step_of, step_view};
 
 use std::alloc::{AllocError, Global};
 use wast_core_instr::Instruction;
+use wast_names::copied_id;
 use wast_parser::Id;
-use wast_spaces::copy;
 use wast_well_formed::Turn;
 
 /// What an instruction does to the blocks that are open, and the label of the one that it opens.
@@ -34,11 +34,11 @@ fn label_of<'a>(alloc: Global, instruction: &Instruction<'a>) -> Result<Option<I
     ensures { IfOk result (λ label. option_map identifier_tree label ≡ own_label (instruction_tree instruction.now).operands) }
 {
     match instruction {
-        Instruction::Block(block) => copy(alloc, &block.label),
-        Instruction::Loop(block) => copy(alloc, &block.label),
-        Instruction::If(block) => copy(alloc, &block.label),
-        Instruction::Try(block) => copy(alloc, &block.label),
-        Instruction::TryTable(try_table) => copy(alloc, &try_table.block.label),
+        Instruction::Block(block) => copied_id(alloc, &block.label),
+        Instruction::Loop(block) => copied_id(alloc, &block.label),
+        Instruction::If(block) => copied_id(alloc, &block.label),
+        Instruction::Try(block) => copied_id(alloc, &block.label),
+        Instruction::TryTable(try_table) => copied_id(alloc, &try_table.block.label),
         _ => Ok(None),
     }
 }

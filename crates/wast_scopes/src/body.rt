@@ -27,10 +27,9 @@ use std::alloc::{AllocError, Global};
 use wast_meaning::Space;
 use wast_mentions::{Judge, Mention, Tell};
 use wast_module_fields::{Expression, Instruction, Local};
-use wast_names::Namespace;
+use wast_names::{Namespace, copied_id};
 use wast_parser::{Error, Id, Index};
 use wast_signatures::{FunctionType, Param, TypeUse};
-use wast_spaces::copy;
 
 /// Tests all that is mentioned in a constant expression.
 ///
@@ -197,7 +196,7 @@ fn written_ids<'a>(alloc: Global, params: &[Param<'a>]) -> Result<Vec<Option<Id<
 {
     let mut ids = Vec::new(alloc);
     for param in params {
-        ids.push(copy(alloc, &param.0)?)?;
+        ids.push(copied_id(alloc, &param.0)?)?;
     }
     Ok(ids)
 }
@@ -235,7 +234,7 @@ fn add_locals<'a>(
     ensures { OnOk result (ids.new.items ≡ ids.old.items ++ map (λ l. l.id) locals.now) }
 {
     for local in locals {
-        ids.push(copy(alloc, &local.id)?)?;
+        ids.push(copied_id(alloc, &local.id)?)?;
     }
     Ok(())
 }

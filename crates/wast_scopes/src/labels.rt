@@ -14,6 +14,7 @@ use crate::block::OpenBlock;
 use std::alloc::{AllocError, Global};
 use std::collections::BTreeMap;
 use std::marker::Model;
+use wast_names::copied_id;
 use wast_parser::{Id, Index};
 
 /// The labels of the blocks that are open at a place (6.5.1 and 6.5.2). Contracts see a list of them, the innermost first.
@@ -65,7 +66,7 @@ impl<'a> Labels<'a> {
             _ => return Err(AllocError),
         };
         let block = open_block(self.alloc, &self.levels, label)?;
-        let key = copy(self.alloc, label)?;
+        let key = copied_id(self.alloc, label)?;
         self.blocks.push(block)?;
         match enter(&mut self.levels, key, level) {
             Ok(()) => Ok(()),
@@ -138,7 +139,7 @@ fn open_block<'a>(
         Some(id) => levels.get(id).copied(),
         None => None,
     };
-    let label = copy(alloc, label)?;
+    let label = copied_id(alloc, label)?;
     Ok(OpenBlock { label, outer })
 }
 
@@ -181,15 +182,5 @@ fn is_borne<'a>(label: &Option<Id<'a>>, id: &Id<'a>) -> bool
     match label {
         Some(label) => label == id,
         None => false,
-    }
-}
-
-/// The same label, or none.
-fn copy<'a>(alloc: Global, label: &Option<Id<'a>>) -> Result<Option<Id<'a>>, AllocError>
-    ensures { IfOk result (λ copy. copy ≡ label.now) }
-{
-    match label {
-        Some(id) => Ok(Some(id.clone(alloc)?)),
-        None => Ok(None),
     }
 }

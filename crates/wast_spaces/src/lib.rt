@@ -3,8 +3,7 @@
 //! [`Spaces::of`] numbers the items of fields, and refuses the first that bears the name of another, segments aside, and likewise fields of
 //! structures; [`Spaces::space`] answers one of the spaces, and [`Spaces::fields_of`] that of the fields of a type. [`check_order`] refuses
 //! a list of fields in which an import stands behind a definition of a function, a table, a memory, a global or a tag; an import may be a
-//! field of its own or stand inline. [`param_counts`] tells with how many parameters the locals of a function begin, by its type,
-//! and [`copy`] copies the identifier that one of them, or an item, bears.
+//! field of its own or stand inline. [`param_counts`] tells with how many parameters the locals of a function begin, by its type.
 //!
 //! ```text
 //! (func) (import "m" "f" (func))
@@ -39,4 +38,4 @@ mod spaces;
 
 pub use order::check_order;
 pub use params::param_counts;
-pub use spaces::{Spaces, copy};
+pub use spaces::Spaces;

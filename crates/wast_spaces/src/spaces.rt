@@ -29,7 +29,7 @@ use wast_module_fields::{
     ImportGroup1Item, ImportGroup2Item, ImportItems, Imports, ItemKind, ItemSig, Memory,
     MemoryKind, ModuleField, Table, TableKind, TypeItem,
 };
-use wast_names::Namespace;
+use wast_names::{Namespace, copied_id};
 use wast_parser::{Error, Id};
 use wast_signatures::StructField;
 
@@ -265,7 +265,7 @@ fn register<'a>(
     if joined.count() == u32::MAX {
         return Err(Error::from(AllocError));
     }
-    joined.register(copy(alloc, id)?, word)?;
+    joined.register(copied_id(alloc, id)?, word)?;
     Ok(())
 }
 
@@ -297,19 +297,9 @@ fn ids_of<'a>(alloc: Global, fields: &[StructField<'a>]) -> Result<Vec<Option<Id
 {
     let mut ids = Vec::new(alloc);
     for field in fields {
-        ids.push(copy(alloc, &field.id)?)?;
+        ids.push(copied_id(alloc, &field.id)?)?;
     }
     Ok(ids)
-}
-
-/// The identifier that an item bears, once more, or none. Fails only for want of memory.
-pub fn copy<'a>(alloc: Global, id: &Option<Id<'a>>) -> Result<Option<Id<'a>>, AllocError>
-    ensures { IfOk result (λ copy. copy ≡ id.now) }
-{
-    match id {
-        Some(id) => Ok(Some(id.clone(alloc)?)),
-        None => Ok(None),
-    }
 }
 
 /// Which kind of item is imported.

@@ -22,7 +22,7 @@ returns-in_err-register-clause-answers c =
     let x = c.item-item.result in
     let whole = walked_map (option_map identifier_tree) (after_item same_name kind) (fresh kind) empty items in
     let p = err_from_is_err_and c.from_residual-in_err-register.result c.from_residual-in_err-register.ensures.1 in
-    let asked : Refuses (asks kind s x) c.in_err-register.field-0.0 = subst (λ (y : Option Identifier). Refuses (asks kind s y) c.in_err-register.field-0.0) c.in_ok-copy.ensures.copied c.in_err-register.ensures.answers in
+    let asked : Refuses (asks kind s x) c.in_err-register.field-0.0 = subst (λ (y : Option Identifier). Refuses (asks kind s y) c.in_err-register.field-0.0) c.in_ok-copied_id.ensures.same c.in_err-register.ensures.answers in
     rw (p.1, p.2) (walk_refuses (after kind) (asks kind) s items c.loop-item.item-index x (distinct same_name kind (map (option_map identifier_tree) items)) c.in_err-register.field-0.0 c.loop-item-test.true c.item-item.is (c.loop-item.invariant.met ∙ ap (first_unmet is_met) (sym whole)) asked)
 
 pub returns-clause-answers : goal.returns-clause-answers
@@ -40,9 +40,9 @@ loop-item-preserved c =
     let i = c.loop-item.item-index in
     let x = c.item-item.result in
     let grows : space c.register.new.self ≡ after kind s x =
-    c.in_ok-register.ensures.grows ∙ ap (λ (y : Option Identifier). after kind s y) c.in_ok-copy.ensures.copied in
+    c.in_ok-register.ensures.grows ∙ ap (λ (y : Option Identifier). after kind s y) c.in_ok-copied_id.ensures.same in
     let met : first_unmet is_met (asks kind s x) ≡ None =
-    ap (λ (y : Option Identifier). first_unmet is_met (asks kind s y)) (sym c.in_ok-copy.ensures.copied) ∙ c.in_ok-register.ensures.answers in
+    ap (λ (y : Option Identifier). first_unmet is_met (asks kind s y)) (sym c.in_ok-copied_id.ensures.same) ∙ c.in_ok-register.ensures.answers in
     record {
       known = grows ∙ ap (λ t. after kind t x) c.loop-item.invariant.known ∙ sym (reached_more (after kind) empty items i x c.loop-item-test.true c.item-item.is);
       met = walk_more (after kind) (asks kind) is_met s (space c.register.new.self) items i x _ c.loop-item-test.true c.item-item.is met grows c.loop-item.invariant.met;
