@@ -20,6 +20,10 @@ no_items = record { count = 0; bytes = [] }
 abbrev pub with_item : Listed → List ℕ → Listed
 with_item list item = record { count = list.count + 1; bytes = list.bytes ++ item }
 
+-- with these items behind its own
+abbrev pub with_items : {A : Type 0} → (A → List ℕ) → Listed → List A → Listed
+with_items spell list items = record { count = list.count + length items; bytes = list.bytes ++ flat_map spell items }
+
 -- the count of one more item is a number of 32 bits, as the binary format asks
 abbrev pub HasRoom : Listed → Type 0
 HasRoom list = list.count + 1 < 2 ^ 32

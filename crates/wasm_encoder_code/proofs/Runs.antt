@@ -95,10 +95,6 @@ first_joined other (l ∷ ls) n =
     ∙ ap (λ rs. record { count = leading t (t ∷ us); val_type = t } ∷ joined rs)
     (drop-map val_view (leading t us) ls ∙ ap (λ n. map val_view (drop n (l ∷ ls))) (sym (leading_same t t us (type_self t))))
 
-pub first_some : (other : types.ValType) (ls : List types.ValType) → 0 < length ls → 0 < leading (val_view (get_or ls 0 other)) (map val_view ls)
-first_some other [] n = absurd (omega arith)
-first_some other (l ∷ ls) n = let more = leading_same (val_view l) (val_view l) (map val_view ls) (type_self (val_view l)) in omega (arith, more)
-
 pub all_at : {A : Type 0} (P : A → Type 0) (xs : List A) (y : A) (ys : List A) → AllByRecursion P (xs ++ (y ∷ ys)) → P y
 all_at P [] y ys h = h.0
 all_at P (x ∷ xs) y ys h = all_at P xs y ys h.1

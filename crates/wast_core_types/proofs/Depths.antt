@@ -8,7 +8,7 @@ use Rattle.wast_parser.specs.Grammar.{one_of, word}
 use Rattle.wast_grammar.proofs.Looks.{bind_ok, some_one}
 use Rattle.wast_parser.proofs.GrammarLaws.{one_open, shrinks, word_laws}
 use Rattle.wast_signatures.specs.TypeTree.{CompType, InnerType}
-use Rattle.wast_signatures.specs.TypeSyntax.{shared_starts, comp_starts, comp_step, comp_type, inner_type, as_shared, unshared}
+use Rattle.wast_signatures.specs.TypeSyntax.{shared_starts, comp_starts, comp_step, comp_type, as_shared, unshared}
 use Rattle.wast_core_types.specs.Depths.{closed, within, opened}
 use Rattle.wast_core_types.proofs.TypeLaws.{comp_steps}
 use Rattle.wast_core_types.proofs.Turns.{fix_turn}
@@ -74,15 +74,8 @@ shared_unopened n ts a e = first (one_of that_open ts) refl e
     first None f h = rw (comp_turn ts, a, f) refl
     first (Some o) f h = second o f ((word shared).reads o.1) refl h
 
-pub shared_faulty : (n : ℕ) (ts : Tokens) → ask shared_starts ts ≡ None → within n ts ≡ None
-shared_faulty n ts a = rw (comp_turn ts, a) refl
-
 abbrev plain : InnerType Name ℕ × Tokens → Option (Comp × Tokens)
 plain x = Some (unshared x.0, x.1)
-
--- where no group is left to be opened
-pub inner_read : (ts : Tokens) → ask shared_starts ts ≡ Some false → comp_type.reads ts ≡ (inner_type.reads ts >>= plain)
-inner_read ts a = rw (comp_turn ts, a) refl
 
 -- each group takes a token
 pub opened_shorter : (ts : Tokens) (x : Unit {0} × Tokens) → opened shared ts ≡ Some x → length x.1 < length ts

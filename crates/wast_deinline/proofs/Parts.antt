@@ -100,27 +100,6 @@ module _ {N P : Type 0} where
   alone_field p id given (Global t init) = refl
   alone_field p id given (Tag u) = refl
 
-  -- without a segment nothing is left out
-  pub whole_alone : (d : Defined N P) → has_segment d ≡ false → d ≡ alone d
-  whole_alone (Imported from name t) h = refl
-  whole_alone (Func f) h = refl
-  whole_alone (Table t init) h = refl
-  whole_alone (TableOf wide t es) h = absurd (cc)
-  whole_alone (Memory t) h = refl
-  whole_alone (MemoryOf wide page vs) h = absurd (cc)
-  whole_alone (Global t init) h = refl
-  whole_alone (Tag u) h = refl
-
-  pub whole_segment : (p : P) (own : Named N P) (d : Defined N P) → has_segment d ≡ false → [] ≡ segment_of p own d
-  whole_segment p own (Imported from name t) h = refl
-  whole_segment p own (Func f) h = refl
-  whole_segment p own (Table t init) h = refl
-  whole_segment p own (TableOf wide t es) h = absurd (cc)
-  whole_segment p own (Memory t) h = refl
-  whole_segment p own (MemoryOf wide page vs) h = absurd (cc)
-  whole_segment p own (Global t init) h = refl
-  whole_segment p own (Tag u) h = refl
-
   -- the same, as it is referred to
   pub said_parts : (fresh : N) (d : Definition N P) (own copy : Named N P) → is_said d ≡ true → own ≡ name_or fresh d → copy ≡ own → parts_out own (record d { id = Some copy }) ≡ definition_out fresh d
   said_parts fresh d own copy said is same =

@@ -1,16 +1,14 @@
 -- Expressions keep the laws, if their instructions do.
 use Rattle.std.specs.Prelude.{codes}
 use Rattle.std.proofs.Common.{◌≡◌, ℕ, suc, Bool, cond, true, false, List, [], ◌∷◌, refl, sym, ◌∙◌, subst, Some, ap}
-use Rattle.wast_grammar.specs.Spelling.{that_text, that_one}
-use Rattle.wast_grammar.specs.Look.{On, Any, AWord, AString, fits, this_word, this_group, this_annotation, holds, OneOf, apart, any_end, join}
+use Rattle.wast_grammar.specs.Look.{On, AWord, fits, this_group, this_annotation, holds, OneOf, apart, any_end, join}
 use Rattle.wast_grammar.specs.Grammar.{Syntax, wide, seq, seen, only, maybe, many, either, paren, group, word, string, mark}
 use Rattle.wast_grammar.specs.Behind.{row}
-use Rattle.wast_grammar.specs.Lawful.{Lawful, LawfulBut, Paired}
+use Rattle.wast_grammar.specs.Lawful.{Lawful, LawfulBut}
 use Rattle.wast_grammar.proofs.Looks.{join_left, within_self, some_one}
 use Rattle.wast_grammar.proofs.GrammarLaws.{word_laws, string_laws, mark_laws, seen_laws, seq_laws, only_laws, maybe_laws, many_laws, group_laws, paren_laws, fenced_laws, either_laws}
-use Rattle.wast_grammar.proofs.Twins.{token_twins, seen_twins, only_twins, seq_twins, maybe_twin, many_twin, paren_twins, fenced_twins, group_twins, annotation_twins, either_twins, wide_twins}
-use Rattle.wast_grammar.proofs.RecursionLaws.{Under, Steps, under_self, under_seen, under_only, under_seq, under_led, under_next_but, under_maybe, under_many, under_row, under_either, under_paren, under_fenced, under_less, fix_laws, fix_twins}
-use Rattle.wast_grammar.proofs.BehindLaws.{Second, but_of, seen_but, only_but, seq_but, either_but, next_but_laws, row_laws, next_but_twins, row_twin}
+use Rattle.wast_grammar.proofs.RecursionLaws.{Under, Steps, under_self, under_seen, under_only, under_seq, under_led, under_next_but, under_maybe, under_many, under_row, under_either, under_paren, under_fenced, under_less, fix_laws}
+use Rattle.wast_grammar.proofs.BehindLaws.{Second, but_of, seen_but, only_but, seq_but, either_but, next_but_laws, row_laws}
 use Rattle.wast_expressions.specs.Items.{Items, Made}
 use Rattle.wast_expressions.specs.Expressions.{GroupKind, OfOperands, OfBlock, OfArms, Heads, hint_mark, hint_tests, is_hint, hint_value, hint_body, hint, Group, Item, Alone, Grouped, chain, one_hint, ins_tests, group_tests, item_tests, then_tests, else_tests, inside_tests, one_ins, own_item, item, items_over, arms_of, arms, inside, group_of, group_step, groups, items, expression, plain_of, plain_step, plain, led_or_plain, without_hints, folded_of, folded_instruction, data_offset}
 use Rattle.wast_expressions.specs.Heeds.{Heeds}
@@ -27,12 +25,6 @@ module _ {N P : Type 0} where
 
   pub maybe_hint_laws : Lawful (maybe hint_tests (hint {N = N} {P = P}))
   maybe_hint_laws = maybe_laws hint_tests hint hint_laws refl refl refl
-
-  pub hint_twins : Paired (hint {N = N} {P = P})
-  hint_twins = seen_twins hint_value _ (annotation_twins hint_mark _ (only_twins is_hint string (token_twins that_text (On false AString Any ∷ []))))
-
-word_twins : {N P : Type 0} (v : List ℕ) → Paired (word {N = N} {P = P} v)
-word_twins v = token_twins (that_one v) (this_word v ∷ [])
 
 -- four tests, the third left out and in another order
 reorder : (g h i t : Bool) → cond g true (cond h true (cond t true false)) ≡ true → cond h true (cond i true (cond g true (cond t true false))) ≡ true
@@ -175,44 +167,3 @@ module _ {N P I : Type 0} (ins : Syntax N P I) (heads : Heads I) (li : LawfulBut
 
   pub data_offset_laws : (m : Made P I) → Lawful (data_offset ins heads m)
   data_offset_laws m = either_laws (this_group (codes "offset") ∷ []) (group (codes "offset") (expression ins heads m)) (folded_instruction ins heads m) (led_expression_laws m (codes "offset")) (folded_laws m) refl refl refl (rw heeds.no_offset refl)
-
-  -- TWINS
-  module _ (pi : Paired (one_ins ins heads)) where
-    module _ (g : Syntax N P (Group P I)) (pg : Paired g) where
-      items_over_twins : Paired (items_over ins heads g)
-      items_over_twins = seen_twins chain _ (row_twin (item_tests heads) (item ins heads g) (λ x. own_item ins heads x.1) (only_twins one_hint _ (seq_twins (maybe hint_tests hint) _ (maybe_twin hint_tests hint hint_twins) (either_twins (ins_tests heads) _ _ (seen_twins Alone _ pi) (seen_twins Grouped g pg)))))
-
-      arms_twins : Paired (arms ins heads g)
-      arms_twins = seen_twins (arms_of ins heads) _ (seq_twins _ _ (many_twin (group_tests heads) g pg) (seq_twins (maybe hint_tests hint) _ (maybe_twin hint_tests hint hint_twins) (seq_twins _ _ (paren_twins _ (seen_twins (λ p. p.1) _ (seq_twins (word (codes "then")) _ (word_twins (codes "then")) items_over_twins))) (maybe_twin else_tests _ (paren_twins _ (seq_twins (word (codes "else")) _ (word_twins (codes "else")) items_over_twins))))))
-
-      inside_twins : (k : GroupKind) → Paired (inside ins heads g k)
-      inside_twins OfOperands = seen_twins _ _ items_over_twins
-      inside_twins OfBlock = seen_twins _ _ items_over_twins
-      inside_twins OfArms = arms_twins
-
-      step_twins : Paired (group_step ins heads g)
-      step_twins = seen_twins (group_of ins heads) _ (fenced_twins _ (next_but_twins (one_ins ins heads) heads.own (λ i. inside ins heads g (heads.kind i)) (inside_tests heads) pi (λ i. inside_twins (heads.kind i))))
-
-    pub groups_twins : Paired (groups ins heads)
-    groups_twins = fix_twins (group_tests heads) false [] (group_step ins heads) group_steps (λ g pg. step_twins (wide (group_tests heads) false [] g) (wide_twins (group_tests heads) false [] g pg))
-
-    pub items_twins : Paired (items ins heads)
-    items_twins = items_over_twins (groups ins heads) groups_twins
-
-    pub expression_twins : (m : Made P I) → Paired (expression ins heads m)
-    expression_twins m = seen_twins _ (items ins heads) items_twins
-
-    plain_step_twins : (g : Syntax N P (List I)) → Paired g → Paired (plain_step ins heads g)
-    plain_step_twins g pg = seen_twins (plain_of ins heads) _ (paren_twins _ (next_but_twins (one_ins ins heads) heads.own (λ _. row (group_tests heads) g (λ _. [])) (group_tests heads) pi (λ _. row_twin (group_tests heads) g (λ _. []) pg)))
-
-    pub plain_twins : Paired (plain ins heads)
-    plain_twins = fix_twins (group_tests heads) false [] (plain_step ins heads) plain_steps (λ g pg. plain_step_twins (wide (group_tests heads) false [] g) (wide_twins (group_tests heads) false [] g pg))
-
-    pub led_or_plain_twins : (m : Made P I) (v : List ℕ) → Paired (led_or_plain ins heads m v)
-    led_or_plain_twins m v = either_twins (this_group v ∷ []) _ _ (group_twins v (expression ins heads m) (expression_twins m)) (seen_twins (without_hints ins heads) (plain ins heads) plain_twins)
-
-    pub folded_twins : (m : Made P I) → Paired (folded_instruction ins heads m)
-    folded_twins m = seen_twins (folded_of ins heads m) _ (paren_twins _ (next_but_twins (one_ins ins heads) heads.own (λ _. items ins heads) (item_tests heads) pi (λ _. items_twins)))
-
-    pub data_offset_twins : (m : Made P I) → Paired (data_offset ins heads m)
-    data_offset_twins m = either_twins (this_group (codes "offset") ∷ []) _ _ (group_twins (codes "offset") (expression ins heads m) (expression_twins m)) (folded_twins m)

@@ -54,9 +54,6 @@ module _ {N P I : Type 0} (ins : Syntax N P I) (heads : Heads I) (m : Made P I) 
   abbrev then_reads : Reader N P (Items P I)
   then_reads = (group (codes "then") (items_over ins heads G)).reads
 
-  abbrev else_reads : Reader N P (P × Items P I)
-  else_reads = (paren (seq (word (codes "else")) (items_over ins heads G))).reads
-
   abbrev may_else : Reader N P (Option (P × Items P I))
   may_else = (maybe else_tests (paren (seq (word (codes "else")) (items_over ins heads G)))).reads
 

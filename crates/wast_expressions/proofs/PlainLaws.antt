@@ -1,6 +1,6 @@
 -- (ins plain*) is read by a loop too: a stack of the instructions whose operands are not yet all read.
 use Rattle.std.proofs.Common.{◌≡◌, ℕ, suc, map, ◌<◌, Bool, true, false, List, [], ◌∷◌, ◌++◌, length, Option, Some, None, refl, sym, ◌∙◌, ap, cond, append_assoc, append-nil}
-use Rattle.wast_grammar.specs.Tokens.{SignificantToken, Open, Close, Id, Word, Mark, Integer, Float, Text, Reserved, Broken}
+use Rattle.wast_grammar.specs.Tokens.{SignificantToken}
 use Rattle.wast_grammar.specs.Spelling.{◌>>=◌, that_open, that_close}
 use Rattle.wast_grammar.specs.Look.{NotEnd, at, ask}
 use Rattle.wast_grammar.specs.Grammar.{Syntax, Reader, seen, one_of}
@@ -16,7 +16,7 @@ use Rattle.wast_grammar.proofs.GrammarLaws.{shrinks}
 use Rattle.wast_expressions.proofs.ExpressionLaws.{plain_laws, plain_steps}
 use Rattle.wast_expressions.proofs.PlainOutcome as spec
 use Rattle.wast_expressions.proofs.PlainOutcome.{levels, outs, Standing}
-use Rattle.wast_expressions.proofs.ReadLaws.{row_turns, fix_reads}
+use Rattle.wast_expressions.proofs.ReadLaws.{row_turns, fix_reads, no_close}
 
 -- the loop, over instructions alone
 pub record PlainState (N P I : Type 0) : Type 0 where
@@ -119,20 +119,6 @@ module _ {N P I : Type 0} (ins : Syntax N P I) (heads : Heads I) (li : LawfulBut
   states : (i : I) (st out : List I) (o : Option (P × Toks)) → (o >>= λ o. one o.1 >>= λ j. operands_then j.0 (finish (i ∷ st)) out j.1) ≡ ((o >>= λ o. one o.1 >>= λ j. Some (plain_state (j.0 ∷ i ∷ st) out j.1)) >>= outcome)
   states i st out None = refl
   states i st out (Some o) = states_ins i st out (one o.1)
-
-  no_close : (ts : Toks) (X : P × Toks → Option (List I × Toks)) (b : Bool) → at (NotEnd ∷ []) ts ≡ b → cond b None (closed ts >>= X) ≡ (closed ts >>= X)
-  no_close ts X false e = refl
-  no_close [] X true e = refl
-  no_close (Close p ∷ ts) X true e = cc
-  no_close (Open p ∷ ts) X true e = refl
-  no_close (Word w p ∷ ts) X true e = refl
-  no_close (Mark w p ∷ ts) X true e = refl
-  no_close (Id n p ∷ ts) X true e = refl
-  no_close (Integer n w p ∷ ts) X true e = refl
-  no_close (Float w p ∷ ts) X true e = refl
-  no_close (Text s p ∷ ts) X true e = refl
-  no_close (Reserved w p ∷ ts) X true e = refl
-  no_close (Broken ∷ ts) X true e = refl
 
   closes : (i : I) (st out : List I) (c : Option (P × Toks)) → (c >>= λ c. finish st ((out ++ []) ++ i ∷ []) c.1) ≡ ((c >>= λ c. Some (plain_state st (out ++ i ∷ []) c.1)) >>= outcome)
   closes i st out None = refl

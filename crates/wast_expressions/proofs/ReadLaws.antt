@@ -1,9 +1,9 @@
 -- What productions read, one turn at a time.
 use Rattle.std.proofs.Common.{◌≡◌, ℕ, suc, ◌<◌, ◌+◌, Bool, true, false, List, [], ◌∷◌, length, Option, Some, None, inl, inr, refl, sym, ◌∙◌, ap, arith, cond, length-append}
-use Rattle.wast_grammar.specs.Tokens.{SignificantToken}
-use Rattle.wast_grammar.specs.Spelling.{◌>>=◌}
+use Rattle.wast_grammar.specs.Tokens.{SignificantToken, Open, Close, Id, Word, Mark, Integer, Float, Text, Reserved, Broken}
+use Rattle.wast_grammar.specs.Spelling.{◌>>=◌, that_close}
 use Rattle.wast_grammar.specs.Look.{Test, NotEnd, any_end, at, ask}
-use Rattle.wast_grammar.specs.Grammar.{Syntax, Reader, many_reads, wide}
+use Rattle.wast_grammar.specs.Grammar.{Syntax, Reader, many_reads, one_of, wide}
 use Rattle.wast_grammar.specs.Recursion.{deep, fix}
 use Rattle.wast_grammar.specs.Behind.{ended}
 use Rattle.wast_grammar.specs.Lawful.{Lawful, LawfulBut}
@@ -16,26 +16,29 @@ pub bind_bind : {A B C : Type 0} (o : Option A) (f : A → Option B) (g : B → 
 bind_bind None f g = refl
 bind_bind (Some a) f g = refl
 
-pub bind_same : {A B : Type 0} (o : Option A) (f g : A → Option B) → ((a : A) → f a ≡ g a) → (o >>= f) ≡ (o >>= g)
-bind_same None f g e = refl
-bind_same (Some a) f g e = e a
-
 -- the same where o gives a
 pub bind_where : {A B : Type 0} (o : Option A) (f g : A → Option B) → ((a : A) → o ≡ Some a → f a ≡ g a) → (o >>= f) ≡ (o >>= g)
 bind_where None f g e = refl
 bind_where (Some a) f g e = e a refl
 
-pub bind_none : {A B : Type 0} (o : Option A) (f : A → Option B) → ((a : A) → f a ≡ None) → (o >>= f) ≡ None
-bind_none None f e = refl
-bind_none (Some a) f e = e a
-
 pub bind_cond : {A B : Type 0} (b : Bool) (o p : Option A) (f : A → Option B) → (cond b o p >>= f) ≡ cond b (o >>= f) (p >>= f)
 bind_cond true o p f = refl
 bind_cond false o p f = refl
 
-pub cond_same : {A : Type 0} (b : Bool) (x y z w : A) → (b ≡ true → x ≡ z) → (b ≡ false → y ≡ w) → cond b x y ≡ cond b z w
-cond_same true x y z w e f = e refl
-cond_same false x y z w e f = f refl
+-- what closes none is left where one ends
+pub no_close : {N P R : Type 0} (ts : List (SignificantToken N P)) (k : P × List (SignificantToken N P) → Option R) (b : Bool) → at (NotEnd ∷ []) ts ≡ b → cond b None (one_of that_close ts >>= k) ≡ (one_of that_close ts >>= k)
+no_close ts k false e = refl
+no_close [] k true e = refl
+no_close (Close p ∷ ts) k true e = cc
+no_close (Open p ∷ ts) k true e = refl
+no_close (Word w p ∷ ts) k true e = refl
+no_close (Mark w p ∷ ts) k true e = refl
+no_close (Id n p ∷ ts) k true e = refl
+no_close (Integer n w p ∷ ts) k true e = refl
+no_close (Float w p ∷ ts) k true e = refl
+no_close (Text s p ∷ ts) k true e = refl
+no_close (Reserved w p ∷ ts) k true e = refl
+no_close (Broken ∷ ts) k true e = refl
 
 -- two readers that read the same
 both_read : {A : Type 0} (o p : Option A) → ((x : A) → o ≡ Some x → p ≡ Some x) → ((x : A) → p ≡ Some x → o ≡ Some x) → o ≡ p

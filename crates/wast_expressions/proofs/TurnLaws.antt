@@ -1,7 +1,7 @@
 -- Each turn of the loop leaves the outcome as it is, whatever stands below the stack.
 use Rattle.std.specs.Prelude.{codes}
 use Rattle.std.proofs.Common.{◌≡◌, ℕ, Bool, true, false, List, [], ◌∷◌, ◌++◌, Option, Some, None, refl, sym, ◌∙◌, ap, cond, append_assoc, append-nil}
-use Rattle.wast_grammar.specs.Tokens.{SignificantToken, Open, Close, Id, Word, Mark, Integer, Float, Text, Reserved, Broken}
+use Rattle.wast_grammar.specs.Tokens.{SignificantToken}
 use Rattle.wast_grammar.specs.Spelling.{◌>>=◌, that_open, that_close, that_one}
 use Rattle.wast_grammar.specs.Look.{NotEnd, at, ask}
 use Rattle.wast_grammar.specs.Grammar.{Syntax, Reader, maybe, many, group, paren, seq, word, one_of}
@@ -10,7 +10,7 @@ use Rattle.wast_expressions.specs.Items.{Items, Made, unfolded, either_hint}
 use Rattle.wast_expressions.specs.Expressions.{GroupKind, OfOperands, OfBlock, OfArms, Heads, hint_tests, hint, Group, Item, Alone, Grouped, groups_chain, one_hint, ins_tests, group_tests, item_tests, else_tests, one_ins, item, items_over, groups, items}
 use Rattle.wast_expressions.specs.Heeds.{Heeds}
 use Rattle.wast_expressions.specs.Machine.{Level, EndWith, BlockEnd, Conditions, Arm, AfterThen, AfterElse, State, state, both_hints, headed, open_group, one_item, close_items, then_turn, else_turn, end_turn, turn}
-use Rattle.wast_expressions.proofs.ReadLaws.{bind_cond, many_turns}
+use Rattle.wast_expressions.proofs.ReadLaws.{bind_cond, many_turns, no_close}
 use Rattle.wast_expressions.proofs.MachineLaws as laws
 use Rattle.wast_expressions.proofs.Outs as outs
 
@@ -111,21 +111,6 @@ module _ {N P I : Type 0} (ins : Syntax N P I) (heads : Heads I) (m : Made P I) 
 
     item_turn : (ts : Toks) → ((item ins heads G).reads ts >>= after) ≡ (one_item ins heads m st out ts >>= outcome)
     item_turn ts = hint_part (may_hint ts)
-
-  -- what closes none is left
-  no_close : (ts : Toks) (X : P × Toks → Option (Out × Toks)) (b : Bool) → at (NotEnd ∷ []) ts ≡ b → cond b None (closed ts >>= X) ≡ (closed ts >>= X)
-  no_close ts X false e = refl
-  no_close [] X true e = refl
-  no_close (Close p ∷ ts) X true e = cc
-  no_close (Open p ∷ ts) X true e = refl
-  no_close (Word w p ∷ ts) X true e = refl
-  no_close (Mark w p ∷ ts) X true e = refl
-  no_close (Id n p ∷ ts) X true e = refl
-  no_close (Integer n w p ∷ ts) X true e = refl
-  no_close (Float w p ∷ ts) X true e = refl
-  no_close (Text s p ∷ ts) X true e = refl
-  no_close (Reserved w p ∷ ts) X true e = refl
-  no_close (Broken ∷ ts) X true e = refl
 
   close_part : (F : P × Toks → State N P I) (c : Option (P × Toks)) → (c >>= λ c. outcome (F c)) ≡ ((c >>= λ c. Some (F c)) >>= outcome)
   close_part F None = refl

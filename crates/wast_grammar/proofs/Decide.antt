@@ -9,7 +9,7 @@ use Rattle.wast_grammar.proofs.Looks.{both, two}
 use Rattle.wast_grammar.proofs.Extend.{extend, injective}
 use Rattle.wast_grammar.proofs.Free.{Answer, free, free_over}
 
--- TOKENS whose names and places are carried
+-- TOKENS whose names and places are carried are these, renamed and moved
 module _ {N M P Q : Type 0} (f : N → M) (g : P → Q) where
   carried_one : (t : SignificantToken N P) (u : SignificantToken M Q) (ns : List (N × M)) (ps : List (P × Q)) → AlikeToken t u → Carries f (name_pair t u ns) → Carries g (both_places (place_of t) (place_of u) ps) → (move f g t ≡ u) × Carries f ns × Carries g ps
   carried_one (Open p) (Open q) ns ps a c d = (ap Open d.0, c, d.1)
@@ -25,7 +25,7 @@ module _ {N M P Q : Type 0} (f : N → M) (g : P → Q) where
   carried_one Broken Broken ns ps a c d = (refl, c, d)
   carried_one t u ns ps a c d = absurd a
 
-  carried : (ts : List (SignificantToken N P)) (us : List (SignificantToken M Q)) → Alike ts us → Carries f (names ts us) → Carries g (places ts us) → map (move f g) ts ≡ us
+  pub carried : (ts : List (SignificantToken N P)) (us : List (SignificantToken M Q)) → Alike ts us → Carries f (names ts us) → Carries g (places ts us) → map (move f g) ts ≡ us
   carried [] [] a c d = refl
   carried (t ∷ ts) (u ∷ us) a c d = let k = carried_one t u (names ts us) (places ts us) a.0 c d in rw (k.0, carried ts us a.1 k.1 k.2) refl
   carried [] (u ∷ us) a c d = absurd a

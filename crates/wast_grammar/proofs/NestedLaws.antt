@@ -12,12 +12,6 @@ use Rattle.wast_grammar.proofs.Twins.{Paired}
 
 -- FRONTS
 module _ {N P : Type 0} where
-  front_end : (ts : List (SignificantToken N P)) → front ts ≡ Ends → ts ≡ []
-  front_end [] e = refl
-  front_end (Open o ∷ ts) e = cc
-  front_end (Close o ∷ ts) e = cc
-  front_end (_ ∷ ts) e = cc
-
   front_open : (ts : List (SignificantToken N P)) (p : P) (us : List (SignificantToken N P)) → front ts ≡ Opens p us → ts ≡ Open p ∷ us
   front_open (Open r ∷ ts) p us e = cc
   front_open _ p us e = cc

@@ -6,7 +6,7 @@ use Rattle.std.proofs.lemmas.Bool.{cases_Bool}
 use Rattle.std.proofs.lemmas.Bool.Decides.{nat_tests}
 use Rattle.wast_lexer.specs.Kinds.{is_clean, starts_refused, is_refused}
 use Rattle.wast_lexer.specs.Scan.{skip, is_neither}
-use Rattle.wast_lexer.proofs.Searches.{cell}
+use Rattle.wast_lexer_strings.proofs.StringScanLaws.{cell}
 use Rattle.wast_lexer.proofs.Refused.{not_refused}
 
 not_lead : (c : ℕ) → is_neither 0xE2 0xE2 c ≡ true → (c == 0xE2) ≡ false

@@ -9,7 +9,8 @@ use Rattle.wast_lexer.specs.Kinds.{starts, is_semicolon}
 use Rattle.wast_lexer.specs.Scan.{next, comment, skip, close, starts_pair, is_neither}
 use Rattle.wast_lexer.proofs.Basics.{and_true, eq_of}
 use Rattle.wast_lexer.proofs.CommentLaws.{close_byte}
-use Rattle.wast_lexer.proofs.Searches.{cell, neither_at}
+use Rattle.wast_lexer_strings.proofs.StringScanLaws.{cell}
+use Rattle.wast_lexer.proofs.Searches.{neither_at}
 
 -- two bytes that come next
 starts_is : (a b : ℕ) (s : List ℕ) → starts_pair a b s ≡ true → (rest : List ℕ) × (s ≡ a ∷ b ∷ rest)

@@ -1,17 +1,14 @@
 -- What searches and loops over bytes find.
-use Rattle.std.proofs.Common.{◌≡◌, ◌-◌, ℕ, suc, ◌+◌, ◌<◌, ◌≤◌, Bool, true, false, not, ◌⊎◌, inl, inr, List, [], ◌∷◌, length, take, drop, get_or, None, Some, refl, ap, ◌∙◌, arith, add-one}
+use Rattle.std.proofs.Common.{◌≡◌, ◌-◌, ℕ, suc, ◌+◌, ◌<◌, ◌≤◌, Bool, true, false, not, ◌⊎◌, inl, inr, List, [], ◌∷◌, length, take, drop, get_or, None, Some, refl, ap, ◌∙◌, arith}
 use Rattle.std.specs.List.{prefix_len}
-use Rattle.std.proofs.Math.Seq.{drop-cons}
 use Rattle.std.proofs.lemmas.List.{drop_all, take_all, length-drop}
 use Rattle.std.proofs.lemmas.List.Sums.{prefix_len_is}
 use Rattle.std.proofs.lemmas.Bool.{cases_Bool}
 use Rattle.std.proofs.lemmas.Bool.Decides.{nat_tests}
 use Rattle.memchr.specs.Find.{IsFirstByte, is_byte2}
+use Rattle.wast_lexer_strings.proofs.StringScanLaws.{cell}
 use Rattle.wast_lexer.specs.Kinds.{starts}
 use Rattle.wast_lexer.specs.Scan.{skip, is_neither}
-
-pub cell : (text : List ℕ) (i : ℕ) → i < length text → drop i text ≡ get_or text i 0 ∷ drop (i + 1) text
-cell text i h = rw (add-one, drop-cons text i 0) refl
 
 pub skip_on : (p : ℕ → Bool) (text : List ℕ) (i : ℕ) → i < length text → p (get_or text i 0) ≡ true → skip p (drop i text) ≡ skip p (drop (i + 1) text)
 skip_on p text i h passes = rw (cell text i h) (rw passes refl)

@@ -15,7 +15,8 @@ use Rattle.std.proofs.str.Laws.{order}
 use Rattle.wast_lexer.proofs.Basics.{apart, eq_of}
 use Rattle.wast_lexer.proofs.WordLaws.{word_behind, word_read, word_stops, word_sound}
 use Rattle.wast_lexer.proofs.ScanLaws.{next_word}
-use Rattle.wast_lexer.proofs.Searches.{cell, skip_yes, skip_no, skip_ends}
+use Rattle.wast_lexer_strings.proofs.StringScanLaws.{cell}
+use Rattle.wast_lexer.proofs.Searches.{skip_yes, skip_no, skip_ends}
 
 neither_goes : (s : List ℕ) → starts is_idchar s ≡ false → starts is_quote s ≡ false → starts goes_on s ≡ false
 neither_goes [] i q = refl

@@ -2,21 +2,15 @@
 use Rattle.std.proofs.Common.{◌≡◌, ℕ, zero, suc, List, [], ◌∷◌, drop, refl, sym, ◌∙◌, ap}
 use Rattle.wasm_encoder_base.specs.Balanced.{Turn, Opens, Closes, Stays}
 use Rattle.wast_field_syntax.specs.InstructionTree.{Instruction}
-use Rattle.wast_meaning.specs.Scope.{turn_of_head, own_label, labels_from, open_labels, turned}
+use Rattle.wast_meaning.specs.Scope.{turn_of_head, own_label, labels_left, labels_from, open_labels, turned}
 
 drop_more : {A : Type 0} (k : ℕ) (xs : List A) → drop k (drop 1 xs) ≡ drop (suc k) xs
 drop_more zero [] = refl
 drop_more (suc k) [] = refl
 drop_more k (x ∷ xs) = refl
 
--- what an instruction makes of the labels of the blocks that are open
-abbrev pub pushed : {A : Type 0} → Turn → A → List A → List A
-pushed Opens label labels = label ∷ labels
-pushed Closes label labels = drop 1 labels
-pushed Stays label labels = labels
-
 turned_drop : {A : Type 0} (turn : Turn) (label : A) (outside : ℕ → List A) (k : ℕ) → ((c : ℕ) → outside c ≡ drop c (outside 0)) →
-    turned turn label k outside ≡ drop k (pushed turn label (outside 0))
+    turned turn label k outside ≡ drop k (labels_left turn label (outside 0))
 turned_drop Opens label outside zero same = refl
 turned_drop Opens label outside (suc k) same = same k
 turned_drop Closes label outside k same = same (suc k) ∙ sym (drop_more k (outside 0))
@@ -32,5 +26,5 @@ fewer (i ∷ before) k =
 
 -- one more instruction
 pub stacked : {N P : Type 0} (i : Instruction N P) (before : List (Instruction N P)) →
-    open_labels (i ∷ before) ≡ pushed (turn_of_head i.head) (own_label i.operands) (open_labels before)
+    open_labels (i ∷ before) ≡ labels_left (turn_of_head i.head) (own_label i.operands) (open_labels before)
 stacked i before = turned_drop (turn_of_head i.head) (own_label i.operands) (labels_from before) 0 (fewer before)

@@ -18,8 +18,7 @@ use Rattle.wast_field_syntax.specs.InstructionTree.{Operands, Instruction}
 use Rattle.wast_field_syntax.specs.FieldTree.{Func, Table, Memory, Tag, Field}
 use Rattle.wast_meaning.specs.Spaces.{space_word}
 use Rattle.wast_meaning.specs.Demands.{all_demands}
-use Rattle.wast_meaning.specs.Numbered.{resolved}
-use Rattle.wast_meaning.proofs.Words.{W, made, name, id, says, num, i32, ref, local, no_use, typed, type, struct_field, func_type, table_1, memory_1, global_1, ins, unlisted, block, end, try_table, call_indirect, define, of_type, body, segment, elems, expr}
+use Rattle.wast_meaning.proofs.Words.{W, made, name, id, says, i32, ref, local, typed, type, struct_field, func_type, table_1, memory_1, global_1, ins, unlisted, block, end, try_table, call_indirect, define, of_type, body, segment, elems, expr}
 
 -- the opcode makes no difference to operands
 abbrev row : OperandSyntax → Operands W ℕ → Instruction W ℕ
@@ -90,11 +89,6 @@ fields u is =
 
 n : Reference W ℕ
 n = says 0 "n"
-
-resolved_rows : resolved same_name made (fields no_use (rows n n n n n n n n n n n))
-    ≡ fields (typed (num 1) None) (rows (num 0) (num 1) (num 1) (num 0) (num 0) (num 0) (num 0) (num 0) (num 0) (num 1) (num 1))
-unfolding n uncovered.uncovered
-resolved_rows = refl
 
 -- alone in a module, each tells which space it looks in first
 unmet : Instruction W ℕ → Option (Demand W ℕ)

@@ -1,15 +1,14 @@
 -- The index spaces that are reached behind all items: they tell the places of names.
-use Rattle.std.proofs.Common.{◌≡◌, Bool, true, false, List, [], ◌∷◌, map, length, Option, refl, ◌∙◌, ap}
+use Rattle.std.proofs.Common.{◌≡◌, Bool, true, false, List, [], ◌∷◌, map, Option, refl, ◌∙◌, ap}
 use Rattle.std.specs.List.{flat_map}
-use Rattle.std.proofs.lemmas.List.{length-map}
 use Rattle.std.specs.Prelude.{if◌then◌else◌, filter}
 use Rattle.wasm_encoder_base.specs.Table.{Space}
 use Rattle.wast_parser.specs.Identifiers.{Named}
 use Rattle.wast_names.specs.Walk.{reached}
 use Rattle.wast_names.specs.Space as names
-use Rattle.wast_names.proofs.Positions.{numbers_of, counts_of}
+use Rattle.wast_names.proofs.Positions.{numbers_of}
 use Rattle.wast_field_syntax.specs.FieldTree.{Field}
-use Rattle.wast_meaning.specs.Spaces.{Bound, same_space, space_word, items, items_in, ids_in}
+use Rattle.wast_meaning.specs.Spaces.{Bound, same_space, space_word, items, ids_in}
 use Rattle.wast_meaning.specs.Demands.{spaces_after}
 
 module _ {N P : Type 0} (eq : N → N → Bool) where
@@ -32,9 +31,3 @@ module _ {N P : Type 0} (eq : N → N → Bool) where
   -- so it tells the numbers of names, and how many items there are
   pub tells_so : (fs : List (Field N P)) (s : Space) (n : N) → (reached (spaces_after eq) (λ t. names.empty) (flat_map items fs) s).look n ≡ names.denoted eq (space_word s) n (map names.name_in (ids_in s fs))
   tells_so fs s n = ap (λ (t : names.Space N). t.look n) (reached_so (flat_map items fs) (λ t. names.empty) s) ∙ numbers_of eq (space_word s) (ids_in s fs) n
-
-  pub counts_so : (fs : List (Field N P)) (s : Space) → (reached (spaces_after eq) (λ t. names.empty) (flat_map items fs) s).count ≡ length (items_in s fs)
-  counts_so fs s =
-      ap (λ (t : names.Space N). t.count) (reached_so (flat_map items fs) (λ t. names.empty) s)
-      ∙ counts_of eq (space_word s) (ids_in s fs)
-      ∙ length-map (items_in s fs) (λ b. b.id)

@@ -1,5 +1,5 @@
 -- What is known at a place of a module (WebAssembly 3.0, 6.1.3: identifier contexts), and labels (6.5.1 and 6.5.2).
-use Rattle.std.specs.Prelude.{ℕ, zero, suc, Bool, List, [], ◌∷◌, ◌++◌, length, map, Option, Some, None, option_and_then, unwrap_or}
+use Rattle.std.specs.Prelude.{ℕ, zero, suc, Bool, List, [], ◌∷◌, ◌++◌, drop, length, map, Option, Some, None, option_and_then, unwrap_or}
 use Rattle.wasm_encoder_base.specs.Table.{Space, Labels, Locals, Types}
 use Rattle.wasm_encoder_base.specs.Balanced.{Turn, Opens, Closes, Stays, turn_of}
 use Rattle.wast_parser.specs.Identifiers.{Named, Reference}
@@ -25,6 +25,12 @@ abbrev pub turned : {A : Type 0} → Turn → A → ℕ → (ℕ → List A) →
 turned Opens label closed outside = opened label closed outside
 turned Closes label closed outside = outside (suc closed)
 turned Stays label closed outside = outside closed
+
+-- the labels of the open blocks, the innermost first, after what opens or closes one
+abbrev pub labels_left : {A : Type 0} → Turn → A → List A → List A
+labels_left Opens label labels = label ∷ labels
+labels_left Closes label labels = drop 1 labels
+labels_left Stays label labels = labels
 
 module _ {N P : Type 0} where
   abbrev pub own_label : Operands N P → Option (Named N P)

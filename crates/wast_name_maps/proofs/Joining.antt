@@ -4,10 +4,9 @@ use Rattle.std.specs.List.{flat_map, AllByRecursion}
 use Rattle.std.proofs.lemmas.Grind.{flat_map-append}
 use Rattle.wasm_encoder_bytes.specs.declared.error.EncodeError.{EncodeError}
 use Rattle.wasm_encoder_bytes.specs.declared.error.EncodeError.TheVariants.{TooLarge}
-use Rattle.wasm_encoder_base.specs.Lists.{with_item, HasRoom}
+use Rattle.wasm_encoder_base.specs.Lists.{with_item, with_items, HasRoom}
 use Rattle.wasm_layout.proofs.Joined.{all_joined, all_front, all_back}
 use Rattle.wast_spaces.proofs.Joins.{one_more, all_of}
-use Rattle.wast_name_maps.specs.Listed.{with_items}
 use Rattle.wast_name_maps.specs.Numbered.{Numbered, none_yet, entries, behind, Fit, Joined, Joins}
 
 -- SO MANY: counts that fit together, and apart

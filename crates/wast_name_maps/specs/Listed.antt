@@ -1,7 +1,5 @@
 -- Name maps as the lists that they are encoded as.
-use Rattle.std.specs.Prelude.{ℕ, ◌+◌, List, ◌++◌, length}
-use Rattle.std.specs.List.{flat_map}
-use Rattle.wasm_encoder_base.specs.Lists.{Listed}
+use Rattle.std.specs.Prelude.{ℕ, List}
 use Rattle.wasm_encoder_custom.specs.Names.{naming_bytes, inner_naming_bytes}
 use Rattle.wasm_layout.specs.AbstractModule.{Naming, InnerNaming}
 use Rattle.wasm_layout.specs.Layout.{naming, inner_naming}
@@ -12,7 +10,3 @@ name_item n = naming_bytes (naming n)
 
 abbrev pub inner_item : InnerNaming (List ℕ) → List ℕ
 inner_item n = inner_naming_bytes (inner_naming n)
-
--- a list with more items behind it
-abbrev pub with_items : {A : Type 0} → (A → List ℕ) → Listed → List A → Listed
-with_items spell list items = record { count = list.count + length items; bytes = list.bytes ++ flat_map spell items }

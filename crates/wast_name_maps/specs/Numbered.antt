@@ -3,10 +3,10 @@ use Rattle.std.specs.Prelude.{ℕ, suc, ◌≡◌, ◌+◌, ◌<◌, ◌^◌, Li
 use Rattle.std.specs.List.{AllByRecursion}
 use Rattle.wasm_encoder_bytes.specs.declared.error.EncodeError.{EncodeError}
 use Rattle.wasm_encoder_bytes.specs.declared.error.EncodeError.TheVariants.{TooLarge}
-use Rattle.wasm_encoder_base.specs.Lists.{Listed, no_items}
+use Rattle.wasm_encoder_base.specs.Lists.{Listed, no_items, with_items}
 use Rattle.wasm_layout.specs.AbstractModule.{Naming, InnerNaming}
 use Rattle.wast_meant.specs.NamesMeant.{naming, named, inner_naming}
-use Rattle.wast_name_maps.specs.Listed.{name_item, inner_item, with_items}
+use Rattle.wast_name_maps.specs.Listed.{name_item, inner_item}
 
 -- the list so far, and the number of what comes next
 pub record Numbered : Type 0 where

@@ -17,13 +17,6 @@ pub record IsFirstUnmet {S X D : Type 0} (holds : D → Bool) (asks : S → X �
   pub unmet : first_unmet holds (asks (reached after s before) element) ≡ Some d
 
 module _ {D : Type 0} (holds : D → Bool) where
-  -- one that is met leaves the later ones
-  pub first_met : (d : D) (ds : List D) → holds d ≡ true → first_unmet holds (d ∷ ds) ≡ first_unmet holds ds
-  first_met d ds h = rw h refl
-
-  pub first_not_met : (d : D) (ds : List D) → holds d ≡ false → first_unmet holds (d ∷ ds) ≡ Some d
-  first_not_met d ds h = rw h refl
-
   -- demands that are met leave the later ones
   pub unmet_after : (xs ys : List D) → first_unmet holds xs ≡ None → first_unmet holds (xs ++ ys) ≡ first_unmet holds ys
   unmet_after [] ys = λ h. refl

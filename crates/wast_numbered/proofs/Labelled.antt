@@ -22,9 +22,9 @@ use Rattle.wast_core_instr.specs.declared.proposal.ProposalOp.{ProposalOp}
 use Rattle.wast_core_instr.specs.declared.proposal.ProposalOp.TheVariants as proposals
 use Rattle.wast_meaning.specs.Changed.{instr_changed, instrs_changed}
 use Rattle.wast_meaning.specs.Numbered.{numbering}
-use Rattle.wast_meaning.specs.Scope.{turn_of_head, own_label, labels_seen, open_labels}
+use Rattle.wast_meaning.specs.Scope.{turn_of_head, own_label, labels_left, labels_seen, open_labels}
 use Rattle.wast_meaning.specs.Spaces.{listed}
-use Rattle.wast_meaning.proofs.Labels.{fewer, pushed, stacked}
+use Rattle.wast_meaning.proofs.Labels.{fewer, stacked}
 use Rattle.wast_spaces.specs.declared.spaces.Spaces.{Spaces}
 use Rattle.wast_numbered.specs.Place.{by_place, here}
 use Rattle.wast_numbered.specs.Steps.{behind, seen, step_of}
@@ -69,7 +69,7 @@ seen_so Opens before = refl
 seen_so Closes before = sym (fewer before 1)
 seen_so Stays before = refl
 
-behind_so : {A : Type 0} (t : Turn) (label : A) (labels : List A) → behind t label (seen t labels) ≡ pushed t label labels
+behind_so : {A : Type 0} (t : Turn) (label : A) (labels : List A) → behind t label (seen t labels) ≡ labels_left t label labels
 behind_so Opens label labels = refl
 behind_so Closes label labels = refl
 behind_so Stays label labels = refl

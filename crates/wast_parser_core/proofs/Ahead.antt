@@ -1,8 +1,8 @@
 -- What a parser has before it, token by token and group by group.
-use Rattle.std.proofs.Common.{◌≡◌, ℕ, suc, ◌+◌, ◌<◌, true, false, cond, List, [], ◌∷◌, ◌++◌, Option, Some, None, length, map, take, drop, refl, sym, ◌∙◌, ap, add-one, arith, inl, inr}
+use Rattle.std.proofs.Common.{◌≡◌, ℕ, suc, ◌+◌, true, false, cond, List, [], ◌∷◌, ◌++◌, Option, Some, None, length, map, take, drop, refl, sym, ◌∙◌, ap, add-one, arith, inl, inr}
 use Rattle.std.specs.Prelude.{slice_get, is_some}
 use Rattle.std.proofs.Math.Seq.{drop-cons}
-use Rattle.std.proofs.lemmas.List.{drop_all, drop-map, drop-drop, take-append-drop, length-take-le, length-append, length-map}
+use Rattle.std.proofs.lemmas.List.{drop_all, drop-map, drop-drop, take-append-drop, length-take-le, length-map}
 use Rattle.std.proofs.lemmas.Option.{slice_get_within, slice_get_cases, get_or_from_slice_get}
 use Rattle.wast_lexer.specs.declared.token.Token.{Token}
 use Rattle.wast_lexer.specs.declared.token.TokenKind.TheVariants as kinds
@@ -133,11 +133,3 @@ end_broken f h = ap at_end h
 
 pub end_whole : (f : Option LexFault) → is_some f ≡ false → at_end (is_some f) ≡ []
 end_whole f h = ap at_end h
-
--- a group's end is one of the tokens
-pub group_end_inside : (ts : List Token) (i end : ℕ) → IsGroupAt (parens ts) i end → end < length ts
-group_end_inside ts i end g =
-    let l = ap length g.split ∙ length-append g.front (paren_of kinds.LParen ∷ (g.inner ++ paren_of kinds.RParen ∷ g.rest)) in
-    let k = length-append g.inner (paren_of kinds.RParen ∷ g.rest) in
-    let m = length-map ts (λ t. paren_of t.kind) in
-    omega (arith, l, k, m, g.index_is, g.end_is)

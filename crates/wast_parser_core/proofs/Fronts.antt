@@ -1,5 +1,5 @@
 -- Tokens in front, by their kind.
-use Rattle.std.proofs.Common.{◌≡◌, ℕ, true, false, List, [], ◌∷◌, ◌++◌, Some, None, length, refl, sym, ◌∙◌, ap}
+use Rattle.std.proofs.Common.{◌≡◌, ℕ, true, false, List, [], ◌∷◌, ◌++◌, Some, None, refl, sym, ◌∙◌, ap}
 use Rattle.wast_lexer.specs.declared.token.Token.{Token}
 use Rattle.wast_lexer.specs.declared.token.TokenKind.{TokenKind}
 use Rattle.wast_lexer.specs.declared.token.TokenKind.TheVariants as kinds
@@ -12,12 +12,7 @@ use Rattle.wast_grammar.specs.Grammar.{one_of}
 use Rattle.wast_grammar.proofs.Looks.{some_one}
 use Rattle.wast_grammar.proofs.SignificantLaws.{lparen_kind}
 use Rattle.wast_parser_core.specs.Kinds.{is_rparen}
-use Rattle.wast_parser_core.specs.State.{State, ahead, IsNext, past, front, place_ahead, stop}
-use Rattle.wast_parser_core.specs.Reading.{ends_here}
-
-pub rparen_kind : (k : TokenKind) → is_rparen k ≡ true → k ≡ kinds.RParen
-rparen_kind kinds.RParen h = refl
-rparen_kind _ h = absurd (cc)
+use Rattle.wast_parser_core.specs.State.{State, ahead, IsNext, past, front}
 
 -- BEHIND IT
 past_token : (k : TokenKind) (w : List ℕ) (p : ℕ) (ts : List TextToken) → is_trivia k ≡ false → past (token_of k w p ++ ts) ≡ ts
@@ -38,22 +33,6 @@ pub past_next : (s : State) (t : Token) (i : ℕ) → IsNext s t i → past (ahe
 past_next s t i n = ap past n.found ∙ past_token t.kind (text_of s.source.text t) t.offset (ahead (record s { at = i })) n.seen
 
 -- WHERE IT STANDS
-front_token : (end broken : ℕ) (k : TokenKind) (w : List ℕ) (p : ℕ) (ts : List TextToken) → is_trivia k ≡ false → front end broken (token_of k w p ++ ts) ≡ p
-front_token end broken kinds.Whitespace w p ts h = absurd (cc)
-front_token end broken kinds.LineComment w p ts h = absurd (cc)
-front_token end broken kinds.BlockComment w p ts h = absurd (cc)
-front_token end broken kinds.LParen w p ts h = refl
-front_token end broken kinds.RParen w p ts h = refl
-front_token end broken kinds.String w p ts h = refl
-front_token end broken kinds.Id w p ts h = refl
-front_token end broken kinds.Keyword w p ts h = refl
-front_token end broken kinds.Annotation w p ts h = refl
-front_token end broken kinds.Reserved w p ts h = refl
-front_token end broken (kinds.Integer k) w p ts h = refl
-front_token end broken (kinds.Float k) w p ts h = refl
-
-pub front_next : (s : State) (t : Token) (i : ℕ) → IsNext s t i → place_ahead s ≡ t.offset
-front_next s t i n = ap (front (length s.source.text) (stop s.source).place) n.found ∙ front_token (length s.source.text) (stop s.source).place t.kind (text_of s.source.text t) t.offset (ahead (record s { at = i })) n.seen
 
 -- THAT IT IS THERE
 nil_token : (k : TokenKind) (w : List ℕ) (p : ℕ) (ts : List TextToken) → is_trivia k ≡ false → token_of k w p ++ ts ≡ [] → ⊥
@@ -72,23 +51,6 @@ nil_token (kinds.Float k) w p ts h e = absurd (cc)
 
 pub not_done : (s : State) (t : Token) (i : ℕ) → IsNext s t i → ahead s ≡ [] → ⊥
 not_done s t i n e = nil_token t.kind (text_of s.source.text t) t.offset (ahead (record s { at = i })) n.seen (sym n.found ∙ e)
-
-ends_token : (k : TokenKind) (w : List ℕ) (p : ℕ) (ts : List TextToken) → is_trivia k ≡ false → ends_here (token_of k w p ++ ts) ≡ is_rparen k
-ends_token kinds.Whitespace w p ts h = absurd (cc)
-ends_token kinds.LineComment w p ts h = absurd (cc)
-ends_token kinds.BlockComment w p ts h = absurd (cc)
-ends_token kinds.LParen w p ts h = refl
-ends_token kinds.RParen w p ts h = refl
-ends_token kinds.String w p ts h = refl
-ends_token kinds.Id w p ts h = refl
-ends_token kinds.Keyword w p ts h = refl
-ends_token kinds.Annotation w p ts h = refl
-ends_token kinds.Reserved w p ts h = refl
-ends_token (kinds.Integer k) w p ts h = refl
-ends_token (kinds.Float k) w p ts h = refl
-
-pub ends_next : (s : State) (t : Token) (i : ℕ) → IsNext s t i → ends_here (ahead s) ≡ is_rparen t.kind
-ends_next s t i n = ap ends_here n.found ∙ ends_token t.kind (text_of s.source.text t) t.offset (ahead (record s { at = i })) n.seen
 
 -- PARENTHESES
 no_open : (k : TokenKind) (w : List ℕ) (p : ℕ) (ts : List TextToken) → is_lparen k ≡ false → is_trivia k ≡ false → one_of that_open (token_of k w p ++ ts) ≡ None

@@ -8,7 +8,6 @@ use Rattle.wast_lexer.specs.Strings.{IsString}
 use Rattle.wast_lexer.specs.Kinds.{IsId, IsLexeme}
 use Rattle.wast_lexer.specs.LexError.{LexError}
 use Rattle.wast_lexer.specs.TokenText.{text_of, IsOf, IsIdFault}
-use Rattle.wast_lexer.specs.IntegerKind.{IntegerKind}
 use Rattle.wast_lexer.specs.declared.fault.LexFault.{LexFault}
 use Rattle.wast_lexer.specs.declared.fault.LexFault.TheVariants.{Lex}
 use Rattle.wast_lexer.specs.declared.fault.LexFault.TheVariants as faults
@@ -16,7 +15,7 @@ use Rattle.wast_lexer.specs.declared.token.Token.{Token}
 use Rattle.wast_lexer.specs.declared.token.TokenKind.{TokenKind}
 use Rattle.wast_lexer.specs.declared.token.TokenKind.TheVariants as kinds
 use Rattle.wast_lexer.specs.Tiling.{is_annotation}
-use Rattle.wast_grammar.specs.Tokens.{Name, as_read, Id, literal, string_value, marked_value, id_name}
+use Rattle.wast_grammar.specs.Tokens.{Name, as_read, Id, string_value, marked_value, id_name}
 use Rattle.wast_grammar.specs.Significant.{TextToken, token_of, is_trivia}
 use Rattle.wast_grammar.specs.Spelling.{same_text, ◌>>=◌, that_id, that_mark, that_text, that_integer}
 use Rattle.wast_grammar.specs.Grammar.{Reader, one_of, only_reads}
@@ -150,14 +149,6 @@ no_integer kinds.Annotation w p ts h i = refl
 no_integer kinds.Reserved w p ts h i = refl
 no_integer (kinds.Integer k) w p ts h i = absurd (cc)
 no_integer (kinds.Float k) w p ts h i = refl
-
-pub not_integer : (s : State) (t : Token) (i : ℕ) → IsNext s t i → is_integer t.kind ≡ false → one_of that_integer (ahead s) ≡ None
-not_integer s t i n h = ap (one_of that_integer) n.found ∙ no_integer t.kind (text_of s.source.text t) t.offset (ahead (record s { at = i })) h n.seen
-
-pub read_integer : (s : State) (t : Token) (i : ℕ) (kind : IntegerKind) → IsNext s t i → t.kind ≡ kinds.Integer kind → one_of that_integer (ahead s) ≡ Some ((literal (text_of s.source.text t), t.offset), ahead (record s { at = i }))
-read_integer s t i kind n h =
-    ap (one_of that_integer) n.found
-    ∙ ap (λ k. one_of that_integer (token_of k (text_of s.source.text t) t.offset ++ ahead (record s { at = i }))) h
 
 -- where none is read, none of a range is
 pub only_none : {A : Type 0} (p : A → Bool) (r : Reader Name ℕ A) (ts : List TextToken) → r ts ≡ None → only_reads p r ts ≡ None

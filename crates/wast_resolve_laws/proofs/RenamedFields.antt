@@ -8,10 +8,9 @@ use Rattle.wast_grammar.specs.Spelling.{same_name}
 use Rattle.wast_grammar.specs.Alike.{Keeps}
 use Rattle.wast_grammar.proofs.Decide.{names_decide}
 use Rattle.wast_grammar.proofs.Extend.{injective}
-use Rattle.wast_parser.specs.Identifiers.{ByName}
 use Rattle.wast_names.specs.Walk.{first_unmet}
 use Rattle.wast_names.specs.Demand.{Demand, Complaint, Duplicate, Unknown, ImportAfter, TypeMismatch, LabelMismatch, is_met}
-use Rattle.wast_field_syntax.specs.FieldTree.{Field, StartField}
+use Rattle.wast_field_syntax.specs.FieldTree.{Field}
 use Rattle.wast_meaning.specs.Spaces.{denotes}
 use Rattle.wast_meaning.specs.Demands.{demands, all_demands}
 use Rattle.wast_meaning.specs.Numbered.{numbered, resolved}
@@ -114,12 +113,3 @@ names_kept names a b = agree _ _ (λ t. (names_decide a b).1 (injective same_nam
 -- AN EXAMPLE: the start function, named at a place
 abbrev Parts : Type 0 → Type 0 → Type 0
 Parts N P = N × P × P
-
-abbrev start_of : {N P : Type 0} → Parts N P → List (Field N P)
-start_of x = StartField (record { place = x.1; func = ByName (x.0, x.2) }) ∷ []
-
-pub start_renamed : {N M P Q : Type 0} (names : Iso N M) (places : Iso P Q) (n : N) (p q : P)
-    → fields_renamed names places (start_of (n, p, q)) ≡ start_of (names.fun n, places.fun p, places.fun q)
-start_renamed names places n p q =
-    sym (free Parts FieldList (λ N P eq x. start_of x) names places (λ a b. true) (λ a b. true) (λ a b. refl) (n, p, q))
-    ∙ ap start_of (renamed_so Parts (λ N M P Q f g x. (f x.0, g x.1, g x.2)) (λ N P x. refl) names places (n, p, q))

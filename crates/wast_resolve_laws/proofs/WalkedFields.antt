@@ -12,13 +12,13 @@ use Rattle.wast_core_instr.specs.InstructionTree.{Instruction}
 use Rattle.wast_field_syntax.specs.FieldTree.{Field}
 use Rattle.wast_meaning.specs.Mentions.{instr_mentions}
 use Rattle.wast_meaning.specs.Spaces.{Bound, space_number, same_space, space_word, listed, items, items_in, ids_in, denotes}
-use Rattle.wast_meaning.specs.Scope.{Scope, turn_of_head, own_label, open_labels, labels_seen, labels_or, scope_at}
+use Rattle.wast_meaning.specs.Scope.{Scope, turn_of_head, open_labels, labels_seen, labels_or, scope_at}
 use Rattle.wast_meaning.specs.Demands.{mention_demands, spaces_after, item_demands, instrs_demands}
 use Rattle.wast_meaning.specs.Changed.{instr_changed, instrs_changed}
 use Rattle.wast_meaning.specs.Numbered.{numbering}
-use Rattle.wast_meaning.proofs.Labels.{pushed, fewer, stacked}
+use Rattle.wast_meaning.proofs.Labels.{fewer, stacked}
 use Rattle.wast_meaning.proofs.Walked.{reached_so}
-use Rattle.wast_resolve_laws.specs.Walks.{own_demand, own_space, own_demands, labels_left, labels_found, labels_after, scope_among, demands_among}
+use Rattle.wast_resolve_laws.specs.Walks.{own_demand, own_space, own_demands, labels_found, labels_after, scope_among, demands_among}
 use Rattle.wast_resolve_laws.proofs.Fresh.{same_self}
 use Rattle.wast_resolve_laws.proofs.Walks as walks
 
@@ -82,14 +82,9 @@ module _ {N P : Type 0} (eq : N → N → Bool) where
   denoted_either fs gs same Elems n = denoted_so fs gs Elems n (same Elems)
 
 -- LABELS
-left_so : {A : Type 0} (turn : Turn) (label : A) (labels : List A) → pushed turn label labels ≡ labels_left turn label labels
-left_so Opens label labels = refl
-left_so Closes label labels = refl
-left_so Stays label labels = refl
-
 module _ {N P : Type 0} where
   handed_on : (i : Instruction N P) (before : List (Instruction N P)) → open_labels (i ∷ before) ≡ labels_after (open_labels before) i
-  handed_on i before = stacked i before ∙ left_so (turn_of_head i.head) (own_label i.operands) (open_labels before)
+  handed_on i before = stacked i before
 
   found_so : (turn : Turn) (before : List (Instruction N P)) → labels_seen turn before ≡ labels_found turn (open_labels before)
   found_so Opens before = refl

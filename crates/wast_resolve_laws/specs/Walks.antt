@@ -5,7 +5,7 @@ use Rattle.std.specs.Option.{option_or}
 use Rattle.std.specs.List.{flat_map}
 use Rattle.std.specs.Prelude.{Bool}
 use Rattle.wasm_encoder_base.specs.Table.{Space, Fields}
-use Rattle.wasm_encoder_base.specs.Balanced.{Turn, Opens, Closes, Stays}
+use Rattle.wasm_encoder_base.specs.Balanced.{Turn, Closes}
 use Rattle.wast_parser.specs.Identifiers.{Named}
 use Rattle.wast_names.specs.Walk.{walked}
 use Rattle.wast_names.specs.Demand.{Demand}
@@ -13,7 +13,7 @@ use Rattle.wast_names.specs.Space as names
 use Rattle.wast_core_instr.specs.InstructionTree.{Instruction}
 use Rattle.wast_meaning.specs.Mentions.{instr_mentions}
 use Rattle.wast_meaning.specs.Spaces.{Bound, space_word, listed}
-use Rattle.wast_meaning.specs.Scope.{Scope, turn_of_head, own_label, labels_or}
+use Rattle.wast_meaning.specs.Scope.{Scope, turn_of_head, own_label, labels_left, labels_or}
 use Rattle.wast_meaning.specs.Demands.{mention_demands}
 
 -- TESTED ON THE WAY: the first answer of the elements, each by what is known before it
@@ -32,12 +32,7 @@ module _ {N P : Type 0} (eq : N → N → Bool) (s : Space) where
   abbrev pub own_demands : List (Bound N P) → List (Demand N P)
   own_demands bs = walked own_demand own_space names.empty bs
 
--- LABELS HANDED ON: those of the open blocks, the innermost first, after an instruction, and those among which it looks labels up
-abbrev pub labels_left : {A : Type 0} → Turn → A → List A → List A
-labels_left Opens label labels = label ∷ labels
-labels_left Closes label labels = drop 1 labels
-labels_left Stays label labels = labels
-
+-- LABELS HANDED ON: those among which an instruction looks labels up, and those of the open blocks after it, the innermost first
 abbrev pub labels_found : {A : Type 0} → Turn → List A → List A
 labels_found Closes labels = drop 1 labels
 labels_found turn labels = labels

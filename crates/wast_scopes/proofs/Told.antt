@@ -18,9 +18,9 @@ use Rattle.wast_meaning.specs.Mentions.{Mention, Refers, Member, Uses, UsesInBlo
 use Rattle.wast_meaning.specs.Spaces.{space_word}
 use Rattle.wast_meaning.specs.Implied.{no_sig, number_code, same_flag, same_option, same_heap, same_val, same_local, same_sig}
 use Rattle.wast_meaning.specs.Scope as scopes
-use Rattle.wast_meaning.specs.Scope.{Scope, turn_of_head, own_label, open_labels, labels_seen, labels_or, locals_or, label_space, scope_at, members, params_of_index, params_of, locals_of}
+use Rattle.wast_meaning.specs.Scope.{Scope, turn_of_head, own_label, labels_left, open_labels, labels_seen, labels_or, locals_or, label_space, scope_at, members, params_of_index, params_of, locals_of}
 use Rattle.wast_meaning.specs.Demands.{same_numbered, agrees, agreement, agreements, place_of, says_demands, use_demands, mention_demands, instrs_demands, func_demands, part_demands}
-use Rattle.wast_meaning.proofs.Labels.{fewer, stacked, pushed}
+use Rattle.wast_meaning.proofs.Labels.{fewer, stacked}
 use Rattle.wast_scopes.specs.Numbered.{Look, number_by, NumberedValue, numbered_heap, numbered_value, numbered_sig, same_numbered_value, same_numbered_sig, same_sig_by, params_in}
 use Rattle.wast_scopes.specs.Known.{Known, known_in, known_by, look_among, with_locals, turned, seen, after, known_at, members_by, says_by, agreement_by, agreements_by, use_by, mention_by, instrs_by, params_of_index_by, params_by, locals_by, func_by, part_by}
 
@@ -178,7 +178,7 @@ module _ (s : Scope Name ℕ) where
   seen_is Closes before = sym (fewer before 1)
   seen_is Stays before = refl
 
-  turned_is : (turn : Turn) (label : Option (Named Name ℕ)) (blocks : List (Option (Named Name ℕ))) → turned turn label blocks ≡ pushed turn label blocks
+  turned_is : (turn : Turn) (label : Option (Named Name ℕ)) (blocks : List (Option (Named Name ℕ))) → turned turn label blocks ≡ labels_left turn label blocks
   turned_is Opens label blocks = refl
   turned_is Closes label blocks = refl
   turned_is Stays label blocks = refl

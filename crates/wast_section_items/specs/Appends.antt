@@ -1,13 +1,9 @@
 -- What appending items leaves in a section.
-use Rattle.std.specs.Prelude.{ℕ, ◌≡◌, ◌+◌, ◌<◌, ◌^◌, List, ◌++◌, length, Result, OnOk, OnErr, IsErrOf}
-use Rattle.std.specs.List.{flat_map, AllByRecursion}
+use Rattle.std.specs.Prelude.{ℕ, ◌≡◌, ◌+◌, ◌<◌, ◌^◌, List, length, Result, OnOk, OnErr, IsErrOf}
+use Rattle.std.specs.List.{AllByRecursion}
 use Rattle.wasm_encoder_base.specs.EncodeError.{EncodeError}
 use Rattle.wasm_encoder_base.specs.EncodeError.TheVariants.{TooLarge}
-use Rattle.wasm_encoder_base.specs.Lists.{Listed}
-
--- with these items behind those of the list
-abbrev pub with_items : {A : Type 0} → (A → List ℕ) → Listed → List A → Listed
-with_items spell list items = record { count = list.count + length items; bytes = list.bytes ++ flat_map spell items }
+use Rattle.wasm_encoder_base.specs.Lists.{Listed, with_items}
 
 -- The items, each by its bytes, are the last, and each count and length in them is a number of 32 bits, as is that of the items, where it was
 -- one before, and each number in them is in the range of its binary field; refused, the section is unchanged, and it was too large only where

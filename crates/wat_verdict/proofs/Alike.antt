@@ -10,7 +10,7 @@ use Rattle.wast_grammar.specs.Tokens as tokens
 use Rattle.wast_grammar.specs.Spelling.{same_name, same_text}
 use Rattle.wast_grammar.specs.Significant.{TextToken, AreSignificant}
 use Rattle.wast_grammar.specs.Alike.{Fits, Matched, Carries, Same, Alike, name_pair, names, places}
-use Rattle.wast_grammar.proofs.Decide.{rising_match}
+use Rattle.wast_grammar.proofs.Decide.{carried, rising_match}
 use Rattle.wast_grammar.proofs.Extend.{extend}
 use Rattle.wast_names.specs.Demand.{Complaint, Demand}
 use Rattle.wast_field_syntax.specs.FieldTree.{Content, Fields, Module}
@@ -36,7 +36,7 @@ use Rattle.wat_verdict.specs.Spells.{Spells}
 use Rattle.wat_verdict.specs.Naming.{naming, unmet_demand}
 use Rattle.wat_verdict.specs.Verdict.{Condition, TooLong, NotUtf8, Misspelled, NotWellFormed, Unmet, Uncovered, unmet_at, tree_breach, tree_uncovered, Fails, Accepts, Assembles, IsBinary, IsPlainText}
 use Rattle.wat_verdict.specs.Alike.{AlikeTexts, complaint_shown, SameCondition, Follows, IsSame, Agree, TokensDecide, SameBare, Renaming}
-use Rattle.wat_verdict.proofs.Free.{Known, Kept, free, carried}
+use Rattle.wat_verdict.proofs.Free.{Known, Kept, free}
 use Rattle.wat_verdict.proofs.Placed.{IsRead, AreRead, text_rises, both_rise, text_read}
 use Rattle.wat_verdict.proofs.Told.{name_shown, content_worth, content_plain, summary, told, told_spelled, spelled_told}
 use Rattle.wat_verdict.proofs.Unmet.{unmet_so}

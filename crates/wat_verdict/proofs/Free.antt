@@ -5,7 +5,7 @@ use std.Univalence.{equiv_j}
 use std.Equiv.{◌≃◌, id_equiv}
 use std.Path.{fun_ext}
 use Rattle.wast_grammar.specs.Tokens.{SignificantToken, Open, Close, Id, Word, Mark, Integer, Float, Text, Reserved, Broken}
-use Rattle.wast_grammar.specs.Alike.{move, Keeps, Carries, AlikeToken, Alike, name_pair, names, place_of, both_places, places}
+use Rattle.wast_grammar.specs.Alike.{move, Keeps}
 
 -- what is known of names: which are the same, which are made up, the one that a number makes, and what each shows
 pub record Known (N : Type 0) : Type 0 where
@@ -55,25 +55,3 @@ module _ {R : Type 0} (answer : (N P : Type 0) → Known N → List (Significant
   unfolding id_equiv
   free {N} {M} {P} {Q} e d = equiv_j {B = M} (λ N e. (k : Known N) (l : Known M) → Kept k l e.0 → (ts : List (SignificantToken N P)) → answer M Q l (map (move e.0 d.0) ts) ≡ answer N P k ts)
       (λ k l kept ts. ap (λ v. answer M Q v (map (move (λ n. n) d.0) ts)) (same_known k l kept) ∙ moved k d ts) e
-
--- TOKENS whose names and places are carried are these, renamed and moved
-module _ {N M P Q : Type 0} (f : N → M) (g : P → Q) where
-  carried_one : (t : SignificantToken N P) (u : SignificantToken M Q) (ns : List (N × M)) (ps : List (P × Q)) → AlikeToken t u → Carries f (name_pair t u ns) → Carries g (both_places (place_of t) (place_of u) ps) → (move f g t ≡ u) × Carries f ns × Carries g ps
-  carried_one (Open p) (Open q) ns ps a c d = (ap Open d.0, c, d.1)
-  carried_one (Close p) (Close q) ns ps a c d = (ap Close d.0, c, d.1)
-  carried_one (Id (Some n) p) (Id (Some m) q) ns ps a c d = (rw (c.0, d.0) refl, c.1, d.1)
-  carried_one (Id None p) (Id None q) ns ps a c d = (rw d.0 refl, c, d.1)
-  carried_one (Word v p) (Word w q) ns ps a c d = (rw (a, d.0) refl, c, d.1)
-  carried_one (Mark v p) (Mark w q) ns ps a c d = (rw (a, d.0) refl, c, d.1)
-  carried_one (Integer l v p) (Integer k w q) ns ps a c d = (rw (a.0, a.1, d.0) refl, c, d.1)
-  carried_one (Float v p) (Float w q) ns ps a c d = (rw (a, d.0) refl, c, d.1)
-  carried_one (Text v p) (Text w q) ns ps a c d = (rw (a, d.0) refl, c, d.1)
-  carried_one (Reserved v p) (Reserved w q) ns ps a c d = (rw (a, d.0) refl, c, d.1)
-  carried_one Broken Broken ns ps a c d = (refl, c, d)
-  carried_one t u ns ps a c d = absurd a
-
-  pub carried : (ts : List (SignificantToken N P)) (us : List (SignificantToken M Q)) → Alike ts us → Carries f (names ts us) → Carries g (places ts us) → map (move f g) ts ≡ us
-  carried [] [] a c d = refl
-  carried (t ∷ ts) (u ∷ us) a c d = let k = carried_one t u (names ts us) (places ts us) a.0 c d in rw (k.0, carried ts us a.1 k.1 k.2) refl
-  carried [] (u ∷ us) a c d = absurd a
-  carried (t ∷ ts) [] a c d = absurd a
