@@ -35,7 +35,8 @@ pub fn push_instruction(
     }
 }
 
-/// Appends an instruction of the encoder to a body. Refused as the encoder refuses it; the body is unchanged then.
+/// Appends an instruction of the encoder to a body. Refused for want of memory, and as too large where a count in it is past 4294967295;
+/// the body is unchanged then.
 pub fn push_encoded(
     body: &mut Function,
     instruction: &wasm_encoder_code::Instruction<'_>,

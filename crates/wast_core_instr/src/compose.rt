@@ -145,10 +145,10 @@ fn gc_indices<'a>(
     ensures operands { IfOk result (λ op. gc_operands op ≡ spec.Two (index_tree first.entry) (index_tree second.entry)) }
 {
     match word {
-        IndicesWord::StructGet => access(alloc, first, second).map(GcOp::StructGet),
-        IndicesWord::StructGetS => access(alloc, first, second).map(GcOp::StructGetS),
-        IndicesWord::StructGetU => access(alloc, first, second).map(GcOp::StructGetU),
-        IndicesWord::StructSet => access(alloc, first, second).map(GcOp::StructSet),
+        IndicesWord::StructGet => struct_access(alloc, first, second).map(GcOp::StructGet),
+        IndicesWord::StructGetS => struct_access(alloc, first, second).map(GcOp::StructGetS),
+        IndicesWord::StructGetU => struct_access(alloc, first, second).map(GcOp::StructGetU),
+        IndicesWord::StructSet => struct_access(alloc, first, second).map(GcOp::StructSet),
         IndicesWord::ArrayNewData => {
             let operands = ArrayNewData {
                 array: first,
@@ -170,13 +170,13 @@ fn gc_indices<'a>(
             };
             boxed(alloc, operands).map(GcOp::ArrayCopy)
         }
-        IndicesWord::ArrayInitData => init(alloc, first, second).map(GcOp::ArrayInitData),
-        IndicesWord::ArrayInitElem => init(alloc, first, second).map(GcOp::ArrayInitElem),
+        IndicesWord::ArrayInitData => array_init(alloc, first, second).map(GcOp::ArrayInitData),
+        IndicesWord::ArrayInitElem => array_init(alloc, first, second).map(GcOp::ArrayInitElem),
     }
 }
 
 /// The operands of an access to a field.
-fn access<'a>(
+fn struct_access<'a>(
     alloc: Global,
     struct_type: Index<'a>,
     field: Index<'a>,
@@ -187,7 +187,7 @@ fn access<'a>(
 }
 
 /// The operands of what writes a segment into an array.
-fn init<'a>(
+fn array_init<'a>(
     alloc: Global,
     array: Index<'a>,
     segment: Index<'a>,
