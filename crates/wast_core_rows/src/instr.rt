@@ -1,9 +1,13 @@
 //! Instructions, unfolded.
+ghost use Rattle.std.specs.Prelude.{◌≡◌, ◌<◌};
+
 use crate::show::{Show, show_between, show_each, show_if, show_read};
 use row_page::Page;
 use std::alloc::AllocError;
 use std::fmt::{Debug, Display};
-use wast_core_instr::{BranchHint, Expression, GcOp, Instruction};
+use std::marker::Brand;
+use std::sync::ledger::{Blank, Ledger};
+use wast_core_instr::{BranchHint, Expression, GcOp, Instruction, Steps};
 use wast_parser::{Error, Parse, Parser};
 use wast_typed_operands::{BlockType, CallIndirect};
 use wast_value_types::HeapType;
@@ -16,6 +20,24 @@ pub fn unfold(page: &Page, parser: &mut Parser<'_>, folded: bool) -> Result<(), 
         Expression::parse(parser)
     };
     show_read(page, parser, read, "")
+}
+
+/// Prints what the items of a text unfold to, by the call that counts the turns of its loop.
+pub fn counted(page: &Page, parser: &mut Parser<'_>) -> Result<(), Error> {
+    let read = read_counted::<Brand>(parser, Blank::new(1));
+    show_read(page, parser, read, "")
+}
+
+fn read_counted<'a, L: Ledger>(
+    parser: &mut Parser<'a>,
+    blank: Blank,
+) -> Result<Expression<'a>, Error>
+    requires name { blank.name ≡ L.name }
+    requires parts { blank.parts ≡ L.parts }
+    requires some { 0 < blank.parts }
+{
+    let mut steps = Steps::<L>::new(blank);
+    Expression::parse_counted(parser, &mut steps)
 }
 
 /// Prints that a text is one instruction.

@@ -7,6 +7,8 @@
 //! - `data TEXT`: a value of a data segment, printed as how many bytes it is, and these;
 //! - `instr TEXT`: the instructions to which its items unfold, one a line, and the hints, or that the text is refused;
 //! - `folded TEXT`: the same of an instruction behind its operands;
+//! - `counted TEXT`: the same as `instr`, by the call that counts the turns of its loop;
+//! - `operands KIND TEXT`: indices that stand behind a mnemonic, or that the text is refused;
 //! - `mnemonic TEXT`: whether it is one instruction;
 //! - `custom TEXT`: a custom field: its name, its place and where it stands; then its data, its producers, or its
 //!   subsections, each by its number and its bytes;
@@ -21,6 +23,7 @@ mod data;
 mod exports;
 mod imports;
 mod instr;
+mod operands;
 mod show;
 mod types;
 mod values;
@@ -41,7 +44,7 @@ fn answer(page: &Page, line: &str) {
     page.put("> ");
     page.put_line(line);
     let (word, rest) = first_word(line);
-    if word == "type" || word == "import" {
+    if word == "type" || word == "import" || word == "operands" {
         let (kind, text) = first_word(rest);
         answer_of(page, word, kind, text);
     } else {
@@ -89,7 +92,7 @@ fn print(page: &Page, word: &str, kind: &str, parser: &mut Parser<'_>) -> Result
 fn register(parser: &mut Parser<'_>, word: &str) -> Result<(), Error> {
     match word {
         "type" | "import" => parser.register_annotation("name"),
-        "instr" | "folded" => parser.register_annotation("metadata.code.branch_hint"),
+        "instr" | "folded" | "counted" => parser.register_annotation("metadata.code.branch_hint"),
         "custom" => register_customs(parser),
         _ => Ok(()),
     }
@@ -108,6 +111,8 @@ fn print_part(page: &Page, word: &str, kind: &str, parser: &mut Parser<'_>) -> R
         "data" => show::show_all::<DataVal>(page, parser),
         "instr" => instr::unfold(page, parser, false),
         "folded" => instr::unfold(page, parser, true),
+        "counted" => instr::counted(page, parser),
+        "operands" => operands::print(page, kind, parser),
         "mnemonic" => instr::mnemonic(page, parser),
         "custom" => show::show_all::<Custom>(page, parser),
         "export" => show::show_all::<Export>(page, parser),

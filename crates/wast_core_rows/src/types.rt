@@ -1,13 +1,18 @@
 //! Types, signatures, definitions and uses.
-use crate::show::{Show, show_all, show_between, show_each, show_head, show_if, show_place};
+use crate::show::{
+    Show, show_all, show_between, show_each, show_head, show_if, show_place, show_read,
+};
 use crate::values::print_field_type;
 use row_page::Page;
 use wast_core_types::{
     ArrayType, CompositeType, InnerTypeKind, Rec, StructType, TypeDef, TypeItem,
 };
-use wast_parser::{Error, Parser};
+use wast_func_fields::LocalParser;
+use wast_parser::{Error, Parse, Parser};
 use wast_signatures::{FunctionType, FunctionTypeNoNames, Param, StructField, TypeUse};
-use wast_value_types::{FieldType, GlobalType, HeapType, MemoryType, RefType, TableType, ValType};
+use wast_value_types::{
+    FieldType, GlobalType, HeapType, MemoryType, RefType, StorageType, TableType, ValType,
+};
 
 /// Prints what a text is, read as one of a production.
 pub fn print(page: &Page, kind: &str, parser: &mut Parser<'_>) -> Result<(), Error> {
@@ -33,11 +38,49 @@ fn print_definition(page: &Page, kind: &str, parser: &mut Parser<'_>) -> Result<
         "rec" => show_all::<Rec>(page, parser),
         "use" => show_all::<TypeUse<FunctionType>>(page, parser),
         "bareuse" => show_all::<TypeUse<FunctionTypeNoNames>>(page, parser),
+        "locals" => show_all::<LocalParser>(page, parser),
+        _ => print_copy(page, kind, parser),
+    }
+}
+
+/// Prints a copy of what a text is.
+fn print_copy(page: &Page, kind: &str, parser: &mut Parser<'_>) -> Result<(), Error> {
+    match kind {
+        "storage-copy" => {
+            let copy = copied_storage(parser);
+            show_read(page, parser, copy, "\n")
+        }
+        "table-copy" => {
+            let copy = copied_table(parser);
+            show_read(page, parser, copy, "\n")
+        }
+        "global-copy" => {
+            let copy = copied_global(parser);
+            show_read(page, parser, copy, "\n")
+        }
         _ => {
             page.put("no such type\n");
             Ok(())
         }
     }
+}
+
+fn copied_storage<'a>(parser: &mut Parser<'a>) -> Result<StorageType<'a>, Error> {
+    let ty = StorageType::parse(parser)?;
+    let copy = ty.clone(parser.alloc())?;
+    Ok(copy)
+}
+
+fn copied_table<'a>(parser: &mut Parser<'a>) -> Result<TableType<'a>, Error> {
+    let ty = TableType::parse(parser)?;
+    let copy = ty.clone(parser.alloc())?;
+    Ok(copy)
+}
+
+fn copied_global<'a>(parser: &mut Parser<'a>) -> Result<GlobalType<'a>, Error> {
+    let ty = GlobalType::parse(parser)?;
+    let copy = ty.clone(parser.alloc())?;
+    Ok(copy)
 }
 
 // SIGNATURES
@@ -46,6 +89,17 @@ impl<'a> Show for Param<'a> {
     fn show(&self, page: &Page) {
         show_head(page, &self.0, &self.1);
         self.2.show(page);
+    }
+}
+
+impl<'a> Show for LocalParser<'a> {
+    fn show(&self, page: &Page) {
+        page.put("locals");
+        for local in &self.locals {
+            page.put(" (");
+            show_head(page, &local.id, &local.name);
+            show_between(page, "", &local.ty, ")");
+        }
     }
 }
 

@@ -15,6 +15,8 @@
 //! - `behind TEXT`: the same, behind the identifier in front of the text;
 //! - `registered TEXT`: whether a parenthesis opens behind the identifier in front of the text: as it is, and with
 //!   annotations `a` registered once the identifier is read;
+//! - `take KIND TEXT`: what a cursor takes that stands in front of the text: the name of an identifier (`id`) or of an annotation `a`
+//!   (`annotation`), the bytes of a string (`string`), or none; or where that is refused;
 //! - `errors`: the text of each lexical error.
 //!
 //! With the argument `measure` it measures the lexer and the parser instead.
@@ -63,6 +65,7 @@ fn answer_decoded(page: &Page, word: &str, written: &str) {
 fn answer_of(page: &Page, word: &str, text: &str) {
     match word {
         "read" => parser::read(page, text),
+        "take" => parser::take(page, text),
         "looks" | "comment" | "behind" | "registered" => parser::answer(page, word, text),
         _ => lexer::answer(page, word, text),
     }

@@ -3,6 +3,7 @@ ghost use Rattle.std.specs.Prelude.{◌≡◌, [], IfOk};
 ghost use Rattle.wast_parser.specs.Cursors.{Follows};
 
 use crate::lexer::fits;
+use item_lists::Bytes;
 use row_page::{Page, first_word};
 use std::alloc::Global;
 use std::borrow::CowStr;
@@ -113,6 +114,90 @@ fn front_comment<'b, 'a>(cursor: Cursor<'b, 'a>) -> Result<(Option<&'a str>, Cur
     match cursor.comment()? {
         Some((comment, rest)) => Ok((Some(comment), rest)),
         None => Ok((None, cursor)),
+    }
+}
+
+/// Prints what a cursor takes that stands in front of a text, which is of a kind that stands before it.
+pub fn take(page: &Page, words: &str) {
+    let (kind, text) = first_word(words);
+    if let Some(buffer) = buffer_of(page, text) {
+        take_of(page, kind, &mut Parser::new(&buffer));
+    }
+}
+
+fn take_of(page: &Page, kind: &str, parser: &mut Parser<'_>)
+    requires { parser.old.names ≡ [] }
+{
+    match kind {
+        "id" => print_taken(page, parser.step(front_id)),
+        "annotation" => print_taken(page, annotation_of(parser)),
+        "string" => print_bytes(page, parser.step(front_string)),
+        _ => page.put("no such kind\n"),
+    }
+}
+
+fn front_id<'b, 'a>(
+    cursor: Cursor<'b, 'a>,
+) -> Result<(Option<CowStr<'a, Global>>, Cursor<'b, 'a>), Error>
+    ensures { IfOk result (λ taken. Follows cursor.entry taken.1) }
+{
+    match cursor.id()? {
+        Some((name, rest)) => Ok((Some(name), rest)),
+        None => Ok((None, cursor)),
+    }
+}
+
+/// The name of an annotation `a` that stands in front.
+fn annotation_of<'a>(parser: &mut Parser<'a>) -> Result<Option<CowStr<'a, Global>>, Error>
+    requires { parser.old.names ≡ [] }
+{
+    parser.register_annotation("a")?;
+    parser.step(front_annotation)
+}
+
+fn front_annotation<'b, 'a>(
+    cursor: Cursor<'b, 'a>,
+) -> Result<(Option<CowStr<'a, Global>>, Cursor<'b, 'a>), Error>
+    ensures { IfOk result (λ taken. Follows cursor.entry taken.1) }
+{
+    if let Some(inside) = cursor.lparen()? {
+        if let Some((name, rest)) = inside.annotation()? {
+            return Ok((Some(name), rest));
+        }
+    }
+    Ok((None, cursor))
+}
+
+fn front_string<'b, 'a>(
+    cursor: Cursor<'b, 'a>,
+) -> Result<(Option<Bytes<'a>>, Cursor<'b, 'a>), Error>
+    ensures { IfOk result (λ taken. Follows cursor.entry taken.1) }
+{
+    match cursor.string()? {
+        Some((bytes, rest)) => Ok((Some(bytes), rest)),
+        None => Ok((None, cursor)),
+    }
+}
+
+/// Prints what was taken, or that nothing was, or where that is refused.
+fn print_taken<T: Display + Drop>(page: &Page, taken: Result<Option<T>, Error>) {
+    match taken {
+        Ok(Some(value)) => writeln!(page, "{value}"),
+        Ok(None) => page.put("none\n"),
+        Err(error) => refused(page, &error),
+    }
+}
+
+/// The same of bytes, one by one.
+fn print_bytes(page: &Page, taken: Result<Option<Bytes<'_>>, Error>) {
+    match taken {
+        Ok(Some(bytes)) => {
+            page.put("bytes");
+            page.put_bytes(bytes.as_slice());
+            page.put("\n");
+        }
+        Ok(None) => page.put("none\n"),
+        Err(error) => refused(page, &error),
     }
 }
 
