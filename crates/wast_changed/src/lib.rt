@@ -46,6 +46,6 @@ pub use types::{
     change_type_use,
 };
 pub use value_types::{
-    change_field_type, change_global_type, change_heap_type, change_ref_type, change_storage_type,
-    change_table_type, change_val_type,
+    change_global_type, change_heap_type, change_ref_type, change_storage_type, change_table_type,
+    change_val_type,
 };

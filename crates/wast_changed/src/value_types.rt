@@ -2,13 +2,13 @@
 ghost use Rattle.std.specs.Prelude.{◌≡◌, ℕ, map};
 ghost use Rattle.wast_grammar.specs.Tokens.{Name};
 ghost use Rattle.wast_value_types.specs.ValueTree as spec;
-ghost use Rattle.wast_value_types.specs.ValueViews.{heap_tree, ref_tree, val_tree, storage_tree, field_tree, table_tree, global_tree};
-ghost use Rattle.wast_meaning.specs.Changed.{heap_changed, ref_changed, val_changed, storage_changed, field_type_changed, table_type_changed, global_type_changed};
+ghost use Rattle.wast_value_types.specs.ValueViews.{heap_tree, ref_tree, val_tree, storage_tree, table_tree, global_tree};
+ghost use Rattle.wast_meaning.specs.Changed.{heap_changed, ref_changed, val_changed, storage_changed, table_type_changed, global_type_changed};
 
 use crate::changing::Changing;
 use crate::list::{ByChange, Each, turn_list};
 use wast_meaning::Space;
-use wast_value_types::{FieldType, GlobalType, HeapType, RefType, StorageType, TableType, ValType};
+use wast_value_types::{GlobalType, HeapType, RefType, StorageType, TableType, ValType};
 
 /// A heap type (6.4.2).
 pub fn change_heap_type<'a, C: Changing<'a>>(change: &C, ty: &mut HeapType<'a>)
@@ -44,13 +44,6 @@ pub fn change_storage_type<'a, C: Changing<'a>>(change: &C, ty: &mut StorageType
     if let StorageType::Val(ty) = ty {
         change_val_type(change, ty);
     }
-}
-
-/// A field type (6.4.6).
-pub fn change_field_type<'a, C: Changing<'a>>(change: &C, ty: &mut FieldType<'a>)
-    ensures { field_tree ty.new ≡ field_type_changed (C.change change.now) (field_tree ty.old) }
-{
-    change_storage_type(change, &mut ty.ty);
 }
 
 /// A table type (6.4.12).

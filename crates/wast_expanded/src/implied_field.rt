@@ -1,6 +1,5 @@
 //! Fields of implied types.
 ghost use Rattle.std.specs.Prelude.{◌≡◌, IfOk, map, option_map};
-ghost use Rattle.wast_parser.specs.Identifiers.{identifier_tree};
 ghost use Rattle.wast_signatures.specs.SignatureViews.{name_tree, param_tree, sig_tree};
 ghost use Rattle.wast_module_fields.specs.ModuleFieldViews.{field_tree};
 ghost use Rattle.wast_meaning.specs.Numbered.{implied_field};
@@ -8,11 +7,11 @@ ghost use Rattle.wast_implied.specs.Views.{implied_tree};
 
 use std::alloc::{AllocError, Global};
 use wast_core_types::{InnerTypeKind, TypeDef};
-use wast_implied::ImpliedType;
+use wast_implied::{ImpliedType, copied_types};
 use wast_module_fields::{FunctionType, ModuleField, TypeItem};
-use wast_parser::{Id, NameAnnotation, Span};
+use wast_names::copied_id;
+use wast_parser::{NameAnnotation, Span};
 use wast_signatures::Param;
-use wast_value_types::ValType;
 
 /// The field of an implied type: a final function type without a name. Fails only where no memory is found for its signature.
 pub(crate) fn implied_field<'a>(
@@ -54,7 +53,7 @@ fn copy_signature<'a>(
     ensures { IfOk result (λ copy. sig_tree copy ≡ sig_tree signature.now) }
 {
     let params = copy_params(alloc, &signature.params)?;
-    let results = copy_results(alloc, &signature.results)?;
+    let results = copied_types(alloc, &signature.results)?;
     Ok(FunctionType { params, results })
 }
 
@@ -64,22 +63,12 @@ fn copy_params<'a>(alloc: Global, params: &[Param<'a>]) -> Result<Vec<Param<'a>>
 {
     let mut copies = Vec::with_capacity(alloc, params.len())?;
     for param in params {
-        let id = copy_id(alloc, &param.0)?;
+        let id = copied_id(alloc, &param.0)?;
         let name = copy_name(&param.1)?;
         let ty = param.2.clone(alloc)?;
         copies.push((id, name, ty))?;
     }
     Ok(copies)
-}
-
-/// The same identifier, where there is one.
-fn copy_id<'a>(alloc: Global, id: &Option<Id<'a>>) -> Result<Option<Id<'a>>, AllocError>
-    ensures { IfOk result (λ copy. option_map identifier_tree copy ≡ option_map identifier_tree id.now) }
-{
-    match id {
-        Some(id) => Ok(Some(id.clone(alloc)?)),
-        None => Ok(None),
-    }
 }
 
 /// The same name of an annotation, where there is one.
@@ -95,15 +84,4 @@ fn copy_name<'a>(
         }
         None => Ok(None),
     }
-}
-
-/// The same types.
-fn copy_results<'a>(alloc: Global, types: &[ValType<'a>]) -> Result<Vec<ValType<'a>>, AllocError>
-    ensures { IfOk result (λ copies. copies.items ≡ types.now) }
-{
-    let mut copies = Vec::with_capacity(alloc, types.len())?;
-    for ty in types {
-        copies.push(ty.clone(alloc)?)?;
-    }
-    Ok(copies)
 }

@@ -2,7 +2,7 @@
 ghost use Rattle.std.specs.Prelude.{◌≡◌, IfOk, option_map, unwrap_or};
 ghost use Rattle.wast_parser.specs.Identifiers.{ByNumber, index_tree};
 ghost use Rattle.wast_signatures.specs.SignatureViews.{sig_tree};
-ghost use Rattle.wast_meaning.specs.Implied.{is_short, no_sig};
+ghost use Rattle.wast_meaning.specs.Implied.{no_sig};
 ghost use Rattle.wast_implied.specs.Views.{known};
 ghost use Rattle.wast_changed.specs.Rewritten.{everywhere};
 ghost use Rattle.wast_expanded.specs.Expanding.{taken, taking_of};
@@ -10,7 +10,7 @@ ghost use Rattle.wast_expanded.specs.Expanding.{taken, taking_of};
 use std::alloc::{AllocError, Global};
 use wast_changed::{Changing, Rewriting};
 use wast_changed_fields::change_expression;
-use wast_implied::Implied;
+use wast_implied::{Implied, is_short};
 use wast_meaning::Space;
 use wast_module_fields::{Expression, FunctionType, Local, TypeUse};
 use wast_parser::{Index, Span};
@@ -94,11 +94,4 @@ impl<'t, 'a> Rewriting<'a> for Taking<'t, 'a> {
     ) -> Result<(), AllocError> {
         change_expression(self, body)
     }
-}
-
-/// Whether a signature has no parameters, and at most one result.
-fn is_short(signature: &FunctionType<'_>) -> bool
-    ensures { result ≡ is_short (sig_tree signature.now) }
-{
-    signature.params.is_empty() && signature.results.len() <= 1
 }

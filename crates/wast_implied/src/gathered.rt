@@ -67,13 +67,6 @@ impl<'a> Implied<'a> {
         &self.types
     }
 
-    /// How many types there are, written and implied.
-    pub fn count(&self) -> u32
-        ensures { result ≡ (known self.now).types.count }
-    {
-        self.count
-    }
-
     /// The number of the first plain type with a signature.
     fn find(&self, signature: &FunctionType<'a>) -> Result<Option<u32>, AllocError>
         ensures { IfOk result (λ number. number ≡ (known self.now).types.look (shape (sig_tree signature.now))) }
@@ -224,7 +217,7 @@ fn plain_signature<'a, 'b>(item: &'b TypeItem<'a>, in_group: bool) -> Option<&'b
 }
 
 /// Whether a signature has no parameters, and at most one result.
-fn is_short(signature: &FunctionType<'_>) -> bool
+pub fn is_short(signature: &FunctionType<'_>) -> bool
     ensures { result ≡ is_short (sig_tree signature.now) }
 {
     signature.params.is_empty() && signature.results.len() <= 1
@@ -245,7 +238,7 @@ fn unnamed<'a>(alloc: Global, signature: &FunctionType<'a>) -> Result<FunctionTy
     ensures { IfOk result (λ copy. sig_tree copy ≡ unnamed (sig_tree signature.now)) }
 {
     let params = unnamed_params(alloc, &signature.params)?;
-    let results = copies(alloc, &signature.results)?;
+    let results = copied_types(alloc, &signature.results)?;
     Ok(FunctionType { params, results })
 }
 
@@ -261,11 +254,14 @@ fn unnamed_params<'a>(alloc: Global, params: &[Param<'a>]) -> Result<Vec<Param<'
     Ok(copies)
 }
 
-/// The same types.
-fn copies<'a>(alloc: Global, types: &[ValType<'a>]) -> Result<Vec<ValType<'a>>, AllocError>
+/// The same types. Fails only where no memory is found for them.
+pub fn copied_types<'a>(
+    alloc: Global,
+    types: &[ValType<'a>],
+) -> Result<Vec<ValType<'a>>, AllocError>
     ensures { IfOk result (λ copies. copies.items ≡ types.now) }
 {
-    let mut copies = Vec::new(alloc);
+    let mut copies = Vec::with_capacity(alloc, types.len())?;
     for ty in types {
         copies.push(ty.clone(alloc)?)?;
     }

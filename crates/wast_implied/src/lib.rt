@@ -8,7 +8,8 @@
 //!
 //! [`Implied::of`] gathers the types of a module's fields; [`Implied::types`] are those to add, in order, each at the place of the field
 //! that uses it first; [`Implied::number_of`] tells which type a use takes. Fields are only borrowed. Signatures are kept in order, so
-//! that n of them cost n log n whatever they are. [`word_code`] is what an abstract heap type is there.
+//! that n of them cost n log n whatever they are. [`word_code`] is what an abstract heap type is there. [`is_short`] tells which signature
+//! needs no type as a block's, and [`copied_types`] copies the types of a list.
 //!
 //! # What has to be believed
 //!
@@ -26,5 +27,5 @@ mod gathered;
 mod key;
 mod uses;
 
-pub use gathered::{Implied, ImpliedType};
+pub use gathered::{Implied, ImpliedType, copied_types, is_short};
 pub use key::word_code;

@@ -1,5 +1,5 @@
 use Rattle.std.proofs.Common.{◌≡◌, take}
-use Rattle.wast_expanded.proofs.implied_field.copy_results.Given as goal
+use Rattle.wast_implied.proofs.gathered.copied_types.Given as goal
 
 abbrev pub invariant-loop-ty : goal.invariant-loop-ty
 invariant-loop-ty l = l.copies.items ≡ take l.ty-index l.types
