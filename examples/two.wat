@@ -1,5 +1,0 @@
-(module
-  (func (export "answer") (export "forty-two")
-    i32.const 42
-    drop)
-  (func nop))
