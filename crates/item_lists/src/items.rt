@@ -81,6 +81,7 @@ impl<'a, T> Items<'a, T> {
         self.as_slice().len()
     }
 
+    /// Whether there are no items.
     pub fn is_empty(&self) -> bool
         ensures { result ≡ nat_eq (length self.now) 0 }
     {
@@ -88,7 +89,8 @@ impl<'a, T> Items<'a, T> {
     }
 }
 
-/// The same items: borrowed from the same place, or in a vector of their own with the allocator of these.
+/// The same items: borrowed from the same place, or in a vector of their own with the allocator of these. Fails only where no
+/// memory is found.
 impl<'a, T: Copy> Clone for Items<'a, T> {
     ghost is_clone = { λ items copy. copy ≡ items };
 
@@ -146,7 +148,7 @@ impl<T> OwnedItems<T> {
     }
 }
 
-/// The same items once more, in memory of the same allocator.
+/// The same items once more, in memory of the same allocator. Fails only where no memory is found.
 impl<T: Copy> Clone for OwnedItems<T> {
     ghost is_clone = { λ items copy. copy ≡ items };
 

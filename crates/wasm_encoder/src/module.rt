@@ -33,7 +33,7 @@ impl Model for Module {
 }
 
 impl Module {
-    /// A module without sections.
+    /// A module without sections. Fails only where no memory is found.
     pub fn new(alloc: Global) -> Result<Self, AllocError>
         ensures { IfOk result (λ m. m ≡ []) }
     {
@@ -41,7 +41,7 @@ impl Module {
         Ok(Module { bytes })
     }
 
-    /// Appends a section: its number, and its encoding.
+    /// Appends a section: its number, and its encoding. Refused as the section's `encode` is; the module is unchanged then.
     pub fn section<S: Section>(&mut self, section: &S) -> Result<Added<'_, Self>, EncodeError>
         requires { S.Encode.can_encode section.now }
         ensures* refused { sem 𝓛 (KeptIfRefused the_row self.entry result) }
@@ -59,7 +59,7 @@ impl Module {
         bytes
     }
 
-    /// The same module, in memory of its own.
+    /// The same module, in memory of its own. Fails only where no memory is found.
     pub fn clone(&self) -> Result<Self, AllocError>
         ensures { IfOk result (λ m. m ≡ self.now) }
     {

@@ -4,7 +4,7 @@ ghost use Rattle.std.specs.Prelude.{◌≡◌, ℕ};
 
 use wasm_encoder_bytes::Encode;
 
-/// The kinds of sections; each number is the section's first byte.
+/// The kinds of sections (5.5.2); each number is the section's first byte.
 #[derive(Clone, Copy, Debug, PartialEq, Eq, Hash)]
 pub enum SectionId {
     Custom = 0,
@@ -33,7 +33,7 @@ impl From<SectionId> for u8 {
     }
 }
 
-/// A section of a module: its spelling is that of its size and what stands in it.
+/// A section of a module (5.5.2): its spelling is that of its size and what stands in it.
 pub trait Section: Encode {
     ghost section_id: { Self → ℕ };
 

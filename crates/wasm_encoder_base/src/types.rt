@@ -10,7 +10,7 @@ use item_lists::OwnedItems;
 use std::alloc::{AllocError, Global};
 use wasm_encoder_bytes::{Encode, EncodeError, encode_both, rolled_back};
 
-/// A heap type with a name of its own; each number is its byte.
+/// A heap type with a name of its own (5.3); each number is its byte.
 #[derive(Clone, Copy, Debug, PartialEq, Eq, Hash)]
 pub enum AbstractHeapType {
     Func = 0x70,
@@ -39,7 +39,7 @@ impl Encode for AbstractHeapType {
     }
 }
 
-/// A heap type: abstract, or the index of a type.
+/// A heap type (5.3): abstract, or the index of a type.
 #[derive(Clone, Copy, Debug, PartialEq, Eq, Hash)]
 pub enum HeapType {
     Abstract(AbstractHeapType),
@@ -61,7 +61,7 @@ impl Encode for HeapType {
     }
 }
 
-/// A type of references to a heap type, nullable or not.
+/// A type of references to a heap type, nullable or not (5.3).
 #[derive(Clone, Copy, Debug, PartialEq, Eq, Hash)]
 pub struct RefType {
     pub nullable: bool,
@@ -104,7 +104,7 @@ impl Encode for RefType {
     }
 }
 
-/// A type of values.
+/// A type of values (5.3).
 #[derive(Clone, Copy, Debug, PartialEq, Eq, Hash)]
 pub enum ValType {
     I32,
@@ -134,7 +134,7 @@ impl Encode for ValType {
     }
 }
 
-/// What a field holds: a value, or an integer of 8 or 16 bits.
+/// What a field holds (5.3): a value, or an integer of 8 or 16 bits.
 #[derive(Clone, Copy, Debug, PartialEq, Eq, Hash)]
 pub enum StorageType {
     I8,
@@ -158,7 +158,7 @@ impl Encode for StorageType {
     }
 }
 
-/// A field of a structure or an array.
+/// A field of a structure or an array (5.3).
 #[derive(Clone, Copy, Debug, PartialEq, Eq, Hash)]
 pub struct FieldType {
     pub element_type: StorageType,
@@ -177,7 +177,7 @@ impl Encode for FieldType {
     }
 }
 
-/// A function's parameters and results.
+/// A function's parameters and results (5.3).
 #[derive(Clone, Debug, Drop)]
 pub struct FuncType {
     params: OwnedItems<ValType>,
@@ -185,7 +185,7 @@ pub struct FuncType {
 }
 
 impl FuncType {
-    /// The type with these parameters and results.
+    /// The type with these parameters and results. Fails only where no memory is found.
     pub fn new(alloc: Global, params: &[ValType], results: &[ValType]) -> Result<Self, AllocError>
         ensures params { IfOk result (λ f. func_params f ≡ params.now) }
         ensures results { IfOk result (λ f. func_results f ≡ results.now) }
@@ -244,7 +244,7 @@ fn encode_val_types(types: &[ValType], sink: &mut Vec<u8>) -> Result<(), EncodeE
     types.encode(sink)
 }
 
-/// A structure's fields.
+/// A structure's fields (5.3).
 #[derive(Clone, Debug, Drop)]
 pub struct StructType {
     pub fields: OwnedItems<FieldType>,
@@ -263,7 +263,7 @@ impl Encode for StructType {
     }
 }
 
-/// A type of arrays, by their elements.
+/// A type of arrays, by their elements (5.3).
 #[derive(Clone, Copy, Debug, PartialEq, Eq, Hash)]
 pub struct ArrayType(pub FieldType);
 
@@ -279,7 +279,7 @@ impl Encode for ArrayType {
     }
 }
 
-/// A function, array or structure type.
+/// A function, array or structure type (5.3).
 #[derive(Clone, Debug, Drop)]
 pub enum CompositeType {
     Func(FuncType),
@@ -303,7 +303,7 @@ impl Encode for CompositeType {
     }
 }
 
-/// A composite type with its place below another.
+/// A composite type with its place below another (5.3).
 #[derive(Clone, Debug, Drop)]
 pub struct SubType {
     pub is_final: bool,

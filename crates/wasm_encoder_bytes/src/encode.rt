@@ -30,7 +30,7 @@ pub trait Encode {
         ensures { Encodes (spelling self.now) (fits self.now) sink.old.items sink.new.items result };
 }
 
-/// The byte itself.
+/// The byte itself (5.2.1).
 impl Encode for u8 {
     ghost can_encode = { λ _. Unit {0} };
 
@@ -44,7 +44,7 @@ impl Encode for u8 {
     }
 }
 
-/// The shortest unsigned LEB128.
+/// The shortest unsigned LEB128 (5.2.2).
 impl Encode for u32 {
     ghost can_encode = { λ _. Unit {0} };
 
@@ -58,7 +58,7 @@ impl Encode for u32 {
     }
 }
 
-/// The shortest unsigned LEB128.
+/// The shortest unsigned LEB128 (5.2.2).
 impl Encode for u64 {
     ghost can_encode = { λ _. Unit {0} };
 
@@ -89,7 +89,7 @@ impl Encode for usize {
     }
 }
 
-/// The shortest signed LEB128.
+/// The shortest signed LEB128 (5.2.2).
 impl Encode for i32 {
     ghost can_encode = { λ _. Unit {0} };
 
@@ -103,7 +103,7 @@ impl Encode for i32 {
     }
 }
 
-/// The shortest signed LEB128.
+/// The shortest signed LEB128 (5.2.2).
 impl Encode for i64 {
     ghost can_encode = { λ _. Unit {0} };
 
@@ -170,7 +170,7 @@ fn put_all<T: Encode>(items: &[T], sink: &mut Vec<u8>) -> Result<(), EncodeError
     Ok(())
 }
 
-/// Appends two spellings, one after the other.
+/// Appends two spellings, one after the other. Refused as [`Encode::encode`] is; the bytes of `sink` are unchanged then.
 pub fn encode_both<T: Encode, U: Encode>(
     first: &T,
     second: &U,
@@ -186,7 +186,8 @@ pub fn encode_both<T: Encode, U: Encode>(
     rolled_back(sink, start, answer)
 }
 
-/// Appends the byte count and the bytes as they are: a name, or a part that has its size before it.
+/// Appends the byte count and the bytes as they are: a name (5.2.4), or a part that has its size before it. Refused as
+/// [`Encode::encode`] is; the bytes of `sink` are unchanged then.
 pub fn encode_sized(bytes: &[u8], sink: &mut Vec<u8>) -> Result<(), EncodeError>
     ensures { Encodes (sized bytes.now) (length bytes.now < 2 ^ 32) sink.old.items sink.new.items result }
 {

@@ -7,7 +7,7 @@ ghost use Rattle.wasm_encoder_bytes.specs.Ieee.{ieee32_bits, ieee64_bits};
 use crate::encode::Encode;
 use crate::error::EncodeError;
 
-/// A float of 32 bits; its spelling is these, the low byte first.
+/// A float of 32 bits (5.2.3); its spelling is these, the low byte first.
 #[derive(Clone, Copy, Debug, PartialEq, Eq, Hash)]
 pub struct Ieee32 {
     bits: u32,
@@ -46,7 +46,7 @@ impl Encode for Ieee32 {
     }
 }
 
-/// A float of 64 bits; its spelling is these, the low byte first.
+/// A float of 64 bits (5.2.3); its spelling is these, the low byte first.
 #[derive(Clone, Copy, Debug, PartialEq, Eq, Hash)]
 pub struct Ieee64 {
     bits: u64,

@@ -79,6 +79,7 @@ impl EncodedList {
         self.count
     }
 
+    /// Whether there are no items.
     pub fn is_empty(&self) -> bool
         ensures { result ≡ nat_eq self.now.count 0 }
     {
@@ -97,7 +98,7 @@ impl EncodedList {
         *self.bytes.allocator()
     }
 
-    /// The same list, in memory of its own.
+    /// The same list, in memory of its own. Fails only where no memory is found.
     pub fn clone(&self) -> Result<Self, AllocError>
         ensures { IfOk result (λ list. list ≡ self.now) }
     {

@@ -13,7 +13,9 @@ use wasm_encoder_base::{
 };
 use wasm_encoder_instr::{GcOp, Instruction, NumericOp, VectorArgOp};
 
-/// A constant expression: the bytes of its instructions, without the `end`. Contracts see the bytes.
+/// A constant expression (5.4.9): the bytes of its instructions, without the `end`. Contracts see the bytes.
+///
+/// No call but [`extended`](ConstExpr::extended) is refused as too large.
 #[derive(Debug, Drop)]
 pub struct ConstExpr {
     bytes: Vec<u8>,
@@ -50,7 +52,7 @@ impl ConstExpr {
         }
     }
 
-    /// The bytes as they are.
+    /// The bytes as they are. Fails only where no memory is found.
     pub fn raw(alloc: Global, bytes: &[u8]) -> Result<Self, EncodeError>
         ensures { IsMade (bytes.now) (Unit {0}) result }
     {
@@ -58,7 +60,8 @@ impl ConstExpr {
         Ok(ConstExpr { bytes })
     }
 
-    /// The instructions.
+    /// The instructions. One with a memory argument is one that [`can_encode`](Instruction::can_encode): its `align` is below 16.
+    /// Refused for want of memory, and as too large where a count in one is past 4294967295.
     pub fn extended(alloc: Global, instructions: &[Instruction]) -> Result<Self, EncodeError>
         requires { All can_encode_instr instructions.now }
         ensures { IsMade (flat_map (λ i. instr_bytes (instr_view i)) instructions.now) (All fits_instr instructions.now) result }
@@ -67,7 +70,7 @@ impl ConstExpr {
         Ok(ConstExpr { bytes })
     }
 
-    /// The same bytes, in a vector of their own.
+    /// The same bytes, in a vector of their own. Fails only where no memory is found.
     pub fn clone(&self) -> Result<Self, AllocError>
         ensures { IfOk result (λ expression. expression ≡ self.now) }
     {

@@ -16,7 +16,8 @@ use std::marker::Model;
 use wasm_encoder_base::{Added, Encode, EncodeError, ValType, encode_sized};
 use wasm_encoder_instr::Instruction;
 
-/// The body of a function: its locals and its instructions. Contracts see the bytes.
+/// The body of a function (5.5.13): its locals and its instructions. The `end` that closes it is left to the caller. Contracts
+/// see the bytes.
 #[derive(Debug, Drop)]
 pub struct Function {
     bytes: Vec<u8>,
@@ -69,7 +70,8 @@ impl Encode for Function {
 }
 
 impl Function {
-    /// A body with these locals, as many of each type as its number says, and no instructions.
+    /// A body with these locals, as many of each type as its number says, and no instructions. Refused as too large where there
+    /// are more than 4294967295 pairs, and for want of memory.
     pub fn new(alloc: Global, locals: &[(u32, ValType)]) -> Result<Self, EncodeError>
         ensures ok { IfOk result (λ function. function ≡ counted pair_bytes locals.now) }
         ensures fits { OnOk result (length locals.now < 2 ^ 32) }
@@ -84,7 +86,8 @@ impl Function {
         Ok(Function { bytes })
     }
 
-    /// A body with locals of these types, neighbours of one type joined, and no instructions.
+    /// A body with locals of these types, neighbours of one type joined, and no instructions. Refused as too large where there
+    /// are more than 4294967295 runs, or locals in one, and for want of memory.
     #[tactic(auto, using(crate::proofs::Joined::runs_bytes, crate::proofs::Joined::runs_length))]
     pub fn new_with_locals_types(alloc: Global, locals: &[ValType]) -> Result<Self, EncodeError>
         ensures ok { IfOk result (λ function. function ≡ locals_bytes (map val_view locals.now)) }
@@ -95,7 +98,7 @@ impl Function {
         Function::new(alloc, runs.as_slice())
     }
 
-    /// What takes instructions.
+    /// A sink that appends instructions to this body.
     pub fn instructions(&mut self) -> InstructionSink<'_>
         ensures* lends { sem 𝓛 (Lends the_row bytes_row self.entry result.sink (λ w. w.items)) }
         ensures value { bytes_in result ≡ self.old }
@@ -103,7 +106,9 @@ impl Function {
         InstructionSink::new(&mut self.bytes)
     }
 
-    /// Appends the instruction's bytes.
+    /// Appends the instruction's bytes. One with a memory argument is one that [`can_encode`](Instruction::can_encode): its
+    /// `align` is below 16. Refused for want of memory, and as too large where a count in it is past 4294967295; the body is
+    /// unchanged then.
     pub fn instruction(&mut self, instruction: &Instruction) -> Result<Added<'_, Self>, EncodeError>
         requires { can_encode_instr instruction.now }
         ensures* refused { sem 𝓛 (RestsIfErr the_row self.entry (λ added. added.target.ghost_name) result (λ n. n ≡ self.old)) }
@@ -116,7 +121,7 @@ impl Function {
         Ok(Added { target: self })
     }
 
-    /// Appends the bytes as they are.
+    /// Appends the bytes as they are. Fails only where no memory is found; the body is unchanged then.
     pub fn raw(&mut self, bytes: &[u8]) -> Result<Added<'_, Self>, EncodeError>
         ensures* refused { sem 𝓛 (RestsIfErr the_row self.entry (λ added. added.target.ghost_name) result (λ n. n ≡ self.old)) }
         ensures ok { IfOk result (λ added. added.target.now ≡ self.old ++ bytes.now) }
@@ -142,7 +147,7 @@ impl Function {
         bytes
     }
 
-    /// The same bytes, in a vector of their own.
+    /// The same bytes, in a vector of their own. Fails only where no memory is found.
     pub fn clone(&self) -> Result<Self, AllocError>
         ensures { IfOk result (λ function. function ≡ self.now) }
     {

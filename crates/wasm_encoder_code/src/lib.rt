@@ -3,8 +3,11 @@
 //!
 //! A [`Function`] is a body: its locals, and the instructions that are appended. [`Function::instructions`] lends it to an
 //! [`InstructionSink`], which appends to any vector of bytes; its calls chain. A [`ConstExpr`] is an expression without
-//! its `end`, which `encode` appends. A refused call leaves the bytes as they were, save that a `with_` call of an
-//! expression takes it and then drops it.
+//! its `end`, which `encode` appends.
+//!
+//! A call refuses with `EncodeError::TooLarge` exactly where, memory found, a count or length in what it makes or appends is
+//! past 4294967295, and with `EncodeError::Memory` where a growth found no memory. It then leaves the bytes as they were, save
+//! that a `with_` call of an expression takes it and then drops it.
 //!
 //! ```
 //! let mut bytes = Vec::new(alloc);

@@ -7,13 +7,15 @@ ghost use Rattle.wasm_encoder_code.specs.Sink.{Appends, RestsUnchanged, bytes_in
 use wasm_encoder_base::{Encode, EncodeError, HeapType, Ieee32, Ieee64};
 use wasm_encoder_instr::{BlockType, GcOp, Instruction, NumericOp, VectorArgOp};
 
-/// Appends instructions to a vector of bytes; its calls chain. A refused call leaves the vector as it was.
+/// Appends instructions to a vector of bytes; its calls chain. A refused call leaves the vector as it was; none but
+/// [`instruction`](InstructionSink::instruction) is refused as too large.
 #[derive(Debug, Drop)]
 pub struct InstructionSink<'a> {
     sink: &'a mut Vec<u8>,
 }
 
 impl<'a> InstructionSink<'a> {
+    /// A sink that appends to this vector.
     pub fn new(sink: &'a mut Vec<u8>) -> InstructionSink<'a>
         ensures value { bytes_in result ≡ sink.old.items }
         ensures same_reference { result.sink.ghost_name ≡ sink.entry.ghost_name }
@@ -21,7 +23,9 @@ impl<'a> InstructionSink<'a> {
         InstructionSink { sink }
     }
 
-    /// Appends the instruction's bytes.
+    /// Appends the instruction's bytes. One with a memory argument is one that [`can_encode`](Instruction::can_encode): its
+    /// `align` is below 16. Refused for want of memory, and as too large where a count in it is past 4294967295; the bytes are
+    /// unchanged then.
     pub fn instruction(self, instruction: &Instruction) -> Result<Self, EncodeError>
         requires { can_encode_instr instruction.now }
         ensures* refused { sem 𝓛 (RestsUnchanged self.entry result) }

@@ -39,7 +39,7 @@ impl BranchHints {
         }
     }
 
-    /// Appends the hints of a function.
+    /// Appends the hints of the function with this index.
     pub fn function_hints(
         &mut self,
         function: u32,

@@ -9,7 +9,7 @@ use std::alloc::{AllocError, Global};
 use std::borrow::CowStr;
 use wasm_encoder_base::{Bytes, Encode, EncodeError, Measure, Part, RawBytes, Section, SectionId};
 
-/// A custom section: its name, and its data.
+/// A custom section (5.5.3): its name, and its data.
 #[derive(Debug, Drop, PartialEq)]
 pub struct CustomSection<'a> {
     /// The name of the section.
@@ -19,7 +19,8 @@ pub struct CustomSection<'a> {
 }
 
 impl<'a> CustomSection<'a> {
-    /// The same section: what is borrowed is borrowed from the same place, what is owned is copied.
+    /// The same section: what is borrowed is borrowed from the same place, what is owned is copied. Fails only where no memory is
+    /// found.
     pub fn clone(&self) -> Result<Self, AllocError>
         ensures name { IfOk result (λ section. cow_str_bytes section.name ≡ cow_str_bytes self.now.name) }
         ensures bytes { IfOk result (λ section. section.bytes ≡ self.now.bytes) }

@@ -36,7 +36,7 @@ impl Model for CoreDumpSection {
 }
 
 impl CoreDumpSection {
-    /// A section with this name.
+    /// A section with this name. Fails only where no memory is found.
     pub fn new(alloc: Global, name: &str) -> Result<Self, AllocError>
         ensures { IfOk result (λ section. section ≡ name.now) }
     {
@@ -44,7 +44,7 @@ impl CoreDumpSection {
         Ok(CoreDumpSection { name })
     }
 
-    /// The same section, in memory of its own.
+    /// The same section, in memory of its own. Fails only where no memory is found.
     pub fn clone(&self) -> Result<Self, AllocError>
         ensures { IfOk result (λ section. section ≡ self.now) }
     {
@@ -114,7 +114,7 @@ impl CoreDumpModulesSection {
         self.modules.len()
     }
 
-    /// The section with its data in memory of its own.
+    /// The section with its data in memory of its own. Fails only where no memory is found.
     pub fn as_custom(&self) -> Result<CustomSection<'static>, EncodeError>
         ensures name { IfOk result (λ section. cow_str_bytes section.name ≡ (modules_section self.now).name) }
         ensures bytes { IfOk result (λ section. section.bytes ≡ (modules_section self.now).contents) }
@@ -192,7 +192,7 @@ impl CoreDumpInstancesSection {
         self.instances.len()
     }
 
-    /// The section with its data in memory of its own.
+    /// The section with its data in memory of its own. Fails only where no memory is found.
     pub fn as_custom(&self) -> Result<CustomSection<'static>, EncodeError>
         ensures name { IfOk result (λ section. cow_str_bytes section.name ≡ (instances_section self.now).name) }
         ensures bytes { IfOk result (λ section. section.bytes ≡ (instances_section self.now).contents) }
@@ -241,7 +241,7 @@ impl Model for CoreDumpStackSection {
 }
 
 impl CoreDumpStackSection {
-    /// The stack of a thread with this name, without frames.
+    /// The stack of a thread with this name, without frames. Fails only where no memory is found.
     pub fn new(alloc: Global, name: &str) -> Result<Self, AllocError>
         ensures { IfOk result (λ section. section ≡ record { name = name.now; frames = no_items }) }
     {
@@ -252,8 +252,8 @@ impl CoreDumpStackSection {
         })
     }
 
-    /// Appends a frame: the indices of its instance and its function, the offset of its instruction in bytes, and the
-    /// values of its locals and of its operand stack.
+    /// Appends a frame: the indices of its instance and its function, the offset of its instruction in bytes from the start
+    /// of the function's body, and the values of its locals and of its operand stack.
     pub fn frame(
         &mut self,
         instance_index: u32,
@@ -270,7 +270,8 @@ impl CoreDumpStackSection {
         Ok(Added { target: self })
     }
 
-    /// The section with its data in memory of its own.
+    /// The section with its data in memory of its own. Refused as too large where the thread's name has more than 4294967295
+    /// bytes, and for want of memory.
     pub fn as_custom(&self) -> Result<CustomSection<'static>, EncodeError>
         ensures name { IfOk result (λ section. cow_str_bytes section.name ≡ (stack_section self.now).name) }
         ensures bytes { IfOk result (λ section. section.bytes ≡ (stack_section self.now).contents) }
@@ -282,7 +283,7 @@ impl CoreDumpStackSection {
         Ok(owned_custom("corestack", bytes))
     }
 
-    /// The same section, in memory of its own.
+    /// The same section, in memory of its own. Fails only where no memory is found.
     pub fn clone(&self) -> Result<Self, AllocError>
         ensures { IfOk result (λ section. section ≡ self.now) }
     {

@@ -30,7 +30,7 @@ impl Model for LinkingSection {
 }
 
 impl LinkingSection {
-    /// A section of version 2, without subsections.
+    /// A section of version 2, without subsections. Fails only where no memory is found.
     pub fn new(alloc: Global) -> Result<Self, AllocError>
         ensures { IfOk result (λ section. section ≡ version) }
     {
@@ -57,7 +57,7 @@ impl LinkingSection {
         Ok(Added { target: self })
     }
 
-    /// The same section, in memory of its own.
+    /// The same section, in memory of its own. Fails only where no memory is found.
     pub fn clone(&self) -> Result<Self, AllocError>
         ensures { IfOk result (λ section. section ≡ self.now) }
     {

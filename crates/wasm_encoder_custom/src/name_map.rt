@@ -55,7 +55,7 @@ impl NameMap {
         self.names.is_empty()
     }
 
-    /// The same names, in memory of their own.
+    /// The same names, in memory of their own. Fails only where no memory is found.
     pub fn clone(&self) -> Result<Self, AllocError>
         ensures { IfOk result (λ map. map ≡ self.now) }
     {
@@ -118,7 +118,7 @@ impl IndirectNameMap {
         Ok(Added { target: self })
     }
 
-    /// The same names, in memory of their own.
+    /// The same names, in memory of their own. Fails only where no memory is found.
     pub fn clone(&self) -> Result<Self, AllocError>
         ensures { IfOk result (λ map. map ≡ self.now) }
     {

@@ -55,7 +55,7 @@ impl ProducersSection {
         Ok(Added { target: self })
     }
 
-    /// The same section, in memory of its own.
+    /// The same section, in memory of its own. Fails only where no memory is found.
     pub fn clone(&self) -> Result<Self, AllocError>
         ensures { IfOk result (λ section. section ≡ self.now) }
     {
@@ -120,7 +120,7 @@ impl ProducersField {
         Ok(Added { target: self })
     }
 
-    /// The same values, in memory of their own.
+    /// The same values, in memory of their own. Fails only where no memory is found.
     pub fn clone(&self) -> Result<Self, AllocError>
         ensures { IfOk result (λ field. field ≡ self.now) }
     {

@@ -115,7 +115,7 @@ impl SymbolTable {
         Ok(Added { target: self })
     }
 
-    /// The same table, in memory of its own.
+    /// The same table, in memory of its own. Fails only where no memory is found.
     pub fn clone(&self) -> Result<Self, AllocError>
         ensures { IfOk result (λ table. table ≡ self.now) }
     {

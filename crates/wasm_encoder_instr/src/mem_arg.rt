@@ -26,7 +26,7 @@ impl Default for MemArgTarget {
 /// The memory argument of a load, a store or an atomic instruction.
 #[derive(Clone, Copy, Debug)]
 pub struct MemArg {
-    /// What is added to the address.
+    /// What is added to the address, in bytes.
     pub offset: u64,
     /// The logarithm of the alignment to the base 2, below 16 where it is encoded.
     pub align: u32,

@@ -12,7 +12,7 @@ pub enum DataSegmentMode<'a> {
     Active {
         /// The memory.
         memory_index: u32,
-        /// Where in the memory.
+        /// Where in the memory, in bytes.
         offset: &'a ConstExpr,
     },
     /// Where an instruction says so.

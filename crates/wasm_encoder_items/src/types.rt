@@ -7,7 +7,7 @@ ghost use Rattle.wasm_encoder_items.specs.Views.{limits_view, table_view, memory
 use crate::limits::{Limits, flag};
 use wasm_encoder_base::{Encode, EncodeError, RefType, ValType};
 
-/// The type of a table.
+/// The type of a table (5.3).
 #[derive(Clone, Copy, Debug, PartialEq, Eq, Hash)]
 pub struct TableType {
     /// What it holds.
@@ -59,7 +59,7 @@ impl Encode for TableType {
     }
 }
 
-/// The type of a memory.
+/// The type of a memory (5.3).
 #[derive(Clone, Copy, Debug, PartialEq, Eq, Hash)]
 pub struct MemoryType {
     /// How many pages it has at first.
@@ -89,7 +89,7 @@ impl MemoryType {
         self.page_size_log2.unwrap_or(16)
     }
 
-    /// The bytes of a page.
+    /// How many bytes a page has; their logarithm to the base 2 has to be below 32.
     pub fn page_size(&self) -> u32
         requires { unwrap_or self.now.page_size_log2 16 < 32 }
         ensures { result ≡ 2 ^ unwrap_or self.now.page_size_log2 16 }
@@ -126,7 +126,7 @@ impl Encode for MemoryType {
     }
 }
 
-/// The type of a global.
+/// The type of a global (5.3).
 #[derive(Clone, Copy, Debug, PartialEq, Eq, Hash)]
 pub struct GlobalType {
     /// What it holds.
@@ -168,7 +168,7 @@ pub enum TagKind {
     Exception = 0x00,
 }
 
-/// The type of a tag.
+/// The type of a tag (5.3).
 #[derive(Clone, Copy, Debug, PartialEq, Eq)]
 pub struct TagType {
     pub kind: TagKind,
@@ -191,7 +191,7 @@ impl Encode for TagType {
     }
 }
 
-/// What is imported; functions and tags by the index of their type.
+/// What is imported (5.3); functions and tags by the index of their type.
 #[derive(Clone, Copy, Debug, PartialEq, Eq)]
 pub enum EntityType {
     Function(u32),

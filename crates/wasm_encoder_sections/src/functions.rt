@@ -58,7 +58,7 @@ impl FunctionSection {
         Ok(Added { target: self })
     }
 
-    /// The same section, in memory of its own.
+    /// The same section, in memory of its own. Fails only where no memory is found.
     pub fn clone(&self) -> Result<Self, AllocError>
         ensures { IfOk result (λ section. section ≡ self.now) }
     {

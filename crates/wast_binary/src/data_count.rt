@@ -78,6 +78,7 @@ fn refer_to_data(fields: &[ModuleField<'_>]) -> bool
     false
 }
 
+/// Whether a field is a function that refers to a data segment.
 fn refers_to_data(field: &ModuleField<'_>) -> bool
     ensures { result ≡ field_says_data (field_tree field.now) }
 {
@@ -87,6 +88,7 @@ fn refers_to_data(field: &ModuleField<'_>) -> bool
     }
 }
 
+/// Whether a function refers to a data segment in its body.
 fn func_refers(func: &Func<'_>) -> bool
     ensures { result ≡ field_says_data (Define (func_definition func.now)) }
 {
@@ -96,6 +98,7 @@ fn func_refers(func: &Func<'_>) -> bool
     }
 }
 
+/// Whether one of the instructions refers to a data segment.
 fn body_refers(instrs: &[Instruction<'_>]) -> bool
     ensures { result ≡ list_any spec.is_of_data instrs.now }
 {

@@ -18,10 +18,11 @@ use wasm_encoder_base::EncodeError;
 use wast_module_fields::ModuleField;
 use wast_parser::{Id, NameAnnotation};
 
-/// The binary of the module of resolved fields.
+/// The binary of the module of resolved fields. Refused as too large only where a count or a length of it is past 4294967295, and else only for
+/// want of memory.
 ///
-/// Where the numbers of what is in the fields might pass 32 bits, no memory is the answer, as it is where names are resolved: no machine has
-/// so much.
+/// Where the numbers of what is in the fields might pass 32 bits, no memory is the answer, as it is where names are resolved: a text
+/// would have to be as long as one may be to have so much.
 pub fn encode_fields<'n, 'a>(
     alloc: Global,
     id: &'n Option<Id<'a>>,

@@ -16,8 +16,8 @@ use wast_module_fields::ModuleField;
 use wast_name_maps::name_section;
 use wast_parser::{Id, NameAnnotation};
 
-/// Appends the section of names, if there are any, unless a custom field is called `name`. Fields among which all custom sections are are given
-/// beside all of them.
+/// Appends the section of names, if there are any, unless a custom field is called `name`. The fields among which all custom sections stand are
+/// given beside all of them.
 pub(crate) fn put_names<'n, 'a>(
     alloc: Global,
     id: &'n Option<Id<'a>>,
@@ -67,6 +67,7 @@ fn is_name_taken(fields: &[ModuleField<'_>]) -> bool
     false
 }
 
+/// Whether a field is a custom field that is called `name`.
 fn takes_name(field: &ModuleField<'_>) -> bool
     ensures { result ≡ is_called (codes "name") (map custom_of (customs_in (field_tree field.now)) ∷ []) }
 {

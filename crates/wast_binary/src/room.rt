@@ -16,7 +16,7 @@ use wast_signatures::{FunctionType, TypeUse};
 /// How much there may be: as many parameters of a type, and as many locals of a function behind them, have numbers of 32 bits.
 const ROOM: usize = 2147483647;
 
-/// Whether there is less than that.
+/// Whether there is no more than that.
 pub(crate) fn has_room(fields: &[ModuleField<'_>]) -> bool
     ensures { result ≡ true → AreFew (map field_tree fields.now) }
 {
@@ -67,6 +67,7 @@ fn behind_types(items: &[TypeItem<'_>], room: usize) -> Option<usize>
     Some(left)
 }
 
+/// The same behind a type.
 fn behind_type(item: &TypeItem<'_>, room: usize) -> Option<usize>
     ensures { IfSome result (λ left. left + type_weight (type_tree item.now) ≤ room) }
 {
@@ -108,6 +109,7 @@ fn behind_imports(items: &ImportItems<'_>, room: usize) -> Option<usize>
     }
 }
 
+/// The same behind the members of a group of imports.
 fn behind_members(members: &[ImportGroup1Item<'_>], room: usize) -> Option<usize>
     ensures { IfSome result (λ left. left + total (λ i. extern_weight i.1.extern_type + 1) (map member_tree members.now) ≤ room) }
 {
@@ -121,6 +123,7 @@ fn behind_members(members: &[ImportGroup1Item<'_>], room: usize) -> Option<usize
     Some(left)
 }
 
+/// The same behind one import.
 fn behind_item(kind: &ItemKind<'_>, room: usize) -> Option<usize>
     ensures { IfSome result (λ left. left + (extern_weight (extern_tree kind.now) + 1) ≤ room) }
 {

@@ -27,7 +27,7 @@ pub trait Encode {
         ensures { Encodes (spelling self.now) (fits self.now) sink.old.items sink.new.items result };
 }
 
-/// The byte itself.
+/// The byte itself (5.2.1).
 impl Encode for u8 {
     ghost fits = { λ _. Unit {0} };
 
@@ -49,7 +49,7 @@ impl Encode for u32 {
     }
 }
 
-/// The shortest unsigned LEB128.
+/// The shortest unsigned LEB128 (5.2.2).
 impl Encode for u64 {
     ghost fits = { λ _. Unit {0} };
 
@@ -71,7 +71,7 @@ impl Encode for usize {
     }
 }
 
-/// The shortest signed LEB128.
+/// The shortest signed LEB128 (5.2.2).
 impl Encode for i32 {
     ghost fits = { λ _. Unit {0} };
 
@@ -82,7 +82,7 @@ impl Encode for i32 {
     }
 }
 
-/// The shortest signed LEB128.
+/// The shortest signed LEB128 (5.2.2).
 impl Encode for i64 {
     ghost fits = { λ _. Unit {0} };
 
@@ -104,7 +104,7 @@ impl Encode for &str {
     }
 }
 
-/// A name.
+/// A name (5.2.4).
 impl<'a> Encode for CowStr<'a, Global> {
     ghost fits = { λ text. length (cow_str_bytes text) < 2 ^ 32 };
 
@@ -150,7 +150,7 @@ impl<T: Encode> Encode for &[T] {
     }
 }
 
-/// A list.
+/// A list (5.1.3).
 impl<T: Encode> Encode for Vec<T> {
     ghost fits = { λ items. (length items.items < 2 ^ 32) × All T.fits items.items };
 

@@ -24,7 +24,7 @@ pub trait Changing<'a> {
     fn member(&self, owner: &Index<'a>, field: &mut Index<'a>)
         ensures { index_tree field.new ≡ (change self.now).member (index_tree owner.now) (index_tree field.old) };
 
-    /// The index of a type use (6.6.3), beside the signature that is written with it. Fails only for want of memory, of which none is
+    /// The index of a type use (6.6, type uses), beside the signature that is written with it. Fails only for want of memory, of which none is
     /// asked for where an index is given.
     fn type_use(
         &self,

@@ -48,7 +48,7 @@ pub fn change_item_sig<'a, C: Changing<'a>>(
     change_item_kind(change, &mut sig.kind)
 }
 
-/// What is imported from a module (6.6.9); the name of the module stays. Fails only for want of memory.
+/// What is imported from a module (6.6, imports); the name of the module stays. Fails only for want of memory.
 pub fn change_import_items<'a, C: Changing<'a>>(
     change: &C,
     items: &mut ImportItems<'a>,
@@ -63,7 +63,7 @@ pub fn change_import_items<'a, C: Changing<'a>>(
     }
 }
 
-/// Imports from a module (6.6.9). Fails only for want of memory.
+/// Imports from a module (6.6, imports). Fails only for want of memory.
 pub fn change_imports<'a, C: Changing<'a>>(
     change: &C,
     imports: &mut Imports<'a>,

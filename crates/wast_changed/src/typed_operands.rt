@@ -87,7 +87,7 @@ pub fn change_call_indirect<'a, C: Changing<'a>>(
     change_type_use(change, &mut call.ty)
 }
 
-/// A label and two reference types (6.5.3).
+/// A label and two reference types (6.5.2).
 pub(crate) fn change_cast<'a, C: Changing<'a>>(
     change: &C,
     label: &mut Index<'a>,
@@ -103,7 +103,7 @@ pub(crate) fn change_cast<'a, C: Changing<'a>>(
     change_ref_type(change, to);
 }
 
-/// The types of `select` (6.5.4).
+/// The types of `select` (6.5.2).
 pub fn change_select_types<'a, C: Changing<'a>>(change: &C, types: &mut SelectTypes<'a>)
     ensures { select_types_tree types.new ≡ option_map (map (val_changed (C.change change.now))) (select_types_tree types.old) }
 {

@@ -59,7 +59,7 @@ pub fn change_rec<'a, C: Changing<'a>>(change: &C, group: &mut Rec<'a>)
     turn_list(&ByChange { change }, &mut group.types);
 }
 
-/// A type use (6.6.3). Fails only for want of memory, of which none is asked for where an index is written.
+/// A type use (6.6, type uses). Fails only for want of memory, of which none is asked for where an index is written.
 pub fn change_type_use<'a, C: Changing<'a>>(
     change: &C,
     ty: &mut TypeUse<'a, FunctionType<'a>>,

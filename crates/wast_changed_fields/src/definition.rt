@@ -21,7 +21,7 @@ use wast_module_fields::{
 };
 use wast_signatures::{FunctionType, TypeUse};
 
-/// A function (6.6.4). Fails only for want of memory.
+/// A function (6.6, functions). Fails only for want of memory.
 pub(crate) fn change_func<'a, R: Rewriting<'a>>(
     alloc: Global,
     rewriting: &R,
@@ -77,7 +77,7 @@ impl<'a, C: Changing<'a>> Each<Local<'a>> for Locals<'_, C> {
     }
 }
 
-/// A table (6.6.5). Fails only for want of memory.
+/// A table (6.6, tables). Fails only for want of memory.
 pub(crate) fn change_table<'a, R: Rewriting<'a>>(
     alloc: Global,
     rewriting: &R,
@@ -124,7 +124,7 @@ fn change_optional_constant<'a, R: Rewriting<'a>>(
     }
 }
 
-/// A global (6.6.7). Fails only for want of memory.
+/// A global (6.6, globals). Fails only for want of memory.
 pub(crate) fn change_global<'a, R: Rewriting<'a>>(
     alloc: Global,
     rewriting: &R,
@@ -139,7 +139,7 @@ pub(crate) fn change_global<'a, R: Rewriting<'a>>(
     }
 }
 
-/// A tag (6.6.8). Fails only for want of memory.
+/// A tag (6.6, tags). Fails only for want of memory.
 #[tactic(auto, using(crate::proofs::Defined::tag_changed))]
 pub(crate) fn change_tag<'a, R: Rewriting<'a>>(
     rewriting: &R,

@@ -18,7 +18,7 @@ use wast_changed::{
 use wast_meaning::Space;
 use wast_module_fields::{Export, ModuleField, Start};
 
-/// A field (6.6.14) with what becomes of its indices. Fails only for want of memory.
+/// A field (6.6, modules) with what becomes of its indices. Fails only for want of memory.
 #[tactic(auto, using(crate::proofs::Defined::memory_field_kept))]
 pub fn change_field<'a, R: Rewriting<'a>>(
     alloc: Global,
@@ -86,14 +86,14 @@ impl<'a, R: Rewriting<'a>> TryEach<ModuleField<'a>> for Fields<'_, R> {
     }
 }
 
-/// An export (6.6.9).
+/// An export (6.6, exports).
 fn change_export<'a, C: Changing<'a>>(change: &C, export: &mut Export<'a>)
     ensures { export_tree export.new ≡ record (export_tree export.old) { item = (C.change change.now).index (space_of_kind (export_tree export.old).kind) (export_tree export.old).item } }
 {
     change.index(Space::of_export(export.kind), &mut export.item);
 }
 
-/// The start function (6.6.10).
+/// The start function (6.6, start function).
 fn change_start<'a, C: Changing<'a>>(change: &C, start: &mut Start<'a>)
     ensures { start_tree start.new ≡ record { place = (start_tree start.old).place; func = (C.change change.now).index Functions (start_tree start.old).func } }
 {

@@ -12,7 +12,7 @@ use wast_changed::{Rewriting, change_indices, change_optional, change_ref_type};
 use wast_meaning::Space;
 use wast_module_fields::{Data, DataKind, Elem, ElemKind, ElemPayload};
 
-/// An element segment (6.6.11). Fails only for want of memory.
+/// An element segment (6.6, element segments). Fails only for want of memory.
 pub(crate) fn change_elem<'a, R: Rewriting<'a>>(
     alloc: Global,
     rewriting: &R,
@@ -60,7 +60,7 @@ pub(crate) fn change_elements<'a, R: Rewriting<'a>>(
     }
 }
 
-/// A data segment (6.6.12). Fails only for want of memory.
+/// A data segment (6.6, data segments). Fails only for want of memory.
 pub(crate) fn change_data<'a, R: Rewriting<'a>>(
     alloc: Global,
     rewriting: &R,

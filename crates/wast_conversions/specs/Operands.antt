@@ -74,7 +74,7 @@ module _ {N P : Type 0} where
   both_meant None = binary.Pair 0 0
   both_meant (Some p) = binary.Pair (number_of p.0) (number_of p.1)
 
-  -- the types of a select (6.5.3), where some are written
+  -- the types of a select (6.5.2), where some are written
   abbrev pub select_meant : Option (List (ValType N P)) → binary.Operands
   select_meant None = binary.NoOperands
   select_meant (Some ts) = binary.ValTypes (map val_meant ts)

@@ -1,5 +1,5 @@
 -- Trees in which each index that is encoded is a number, and each use of a type has its index, but for that of a short block
--- (WebAssembly 3.0, 6.1.3 and 6.6.3). What a type describes or is described by has no bytes, nor has a signature beside an index.
+-- (WebAssembly 3.0, 6.1.3 and 6.6, type uses). What a type describes or is described by has no bytes, nor has a signature beside an index.
 use Rattle.std.specs.Prelude.{◌≡◌, List, [], ◌∷◌, All, Option, Some, None}
 use Rattle.wast_parser.specs.Identifiers.{Reference, ByNumber, ByName}
 use Rattle.wast_value_types.specs.ValueTree.{HeapType, Abstract, Concrete, Exact, RefType, ValType, Number, Ref, StorageType, Packed, Value, FieldType, TableType, GlobalType}
@@ -49,7 +49,7 @@ module _ {N P : Type 0} where
   abbrev pub TypeResolved : TypeDef N P → Type 0
   TypeResolved d = IfThere IsNumber d.supertype × InnerResolved d.comp.inner
 
-  -- a use with its type (6.6.3), whatever signature is written beside it
+  -- a use with its type (6.6, type uses), whatever signature is written beside it
   abbrev pub UseResolved : TypeUse N P → Type 0
   UseResolved u = elim u.index [ Some i ↦ IsNumber i | None ↦ ⊥ ]
 

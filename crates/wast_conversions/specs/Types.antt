@@ -37,7 +37,7 @@ limits_meant l shared page = record { minimum = l.minimum; maximum = l.maximum; 
 abbrev pub memory_meant : MemoryType → entities.Limits
 memory_meant m = limits_meant m.limits m.shared m.page
 
--- what may be exported (6.6.10)
+-- what may be exported (6.6, exports)
 abbrev pub export_kind_meant : exports.ExportKind → imports.ExportKind
 export_kind_meant exports.Func = imports.FuncExport
 export_kind_meant exports.Table = imports.TableExport
@@ -93,7 +93,7 @@ module _ {N P : Type 0} where
   abbrev pub rec_meant : Rec N P → TypeEntry
   rec_meant r = TypeGroup (map (λ t. sub_meant t.definition) r.types)
 
-  -- the type of a use (6.6.3) that has an index
+  -- the type of a use (6.6, type uses) that has an index
   abbrev pub use_meant : TypeUse N P → ℕ
   use_meant u = elim u.index [ Some i ↦ number_of i | None ↦ 0 ]
 

@@ -36,7 +36,8 @@ use wast_parser::Index;
 use wast_typed_operands::{SelectTypes, TryTable, TryTableCatch};
 use wast_value_types::ValType;
 
-/// An instruction (6.5). It can be encoded where its alignment, in bytes, is a power of two below 65536. Fails only for want of memory.
+/// The encoder's instruction that an instruction (6.5) stands for. It can be encoded where its alignment, in bytes, is a power of two below
+/// 65536, or it has none. Fails only for want of memory.
 pub fn instruction(
     alloc: Global,
     instruction: &Instruction<'_>,
@@ -224,7 +225,7 @@ fn catches(
     Ok(converted)
 }
 
-/// `select` (6.5.3), of which there are two. Fails only for want of memory.
+/// `select` (6.5.2), of which there are two. Fails only for want of memory.
 fn select(
     alloc: Global,
     types: &SelectTypes<'_>,

@@ -17,7 +17,7 @@ use wast_exports::ExportKind;
 use wast_imports::{ItemKind, TagType};
 use wast_value_types::{GlobalType, Limits, MemoryType, TableType};
 
-/// A table type (6.4.12).
+/// The encoder's table type that a table type (6.4.12) stands for. Its limits are in elements.
 #[tactic(auto, using(crate::proofs::Empty::back))]
 pub fn table_type(ty: &TableType<'_>) -> wasm_encoder_items::TableType
     requires resolved { RefResolved (table_tree ty.now).element }
@@ -43,7 +43,8 @@ fn table_of(element_type: RefType, limits: Limits, shared: bool) -> wasm_encoder
     }
 }
 
-/// A memory type (6.4.11).
+/// The encoder's memory type that a memory type (6.4.11) stands for. Its limits are in pages; the size of a page, in bytes, is
+/// by its logarithm, where one is written.
 pub fn memory_type(ty: &MemoryType) -> wasm_encoder_items::MemoryType
     ensures same { memory_view result ≡ memory_meant (memory_tree ty.now) }
     ensures sound { IsLimits (memory_meant (memory_tree ty.now)) }
@@ -65,7 +66,7 @@ fn memory_of(ty: MemoryType) -> wasm_encoder_items::MemoryType
     }
 }
 
-/// A global type (6.4.10).
+/// The encoder's global type that a global type (6.4.10) stands for.
 #[tactic(auto, using(crate::proofs::Empty::back))]
 pub fn global_type(ty: &GlobalType<'_>) -> wasm_encoder_items::GlobalType
     requires resolved { ValResolved (global_tree ty.now).val_type }
@@ -80,7 +81,7 @@ pub fn global_type(ty: &GlobalType<'_>) -> wasm_encoder_items::GlobalType
     }
 }
 
-/// What is imported (6.4.13).
+/// The encoder's type of what is imported that an external type (6.4.13) stands for; a function and a tag are by the number of their type.
 pub fn entity_type(kind: &ItemKind<'_>) -> EntityType
     requires resolved { ExternResolved (extern_tree kind.now) }
     requires covered { extern_forms (extern_tree kind.now) ≡ [] }
@@ -100,7 +101,7 @@ pub fn entity_type(kind: &ItemKind<'_>) -> EntityType
     }
 }
 
-/// The kind of an export (6.6.10).
+/// The encoder's kind of export that a kind of what is exported (6.6, exports) is.
 pub fn export_kind(kind: ExportKind) -> wasm_encoder_items::ExportKind
     ensures { export_kind_view result ≡ export_kind_meant (kind_view kind) }
 {

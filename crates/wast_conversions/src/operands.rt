@@ -66,7 +66,7 @@ pub fn lane_arg(arg: LaneArg) -> Lane
     arg.lane
 }
 
-/// The lanes of a shuffle (6.5.10).
+/// The numbers of the lanes that a shuffle takes (6.5.10), in order.
 pub fn shuffle(lanes: &I8x16Shuffle) -> [Lane; 16]
     ensures same { result ≡ lanes.now.lanes }
     ensures sound { in_range (binary.Shuffle lanes.now.lanes) }
@@ -80,7 +80,7 @@ fn lanes_in_range(lanes: &[Lane])
     ensures { AllByRecursion (λ n. n < 256) lanes.now }
 {}
 
-/// A constant of 128 bits (6.5.10), whose lanes are integers: its lanes' bytes are its own, the low one first.
+/// The number of 128 bits that a constant of them (6.5.10) is, whose lanes are integers: its lanes' bytes are its own, the low one first.
 pub fn v128_const(value: &V128Const<'_>) -> i128
     requires { vector_forms (vector_tree value.now) ≡ [] }
     ensures same { cast_unsigned w128 result ≡ vector_meant (vector_tree value.now) }
@@ -92,7 +92,7 @@ pub fn v128_const(value: &V128Const<'_>) -> i128
     }
 }
 
-/// An ordering of an atomic instruction.
+/// The encoder's ordering that the ordering of an atomic instruction is.
 pub fn ordering(ordering: Ordering) -> wasm_encoder_instr::Ordering
     ensures { ordering_bytes result ≡ ordering_meant (ordering_tree ordering) }
 {
@@ -102,7 +102,8 @@ pub fn ordering(ordering: Ordering) -> wasm_encoder_instr::Ordering
     }
 }
 
-/// A memory argument (6.5.6). It can be encoded where its alignment, in bytes, is a power of two below 65536.
+/// The encoder's memory argument that a memory argument (6.5.6) stands for: the number of its memory, its offset in bytes, and the
+/// logarithm of its alignment. It can be encoded where the alignment, in bytes, is a power of two below 65536.
 #[tactic(auto, using(crate::proofs::Empty::front, crate::proofs::Logarithms::logarithm_below))]
 pub fn mem_arg(arg: &MemArg<'_>) -> wasm_encoder_instr::MemArg
     requires resolved { MemArgResolved (mem_arg_tree arg.now) }
@@ -150,7 +151,8 @@ fn mem_arg_target(target: &Option<Box<MemArgTarget<'_>>>) -> wasm_encoder_instr:
     }
 }
 
-/// The type of a block (6.5.2): the number of one, where it is written, or parameters or several results are; else no result or one.
+/// The encoder's type of a block that a block's type (6.5.2) stands for: a type by its number, where the use has one; else no result, or
+/// the one that is written.
 pub fn block_type(ty: &BlockType<'_>) -> wasm_encoder_instr::BlockType
     requires resolved { BlockResolved (block_tree ty.now).type_use }
     requires covered { use_forms (block_tree ty.now).type_use ≡ [] }
@@ -191,7 +193,7 @@ fn results_type(results: &[ValType<'_>]) -> wasm_encoder_instr::BlockType
     }
 }
 
-/// A clause of a `try_table` (6.5.2).
+/// The encoder's clause that a clause of a `try_table` (6.5.2) stands for: the number of its label, and of its tag, where it has one.
 pub fn catch(clause: &TryTableCatch<'_>) -> wasm_encoder_instr::Catch
     requires { CatchResolved (catch_tree clause.now) }
     ensures same { catch_view result ≡ catch_meant (catch_tree clause.now) }

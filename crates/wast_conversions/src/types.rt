@@ -20,7 +20,7 @@ use wast_parser::Index;
 use wast_signatures::{FunctionType, Param, StructField, TypeUse};
 use wast_value_types::{AbstractHeapType, FieldType, HeapType, RefType, StorageType, ValType};
 
-/// A heap type (6.4.2).
+/// The encoder's heap type that a heap type (6.4.2) stands for: an abstract one, or that of a type by its number.
 #[tactic(auto, using(crate::proofs::Empty::back))]
 pub fn heap_type(ty: &HeapType<'_>) -> wasm_encoder_base::HeapType
     requires resolved { HeapResolved (heap_tree ty.now) }
@@ -59,7 +59,7 @@ fn abstract_heap_type(ty: AbstractHeapType) -> wasm_encoder_base::AbstractHeapTy
     }
 }
 
-/// A reference type (6.4.3).
+/// The encoder's reference type that a reference type (6.4.3) stands for.
 pub fn ref_type(ty: &RefType<'_>) -> wasm_encoder_base::RefType
     requires resolved { RefResolved (ref_tree ty.now) }
     requires covered { ref_forms (ref_tree ty.now) ≡ [] }
@@ -72,7 +72,7 @@ pub fn ref_type(ty: &RefType<'_>) -> wasm_encoder_base::RefType
     }
 }
 
-/// A value type (6.4.4).
+/// The encoder's value type that a value type (6.4.4) stands for.
 pub fn val_type(ty: &ValType<'_>) -> wasm_encoder_base::ValType
     requires resolved { ValResolved (val_tree ty.now) }
     requires covered { val_forms (val_tree ty.now) ≡ [] }
@@ -89,7 +89,7 @@ pub fn val_type(ty: &ValType<'_>) -> wasm_encoder_base::ValType
     }
 }
 
-/// A storage type (6.4.6).
+/// The encoder's storage type that a storage type (6.4.6) stands for.
 pub fn storage_type(ty: &StorageType<'_>) -> wasm_encoder_base::StorageType
     requires resolved { StorageResolved (storage_tree ty.now) }
     requires covered { storage_forms (storage_tree ty.now) ≡ [] }
@@ -103,7 +103,7 @@ pub fn storage_type(ty: &StorageType<'_>) -> wasm_encoder_base::StorageType
     }
 }
 
-/// A field type (6.4.6).
+/// The encoder's field type that a field type (6.4.6) stands for: what a field holds, and whether it can be set.
 pub fn field_type(ty: &FieldType<'_>) -> wasm_encoder_base::FieldType
     requires resolved { StorageResolved (field_tree ty.now).storage }
     requires covered { storage_forms (field_tree ty.now).storage ≡ [] }
@@ -116,7 +116,7 @@ pub fn field_type(ty: &FieldType<'_>) -> wasm_encoder_base::FieldType
     }
 }
 
-/// An array type (6.4.6).
+/// The encoder's array type that an array type (6.4.6) stands for: the field type of its elements.
 pub fn array_type(ty: &ArrayType<'_>) -> wasm_encoder_base::ArrayType
     requires resolved { StorageResolved (array_tree ty.now).storage }
     requires covered { storage_forms (array_tree ty.now).storage ≡ [] }
@@ -129,7 +129,7 @@ pub fn array_type(ty: &ArrayType<'_>) -> wasm_encoder_base::ArrayType
     })
 }
 
-/// A structure type (6.4.6). Fails only for want of memory.
+/// The encoder's structure type that a structure type (6.4.6) stands for: the types of its fields, in order. Fails only for want of memory.
 pub fn struct_type(
     alloc: Global,
     ty: &StructType<'_>,
@@ -175,7 +175,7 @@ fn struct_field(field: &StructField<'_>) -> wasm_encoder_base::FieldType
     }
 }
 
-/// A function type (6.4.5). Fails only for want of memory.
+/// The encoder's function type that a signature (6.4.5) stands for, without names. Fails only for want of memory.
 #[tactic(auto, using(crate::proofs::Empty::front, crate::proofs::Empty::back))]
 pub fn func_type(
     alloc: Global,
@@ -257,7 +257,8 @@ fn composite_type(
     }
 }
 
-/// A type definition (6.4.7). Fails only for want of memory.
+/// The encoder's type definition that a type definition (6.4.7) stands for, with the number of its supertype, where it has one. Fails only
+/// for want of memory.
 #[tactic(auto, using(crate::proofs::Empty::back))]
 pub fn sub_type(alloc: Global, def: &TypeDef<'_>) -> Result<wasm_encoder_base::SubType, AllocError>
     requires resolved { TypeResolved (definition_tree def.now) }
@@ -284,7 +285,7 @@ fn supertype(parent: &Option<Index<'_>>) -> Option<u32>
     }
 }
 
-/// The number of the type of a use (6.6.3), which is no name.
+/// The number of the type of a use (6.6, type uses), which is no name.
 pub fn type_index(ty: &TypeUse<'_, FunctionType<'_>>) -> u32
     requires { UseResolved (use_tree ty.now) }
     ensures same { result ≡ use_meant (use_tree ty.now) }

@@ -1,4 +1,4 @@
--- The syntax of modules (WebAssembly 3.0, 6.6.13 and 6.6.14).
+-- The syntax of modules (WebAssembly 3.0, 6.6, modules).
 use Rattle.std.specs.Prelude.{false, List, [], ◌∷◌, None, codes}
 use Rattle.wast_parser.specs.Look.{On, AString, Any, this_word, this_group}
 use Rattle.wast_parser.specs.Grammar.{Syntax, word, string, seen, only, seq, many, either, led, paren}

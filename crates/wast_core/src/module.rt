@@ -19,7 +19,7 @@ use wast_parser::{
     Error, Id, Keyword, LParen, Meaning, NameAnnotation, Parse, Parser, RParen, list_of,
 };
 
-/// A module (6.6.14): `(module $m ..)`.
+/// A module (6.6, modules): `(module $m ..)`.
 pub struct Module<'a> {
     /// Where the word `module` stands.
     pub span: Span,

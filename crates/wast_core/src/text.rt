@@ -17,7 +17,7 @@ use wast_module_fields::ModuleField;
 use wast_parser::{Error, Item, Meaning, Parse, Parser, list_of};
 use wast_value_types::Group;
 
-/// The module that a whole text spells (6.6.14): `(module ..)`, or the fields of one alone, of which there is one at least. Then the
+/// The module that a whole text spells (6.6, modules): `(module ..)`, or the fields of one alone, of which there is one at least. Then the
 /// module stands where the keyword of the first field does.
 #[derive(Drop)]
 pub struct TextModule<'a> {

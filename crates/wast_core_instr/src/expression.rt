@@ -56,7 +56,7 @@ impl<'a> Expression<'a> {
         (instrs, branch_hints, instr_spans)
     }
 
-    /// An expression of one instruction.
+    /// An expression of one instruction, without hints and places. Fails only for want of memory.
     pub fn one(alloc: Global, instr: Instruction<'a>) -> Result<Self, AllocError>
         ensures tree { IfOk result (λ e. expression_tree e ≡ expression_of ((None, instruction_tree instr.entry) ∷ [])) }
         ensures spans { IfOk result (λ e. e.instr_spans ≡ None) }
@@ -92,7 +92,7 @@ impl<'a> Expression<'a> {
     }
 
     /// Reads `(instruction item*)`: the instructions to which the items unfold, and then the one that heads the group, whatever
-    /// its kind.
+    /// its kind. Refused where none is spelled here, or for want of memory.
     pub fn parse_folded_instruction(parser: &mut Parser<'a>) -> Result<Self, Error>
         ensures read { Gives expression_tree result parser.new ((folded_instruction instruction instruction_heads instruction_made).reads (ahead parser.old)) }
         ensures keeps { Keeps parser.old parser.new }
@@ -105,7 +105,7 @@ impl<'a> Expression<'a> {
     }
 
     /// Reads `(instruction plain*)`: the operands' instructions in order, and then the one that heads the group, with no block
-    /// among them and no hint.
+    /// among them and no hint. Refused where none is spelled here, or for want of memory.
     pub fn parse_plain(parser: &mut Parser<'a>) -> Result<Self, Error>
         ensures read { Gives expression_tree result parser.new ((seen (without_hints instruction instruction_heads) (plain instruction instruction_heads)).reads (ahead parser.old)) }
         ensures keeps { Keeps parser.old parser.new }
@@ -117,7 +117,7 @@ impl<'a> Expression<'a> {
         }
     }
 
-    /// Reads the offset of data: `(offset item*)`, or `(instruction item*)`.
+    /// Reads the offset of data: `(offset item*)`, or `(instruction item*)`. Refused where none is spelled here, or for want of memory.
     pub fn parse_offset(parser: &mut Parser<'a>) -> Result<Self, Error>
         ensures read { Gives expression_tree result parser.new ((data_offset instruction instruction_heads instruction_made).reads (ahead parser.old)) }
         ensures keeps { Keeps parser.old parser.new }

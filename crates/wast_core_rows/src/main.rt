@@ -1,7 +1,8 @@
 //! What the syntax trees of the texts on standard input hold, one text a line.
 //!
 //! A line is a word, which says which part of the syntax is asked for, and the text:
-//! - `type KIND TEXT`: types, signatures, definitions and uses, printed without abbreviations, or that the text is refused;
+//! - `type KIND TEXT`: types, signatures, definitions, uses and locals, printed without abbreviations, or that the text is refused;
+//!   of the kinds `storage-copy`, `table-copy` and `global-copy` what is printed is a copy of what was read;
 //! - `import KIND TEXT`: imports, items, types of exports and of tags, and what fields are called, in the same way; behind imports
 //!   where what each of them is of stands;
 //! - `data TEXT`: a value of a data segment, printed as how many bytes it is, and these;

@@ -1,4 +1,4 @@
-//! Types of the text format (WebAssembly Core Specification 3.0, 6.4 and 6.6.3), as trees: those of values, heaps, tables,
+//! Types of the text format (WebAssembly Core Specification 3.0, 6.4 and 6.6, type uses), as trees: those of values, heaps, tables,
 //! memories and globals, which stand in `wast_value_types`, signatures, type uses and fields of structures, which stand in
 //! `wast_signatures`, composite types and type definitions.
 //!

@@ -48,7 +48,7 @@ pub record HintedFits (h : Hinted) : Type 0 where
   pub body : PlacesFit h.body
 
 module _ {N P : Type 0} where
-  -- a body by its locals and its expression (6.6.4)
+  -- a body by its locals and its expression (6.6, functions)
   abbrev pub body_meant : List (Local N P) → Expr N P → Body
   body_meant locals e = record { locals = map (λ l. val_meant l.val_type) locals; instructions = instrs_meant e.instrs }
 

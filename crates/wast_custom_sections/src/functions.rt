@@ -1,4 +1,4 @@
-//! How many functions of their index space fields have (6.6.4 and 6.6.9).
+//! How many functions of their index space fields have (6.6, functions and imports).
 ghost use Rattle.std.specs.Prelude.{◌≡◌, length, map, replicate};
 ghost use Rattle.std.specs.List.{flat_map};
 ghost use Rattle.wast_imports.specs.ImportViews.{extern_tree, items_tree, member_tree};

@@ -106,6 +106,7 @@ fn put_value(
     Ok(())
 }
 
+/// Whether two kinds of producers are one.
 fn is_same_kind(one: ProducerKind, other: ProducerKind) -> bool
     ensures { result ≡ same_text (producer_word (kind_view one)) (producer_word (kind_view other)) }
 {

@@ -11,7 +11,7 @@ use std::borrow::CowStr;
 use wasm_encoder_base::Bytes;
 use wast_lexer::Span;
 
-/// A custom field.
+/// A custom field: an annotation that stands for a custom section.
 pub enum Custom<'a> {
     Raw(RawCustomSection<'a>),
     Producers(Producers<'a>),

@@ -20,7 +20,7 @@ pub struct Dylink0<'a> {
 /// A subsection. It encodes as what follows its number and its size.
 #[derive(Drop)]
 pub enum Dylink0Subsection<'a> {
-    /// Sizes, and alignments as powers of two.
+    /// The size of the memory in bytes, that of the table in elements, and alignments by their logarithms to the base 2.
     MemInfo {
         memory_size: u32,
         memory_align: u32,

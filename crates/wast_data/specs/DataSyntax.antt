@@ -1,4 +1,4 @@
--- The syntax of values of data segments (WebAssembly 3.0, 6.6.12, and the proposal of numeric values in data segments).
+-- The syntax of values of data segments (WebAssembly 3.0, 6.6, data segments, and the proposal of numeric values in data segments).
 use Rattle.std.specs.Prelude.{ℕ, ◌*◌, true, false, List, [], ◌∷◌, map, length, codes}
 use Rattle.std.specs.Int.{Width, w8, w16, w32, w64, byte_len}
 use Rattle.std.specs.List.{flat_map}

@@ -1,4 +1,4 @@
--- Values of data segments (WebAssembly 3.0, 6.6.12), and their bytes. No names or places stand in them.
+-- Values of data segments (WebAssembly 3.0, 6.6, data segments), and their bytes. No names or places stand in them.
 use Rattle.std.specs.Prelude.{ℕ, ◌*◌, List, [], ◌∷◌, ◌++◌, length, Option, Some, None}
 use Rattle.wast_parser.specs.Spelling.{◌>>=◌}
 use Rattle.wast_vector_operands.specs.VectorTree.{Vector}

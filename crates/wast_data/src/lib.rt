@@ -1,4 +1,4 @@
-//! Values of data segments (WebAssembly Core Specification 3.0, 6.6.12, and the proposal of numeric values in data segments).
+//! Values of data segments (WebAssembly Core Specification 3.0, 6.6, data segments, and the proposal of numeric values in data segments).
 //!
 //! A [`DataVal`] is read by its production: a string, or numbers behind their type, as `(i16 -1 0x102)`, which is the bytes
 //! `ff ff 02 01`. Integers, and vectors of them, are kept as their bytes, of each the low byte first. Floats, and vectors of

@@ -6,7 +6,7 @@ ghost use Rattle.wast_data.specs.DataViews.{value_tree};
 use std::alloc::AllocError;
 use wasm_encoder_base::Bytes;
 
-/// A value of a data segment (6.6.12).
+/// A value of a data segment (6.6, data segments).
 pub enum DataVal<'a> {
     /// The bytes that a string stands for.
     String(Bytes<'a>),

@@ -29,7 +29,7 @@ use wast_parser::{Gensym, Id, Index, Span};
 /// proportion to what the fields hold, and for each export to the length of its field's name.
 ///
 /// Each field takes one name at most, and there is room for these. Refused for want of memory, and where the data of a memory are 2^64
-/// bytes or more, which no memory holds; names may then have been made, and no more than these fields take.
+/// bytes or more, which no memory holds; the fields are gone then, and names may have been made, no more than these fields take.
 pub fn run<'a>(
     alloc: Global,
     fields: Vec<ModuleField<'a>>,

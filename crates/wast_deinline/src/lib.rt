@@ -1,4 +1,4 @@
-//! Fields of a module without inline parts (WebAssembly Core Specification 3.0, 6.6.4 to 6.6.9: abbreviations).
+//! Fields of a module without inline parts (WebAssembly Core Specification 3.0, 6.6: abbreviations).
 //!
 //! [`deinline_import_export::run`] writes fields out: what stands inline in a definition becomes fields of their own.
 //!

@@ -13,6 +13,11 @@
 //! The crate hands on what it stands on: the resolving of names, the conversions of types, instructions and operands to the encoder's, and
 //! what stands in sections.
 //!
+//! A conversion asks of its tree that each index is a number, that each use of a type has its index, but that of a block without
+//! parameters and with at most one result, and that no form stands in it that has no binary here. What makes lists is refused only for
+//! want of memory, but for [`const_expr`]: it asks for alignments that are powers of two below 65536 as well, and refuses a count past
+//! 4294967295 too.
+//!
 //! # What has to be believed
 //!
 //! | File of `specs/` | Says |

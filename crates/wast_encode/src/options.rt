@@ -38,7 +38,7 @@ impl EncodeOptions {
         EncodeOptions {}
     }
 
-    /// The binary of a module (6.6.14 and 5.5.17), which is well formed; the pieces of a binary are joined. A field that is referred to and has no
+    /// The binary of a module (5.5.17, and 6.6, modules), which is well formed; the pieces of a binary are joined. A field that is referred to and has no
     /// name takes the next one of `gensym`, and there is room for one a field. Of a module that was refused before nothing is asked.
     ///
     /// A name that is taken is fresh where each name of the module that was made is one that `gensym` made since its last reset, as after

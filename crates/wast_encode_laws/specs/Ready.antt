@@ -9,13 +9,13 @@ module _ {N P : Type 0} where
   abbrev pub ExprResolved : Expr N P → Type 0
   ExprResolved e = InstrsResolved e.instrs
 
-  -- functions (6.6.4)
+  -- functions (6.6, functions)
   pub record FunctionResolved (f : Function N P) : Type 0 where
     pub type_use : UseResolved f.type_use
     pub locals : All (λ l. ValResolved l.val_type) f.locals
     pub body : ExprResolved f.body
 
-  -- segments (6.6.11 and 6.6.12)
+  -- segments (6.6, element and data segments)
   abbrev pub ElementsResolved : Elements N P → Type 0
   ElementsResolved (Indices is) = All IsNumber is
   ElementsResolved (Expressions t es) = RefResolved t × All ExprResolved es
@@ -29,7 +29,7 @@ module _ {N P : Type 0} where
   DataModeResolved PassiveData = Unit {0}
   DataModeResolved (ActiveData memory offset) = IfThere IsNumber memory × ExprResolved offset
 
-  -- what is defined (6.6.4 to 6.6.8), without an import or a segment inline
+  -- what is defined (6.6), without an import or a segment inline
   abbrev pub DefinedResolved : Defined N P → Type 0
   DefinedResolved (Imported from name t) = ⊥
   DefinedResolved (Func f) = FunctionResolved f
@@ -40,13 +40,13 @@ module _ {N P : Type 0} where
   DefinedResolved (Global t init) = ValResolved t.val_type × ExprResolved init
   DefinedResolved (Tag u) = UseResolved u
 
-  -- imports (6.6.9)
+  -- imports (6.6, imports)
   abbrev pub ImportResolved : ImportItems N P → Type 0
   ImportResolved (Single name i) = ExternResolved i.extern_type
   ImportResolved (Group1 is) = All (λ i. ExternResolved i.1.extern_type) is
   ImportResolved (Group2 names i) = ExternResolved i.extern_type
 
-  -- FIELDS (6.6.14), without exports inline
+  -- FIELDS (6.6, modules), without exports inline
   abbrev pub FieldResolved : Field N P → Type 0
   FieldResolved (TypeField t) = TypeResolved t.definition
   FieldResolved (RecField r) = All (λ t. TypeResolved t.definition) r.types

@@ -19,7 +19,8 @@ use wast_implied::{Implied, ImpliedType};
 use wast_module_fields::ModuleField;
 
 /// The fields with the number of its type in each type use without an index, but for that of a short block, and behind them the types that
-/// uses imply. A number stands at the place of its field. Fails only where no memory is found, or there are more than 4294967295 types, which is told as that.
+/// uses imply. A number stands at the place of its field. Fails only where no memory is found, or there are more than 4294967295 types, which
+/// is told as that; the fields are gone then.
 pub fn expand<'a>(
     alloc: Global,
     fields: Vec<ModuleField<'a>>,

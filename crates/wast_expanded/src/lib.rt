@@ -1,4 +1,4 @@
-//! Fields whose type uses have their types (WebAssembly Core Specification 3.0, 6.6.3).
+//! Fields whose type uses have their types (WebAssembly Core Specification 3.0, 6.6, type uses).
 //!
 //! [`expand`] gives each type use without an index the number of the type that it takes, and appends the types that uses imply as fields;
 //! [`expand_in_place`] does so with fields in their place. [`InPlace`] and [`by_value`] do work on a value in its place for those who have it

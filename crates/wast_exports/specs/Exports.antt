@@ -1,4 +1,4 @@
--- Exports, and the exports and imports that stand inline (WebAssembly 3.0, 6.6.4 to 6.6.10), over names of type N and places of
+-- Exports, and the exports and imports that stand inline (WebAssembly 3.0, 6.6), over names of type N and places of
 -- type P.
 use Rattle.std.specs.Prelude.{ℕ, false, List, [], ◌∷◌, map, codes}
 use Rattle.wast_parser.specs.Look.{Test, On, OneOf, AWord, this_group}
@@ -33,7 +33,7 @@ export_starts = this_group (codes "export") ∷ []
 abbrev pub import_starts : List Test
 import_starts = this_group (codes "import") ∷ []
 
--- an export (6.6.10)
+-- an export (6.6, exports)
 pub record Export (N P : Type 0) : Type 0 where
   -- where the word `export` stands
   pub place : P

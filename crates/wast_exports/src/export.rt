@@ -18,7 +18,7 @@ use wast_parser::{
     find_among,
 };
 
-/// An export: `(export "name" (func $f))` (6.6.10).
+/// An export: `(export "name" (func $f))` (6.6, exports).
 #[derive(Drop)]
 pub struct Export<'a> {
     /// Where the word `export` stands.

@@ -19,7 +19,7 @@ pub struct InlineExport<'a> {
     pub names: Vec<ExportName<'a>>,
 }
 
-/// One of them.
+/// A name under which a field is exported.
 #[derive(Drop)]
 pub struct ExportName<'a> {
     pub name: CowStr<'a, Global>,

@@ -1,4 +1,4 @@
--- The syntax of data segments (WebAssembly 3.0, 6.6.12).
+-- The syntax of data segments (WebAssembly 3.0, 6.6, data segments).
 use Rattle.std.specs.Prelude.{List, [], ◌∷◌, Option, codes}
 use Rattle.wast_parser.specs.Look.{Test, this_group, join}
 use Rattle.wast_parser.specs.Grammar.{Syntax, word, seen, seq, maybe, many, either, paren}

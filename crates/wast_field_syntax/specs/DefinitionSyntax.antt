@@ -1,4 +1,4 @@
--- What fields that define something have in common (WebAssembly 3.0, 6.6.4 to 6.6.8), and the expressions in fields.
+-- What fields that define something have in common (WebAssembly 3.0, 6.6), and the expressions in fields.
 use Rattle.std.specs.Prelude.{ℕ, true, false, List, [], ◌∷◌, map, codes}
 use Rattle.wast_parser.specs.Look.{Test, On, AWord, AnInteger, OneOf, Any}
 use Rattle.wast_parser.specs.Grammar.{Syntax, among, word, seen, seq, either, paren}

@@ -1,4 +1,4 @@
--- The syntax of element segments (WebAssembly 3.0, 6.6.11).
+-- The syntax of element segments (WebAssembly 3.0, 6.6, element segments).
 use Rattle.std.specs.Prelude.{ℕ, ◌-◌, ◌^◌, List, [], ◌∷◌, Option, None, codes}
 use Rattle.wast_parser.specs.Look.{Test, this_word, this_group}
 use Rattle.wast_parser.specs.Grammar.{Syntax, word, seen, seq, maybe, many, either, led, group, paren}

@@ -16,18 +16,18 @@ use Rattle.wast_data.specs.DataTree.{DataVal}
 abbrev pub Expr : Type 0 → Type 0 → Type 0
 Expr N P = Expression (Instruction N P)
 
--- a function with a body (6.6.4)
+-- a function with a body (6.6, functions)
 pub record Function (N P : Type 0) : Type 0 where
   pub type_use : TypeUse N P
   pub locals : List (Local N P)
   pub body : Expr N P
 
--- the list of an element segment (6.6.11): indices of functions, or expressions of a type
+-- the list of an element segment (6.6, element segments): indices of functions, or expressions of a type
 pub data Elements (N P : Type 0) : Type 0 where
   Indices : List (Reference N P) → Elements N P
   Expressions : RefType N P → List (Expr N P) → Elements N P
 
--- What a field defines (6.6.4 to 6.6.8). Tables and memories may have their segment inline, which gives their size.
+-- What a field defines (6.6). Tables and memories may have their segment inline, which gives their size.
 pub data Defined (N P : Type 0) : Type 0 where
   Imported : (from name : List ℕ) → ExternType N P → Defined N P
   Func : Function N P → Defined N P
@@ -48,13 +48,13 @@ pub record Definition (N P : Type 0) : Type 0 where
   pub exports : List (List ℕ)
   pub defined : Defined N P
 
--- the start function (6.6.10)
+-- the start function (6.6, start function)
 pub record Start (N P : Type 0) : Type 0 where
   -- where the word `start` stands
   pub place : P
   pub func : Reference N P
 
--- element segments (6.6.11)
+-- element segments (6.6, element segments)
 pub data ElemMode (N P : Type 0) : Type 0 where
   PassiveElem : ElemMode N P
   DeclaredElem : ElemMode N P
@@ -68,7 +68,7 @@ pub record Elem (N P : Type 0) : Type 0 where
   pub mode : ElemMode N P
   pub elements : Elements N P
 
--- data segments (6.6.12)
+-- data segments (6.6, data segments)
 pub data DataMode (N P : Type 0) : Type 0 where
   PassiveData : DataMode N P
   ActiveData : (memory : Option (Reference N P)) → (offset : Expr N P) → DataMode N P
@@ -81,7 +81,7 @@ pub record Data (N P : Type 0) : Type 0 where
   pub mode : DataMode N P
   pub values : List DataVal
 
--- fields (6.6.14)
+-- fields (6.6, modules)
 pub data Field (N P : Type 0) : Type 0 where
   TypeField : TypeItem N P → Field N P
   RecField : Rec N P → Field N P
@@ -123,7 +123,7 @@ pub data Content (N P : Type 0) : Type 0 where
   Fields : List (Field N P) → Content N P
   Pieces : List (List ℕ) → Content N P
 
--- a module (6.6.14)
+-- a module (6.6, modules)
 pub record Module (N P : Type 0) : Type 0 where
   -- where the word `module` stands, or the keyword of the first field
   pub place : P

@@ -1,4 +1,4 @@
--- The syntax of functions, globals and tags (WebAssembly 3.0, 6.6.4, 6.6.7 and 6.6.8).
+-- The syntax of functions, globals and tags (WebAssembly 3.0, 6.6).
 use Rattle.std.specs.Prelude.{List, [], ◌∷◌, codes}
 use Rattle.wast_parser.specs.Look.{Test, this_group}
 use Rattle.wast_parser.specs.Grammar.{Syntax, seen, seq, many, part}

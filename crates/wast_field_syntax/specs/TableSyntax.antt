@@ -1,4 +1,4 @@
--- The syntax of tables and memories (WebAssembly 3.0, 6.6.5 and 6.6.6).
+-- The syntax of tables and memories (WebAssembly 3.0, 6.6).
 use Rattle.std.specs.Prelude.{ℕ, Bool, true, false, List, [], ◌∷◌, Option, Some, None, codes}
 use Rattle.wast_parser.specs.Look.{Test, this_word, this_group, join}
 use Rattle.wast_parser.specs.Grammar.{Syntax, seen, next, seq, maybe, many, either, led, group}

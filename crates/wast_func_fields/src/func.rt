@@ -22,7 +22,7 @@ use wast_signatures::{FunctionType, TypeUse};
 use wast_value_types::keyword::Exact;
 use wast_value_types::{Group, group_of};
 
-/// A function (6.6.4): `(func $f (param $x i32) (result i32) (local i64) local.get $x)`.
+/// A function (6.6, functions): `(func $f (param $x i32) (result i32) (local i64) local.get $x)`.
 ///
 /// It is taken apart by [`Func::into_parts`] alone.
 pub struct Func<'a> {

@@ -15,7 +15,7 @@ use wast_field_syntax::{
 use wast_imports::Head;
 use wast_value_types::GlobalType;
 
-/// A global (6.6.7): `(global $g (mut i32) (i32.const 0))`.
+/// A global (6.6, globals): `(global $g (mut i32) (i32.const 0))`.
 ///
 /// It is taken apart by [`Global::into_parts`] alone.
 pub struct Global<'a> {

@@ -18,7 +18,7 @@ use wast_field_syntax::{
 use wast_signatures::{Grouped, Param, Several, join_groups};
 use wast_value_types::ValType;
 
-/// A local of a function (6.6.4): its identifier, the name that an annotation gives it, and its type.
+/// A local of a function (6.6, functions): its identifier, the name that an annotation gives it, and its type.
 #[derive(Drop)]
 pub struct Local<'a> {
     pub id: Option<Id<'a>>,
@@ -27,7 +27,8 @@ pub struct Local<'a> {
 }
 
 impl<'a> Local<'a> {
-    /// Reads the groups `(local ..)` that stand here, and gives the locals of all, in order.
+    /// Reads the groups `(local ..)` that stand here, and gives the locals of all, in order. Refused where one begins that isn't
+    /// spelled, or for want of memory.
     pub fn parse_remainder(parser: &mut Parser<'a>) -> Result<Vec<Local<'a>>, Error>
         ensures read { Gives (λ ls. map local_tree ls.items) result parser.new (all_locals.reads (ahead parser.old)) }
         ensures keeps { Keeps parser.old parser.new }

@@ -14,7 +14,7 @@ use wast_field_syntax::{
 };
 use wast_imports::{Head, TagType};
 
-/// A tag (6.6.8): `(tag $t (param i32))`.
+/// A tag (6.6, tags): `(tag $t (param i32))`.
 ///
 /// It is taken apart by [`Tag::into_parts`] alone.
 pub struct Tag<'a> {

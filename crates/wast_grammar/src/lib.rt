@@ -11,7 +11,8 @@
 //! | `Tokens` | significant tokens as plain data; what integers, strings, identifiers and names of annotations say |
 //! | `Significant` | which tokens of a text are significant, where some annotations are registered by name |
 //! | `Spelling` | which tokens spell a value, a relation for each way to make a production, without any look ahead |
-//! | `Behind`, `Nested`, `Recursion` | the same where items go up to an end, fold, or stand in themselves |
+//! | `Recursion` | the same where items stand in themselves |
+//! | `Behind`, `Nested` | the same where items go up to an end, or fold; these ask by `at` of `Look` how what stands behind begins |
 //!
 //! # How a reader decides
 //!

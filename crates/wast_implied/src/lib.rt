@@ -1,4 +1,4 @@
-//! The types of a module that no field writes and that uses imply (WebAssembly Core Specification 3.0, 6.6.3 and 6.5.2), and which type
+//! The types of a module that no field writes and that uses imply (WebAssembly Core Specification 3.0, 6.5.2 and 6.6, type uses), and which type
 //! each use without an index takes.
 //!
 //! A use that has no index takes the first plain type with its signature: a final function type without a supertype and outside groups.

@@ -22,7 +22,7 @@ use wast_module_fields::{
 use wast_parser::Span;
 
 impl<'a> Implied<'a> {
-    /// The same of imports.
+    /// Takes up the types that the uses in imports imply.
     pub(crate) fn add_imports(&mut self, imports: &Imports<'a>) -> Result<(), AllocError>
         ensures { OnOk result (known self.new ≡ after_mentions imports.now.span (known self.old) (import_mentions (imports_tree imports.now).items)) }
     {

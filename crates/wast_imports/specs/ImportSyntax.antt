@@ -1,4 +1,4 @@
--- The syntax of imports, and of what they and exports are of (WebAssembly 3.0, 6.4.13 and 6.6.9).
+-- The syntax of imports, and of what they and exports are of (WebAssembly 3.0, 6.4.13 and 6.6, imports).
 use Rattle.std.specs.Prelude.{ℕ, true, false, List, [], ◌∷◌, map, Option, Some, None, codes}
 use Rattle.wast_signatures.specs.Look.{Test, On, OneOf, AString, AWord, Any, this_group, join, faults}
 use Rattle.wast_signatures.specs.Grammar.{Syntax, among, word, nothing, next, seq, seen, maybe, many, either, group, paren}
@@ -94,7 +94,7 @@ module _ {N P : Type 0} where
   abbrev pub import_group : Syntax N P (ImportItems N P)
   import_group = seen (λ g. g.1) (next first_member with_rest rest_starts true rest_stops)
 
-  -- IMPORTS (6.6.9): (import name name item), (import name group)
+  -- IMPORTS (6.6, imports): (import name name item), (import name group)
   abbrev pub import_items : Syntax N P (ImportItems N P)
   import_items = either name_starts (seen (λ s. Single s.0 s.1) (seq name item)) import_group
 

@@ -1,4 +1,4 @@
--- Imports, and what they and exports are of, as they are written: abstract syntax trees (WebAssembly 3.0, 6.4.13 and 6.6.9), over
+-- Imports, and what they and exports are of, as they are written: abstract syntax trees (WebAssembly 3.0, 6.4.13 and 6.6, imports), over
 -- names of type N and places of type P.
 use Rattle.std.specs.Prelude.{ℕ, List, Option}
 use Rattle.wast_signatures.specs.Identifiers.{Named}
@@ -22,7 +22,7 @@ pub record Item (N P : Type 0) : Type 0 where
   pub given : Option (List ℕ)
   pub extern_type : ExternType N P
 
--- what is imported from a module (6.6.9): one, or by a proposal several, each with its item, or all of one item
+-- what is imported from a module (6.6, imports): one, or by a proposal several, each with its item, or all of one item
 pub data ImportItems (N P : Type 0) : Type 0 where
   Single : (name : List ℕ) → Item N P → ImportItems N P
   Group1 : List (List ℕ × Item N P) → ImportItems N P

@@ -18,7 +18,7 @@ use std::borrow::CowStr;
 use std::mem::replace;
 use wast_signatures::{Error, LParen, Meaning, Parse, Parser, RParen, Span, list_of};
 
-/// What is imported from a module (6.6.9).
+/// What is imported from a module (6.6, imports).
 ///
 /// It is taken apart by [`Imports::into_parts`] alone.
 pub struct Imports<'a> {

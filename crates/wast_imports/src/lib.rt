@@ -1,4 +1,4 @@
-//! Imports, and what imports and exports are of (WebAssembly Core Specification 3.0, 6.4.13 and 6.6.9).
+//! Imports, and what imports and exports are of (WebAssembly Core Specification 3.0, 6.4.13 and 6.6, imports).
 //!
 //! An [`ItemSig`] is an external type in its parentheses, with what it is called: `(func $f (param i32))`, `(memory 1)`. An
 //! [`Imports`] is a single import, `(import "module" "name" (func))`, or by a proposal several of one module, each with its item,

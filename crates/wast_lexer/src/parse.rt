@@ -14,6 +14,8 @@ use crate::span::Span;
 use crate::token::Token;
 
 impl<'a> Lexer<'a> {
+    /// The lexer of a text, which has fewer than 2^32 bytes. It refuses the characters that
+    /// [`allow_confusing_unicode`](Lexer::allow_confusing_unicode) names until they are allowed.
     pub fn new(input: &'a str) -> Lexer<'a>
         requires { length input.now < 2 ^ 32 }
         ensures input { source result ≡ input.now }
@@ -40,7 +42,9 @@ impl<'a> Lexer<'a> {
         self.allow = allow;
     }
 
-    /// The token at a position, which moves past it.
+    /// The token that begins at `pos`, a byte offset where a character begins or the text ends; `None` at the end of the text
+    /// (6.2). `pos` is moved behind the token. Refused where no token begins there, by a fault at `pos`, which then stays. Takes
+    /// no memory.
     pub fn parse(&self, pos: &mut usize) -> Result<Option<Token>, LexFault>
         requires { IsCharBoundary (source self.now) pos.old }
         ensures answers { Answers (allows self.now) (source self.now) pos.old pos.new result }
@@ -69,7 +73,8 @@ impl<'a> Lexer<'a> {
         }
     }
 
-    /// The annotation at a position, where `@` stands there right after `(`.
+    /// The annotation at `pos`, a byte offset where a character begins or the text ends: the token that begins there, where
+    /// that is with `@` right after `(`; else `None`. Refused as [`Lexer::parse`] is. Takes no memory.
     pub fn annotation(&self, pos: usize) -> Result<Option<Token>, LexFault>
         requires { IsCharBoundary (source self.now) pos }
         ensures answers { is_marked (source self.now) pos ≡ true → (to : ℕ) × Answers (allows self.now) (source self.now) pos to result }
@@ -83,7 +88,7 @@ impl<'a> Lexer<'a> {
         self.parse(&mut at)
     }
 
-    /// The tokens from a position on, up to the end or the first fault.
+    /// The tokens from a byte offset on, where a character begins or the text ends, up to the end or the first fault.
     pub fn iter(&self, pos: usize) -> Tokens<'a>
         requires { IsCharBoundary (source self.now) pos }
         ensures input { source (lexer_of result) ≡ source self.now }

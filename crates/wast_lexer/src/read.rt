@@ -47,7 +47,8 @@ impl Token {
         self.src(text)
     }
 
-    /// The bytes that a string stands for, borrowed where nothing is escaped: no memory is then wanted.
+    /// The bytes that a string stands for, borrowed where nothing is escaped: no memory is then wanted. Fails only where no
+    /// memory is found.
     pub fn string<'a>(&self, alloc: Global, text: &'a str) -> Result<Bytes<'a>, AllocError>
         requires of_text { IsOf text.now self.now }
         requires kind { self.now.kind ≡ String }
@@ -65,7 +66,7 @@ impl Token {
     /// that is not empty.
     ///
     /// Refused as [`LexError::EmptyId`] or [`LexError::InvalidUtf8Id`], at the token's place, where what stands there is
-    /// no such text.
+    /// no such text, and as [`LexFault::Memory`] where no memory is found.
     pub fn id<'a>(&self, alloc: Global, text: &'a str) -> Result<CowStr<'a, Global>, LexFault>
         requires of_text { IsOf text.now self.now }
         requires kind { self.now.kind ≡ Id }
@@ -86,7 +87,8 @@ impl Token {
         }
     }
 
-    /// The name that an annotation stands for, borrowed where nothing is escaped: no memory is then wanted.
+    /// The name that an annotation stands for, borrowed where nothing is escaped: no memory is then wanted. Fails only where no
+    /// memory is found.
     pub fn annotation<'a>(
         &self,
         alloc: Global,
@@ -114,7 +116,7 @@ impl Token {
         name_is(&word[1..], name)
     }
 
-    /// The parts of an integer.
+    /// The parts of an integer; `kind` is the token's own.
     pub fn integer<'a>(&self, text: &'a str, kind: IntegerKind) -> Integer<'a>
         requires of_text { IsOf text.now self.now }
         requires kind { self.now.kind ≡ kinds.Integer kind }
@@ -123,7 +125,7 @@ impl Token {
         integer(self.src(text), kind)
     }
 
-    /// The parts of a float.
+    /// The parts of a float; `kind` is the token's own.
     pub fn float<'a>(&self, text: &'a str, kind: FloatKind) -> Float<'a>
         requires of_text { IsOf text.now self.now }
         requires kind { self.now.kind ≡ kinds.Float kind }

@@ -38,7 +38,8 @@ impl Model for TokenTable {
 }
 
 impl TokenTable {
-    /// The tokens of a lexer's text. Each is found once.
+    /// The tokens of a lexer's text. Each is found once. Fails only where no memory is found; a fault of the lexer ends the tokens
+    /// ([`TokenTable::fault`]).
     pub fn new(alloc: Global, lexer: Lexer) -> Result<TokenTable, AllocError>
         ensures table { IfOk result (λ t. IsTable (allows lexer.entry) (source lexer.entry) t.tokens t.fault) }
         ensures tokens { IfOk result (λ t. All (IsOf (source lexer.entry)) t.tokens) }
@@ -55,7 +56,7 @@ impl TokenTable {
         self.entries.len()
     }
 
-    /// What a token is, by its index.
+    /// What a token is, by its index; `None` where there is no such token.
     #[inline(always)]
     pub fn kind(&self, index: usize) -> Option<TokenKind>
         ensures { result ≡ option_map (λ t. t.kind) (slice_get self.now.tokens index) }
@@ -66,7 +67,7 @@ impl TokenTable {
         Some(self.entries[index].kind)
     }
 
-    /// A token by its index.
+    /// A token by its index; `None` where there is no such token.
     #[inline(always)]
     pub fn get(&self, index: usize) -> Option<Token>
         ensures { result ≡ slice_get self.now.tokens index }

@@ -26,6 +26,8 @@ pub enum TokenKind {
 }
 
 /// A token of a text: its bytes are those from `offset` to `offset + len`.
+///
+/// Its readers take the text that it is of; a reader of a kind asks that the token is of that kind.
 #[derive(Clone, Copy, Debug, PartialEq, Eq)]
 pub struct Token {
     pub kind: TokenKind,

@@ -5,7 +5,7 @@ ghost use Rattle.wast_lexer_numbers.specs.NumberParts.{integer_sign, integer_dig
 
 use crate::kind::SignToken;
 
-/// An integer.
+/// An integer (6.3.1).
 #[derive(Clone, Copy, Debug, PartialEq, Eq)]
 pub struct Integer<'a> {
     pub(crate) sign: Option<SignToken>,
@@ -30,7 +30,7 @@ impl<'a> Integer<'a> {
     }
 }
 
-/// A float.
+/// A float (6.3.2).
 #[derive(Clone, Copy, Debug, PartialEq, Eq)]
 pub enum Float<'a> {
     Inf {

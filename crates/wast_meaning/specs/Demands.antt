@@ -1,5 +1,5 @@
 -- What names of a module must keep to, each demand at its place, in the order in which they are tested (WebAssembly 3.0, 6.1.3,
--- 6.5.2, 6.6.3 and 6.6.14). The first that is not met is the complaint.
+-- 6.5.2, and 6.6, type uses and modules). The first that is not met is the complaint.
 use Rattle.std.specs.Prelude.{ℕ, nat_eq, Bool, true, false, if◌then◌else◌, List, [], ◌∷◌, ◌++◌, map, Option, Some, None, option_and_then, option_map, option_to_list, codes}
 use Rattle.std.specs.List.{flat_map}
 use Rattle.wasm_encoder_base.specs.Table.{Space, Locals, Functions, Types, Fields}
@@ -24,7 +24,7 @@ definition_word Functions = codes "function"
 definition_word s = space_word s
 
 module _ {N P : Type 0} where
-  -- FIRST: imports, inline ones too, stand before definitions, of which the nearest is told (6.6.14)
+  -- FIRST: imports, inline ones too, stand before definitions, of which the nearest is told (6.6, modules)
   abbrev pub space_defined : Defined N P → Option Space
   space_defined (Imported from name t) = None
   space_defined d = Some (space_of_kind (kind_of d))
@@ -66,7 +66,7 @@ module _ {N P : Type 0} where
   place_of (ByNumber n p) = p
   place_of (ByName id) = id.1
 
-  -- a signature is that of the type, as numbered, where that is a function type of the module (6.6.3)
+  -- a signature is that of the type, as numbered, where that is a function type of the module (6.6, type uses)
   abbrev pub same_numbered : Scope N P → Reference N P → Reference N P → Bool
   same_numbered s i j = same_option nat_eq (number_of (s.spaces Types) i) (number_of (s.spaces Types) j)
 

@@ -1,4 +1,4 @@
--- Whole modules (WebAssembly 3.0, 6.6.14): their fields, and what these must keep to beside names.
+-- Whole modules (WebAssembly 3.0, 6.6, modules): their fields, and what these must keep to beside names.
 use Rattle.std.specs.Prelude.{Bool, List, []}
 use Rattle.wast_field_syntax.specs.FieldTree.{Content, Fields, Pieces, Field, Module}
 use Rattle.wast_meaning.specs.WellFormed.{breaches}

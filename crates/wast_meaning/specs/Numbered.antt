@@ -1,4 +1,4 @@
--- Fields whose uses have their types, and whose indices are numbers; nothing else of them changes (WebAssembly 3.0, 6.1.3 and 6.6.3).
+-- Fields whose uses have their types, and whose indices are numbers; nothing else of them changes (WebAssembly 3.0, 6.1.3 and 6.6, type uses).
 use Rattle.std.specs.Prelude.{ℕ, Bool, true, false, if◌then◌else◌, List, ◌++◌, map, Option, Some, None, option_map, unwrap_or}
 use Rattle.wasm_encoder_base.specs.Table.{Types}
 use Rattle.wast_parser.specs.Identifiers.{Reference, ByNumber}

@@ -107,6 +107,6 @@ module _ {N P : Type 0} where
   abbrev pub params_of : Scope N P → TypeUse N P → List (Option (Named N P))
   params_of s u = elim u.inline [ Some sig ↦ map (λ p. p.id) sig.params | None ↦ params_of_index s u.index ]
 
-  -- the space of locals: parameters, then locals (6.6.4)
+  -- the space of locals: parameters, then locals (6.6, functions)
   abbrev pub locals_of : Scope N P → Function N P → List (Option (Named N P))
   locals_of s f = params_of s f.type_use ++ map (λ l. l.id) f.locals

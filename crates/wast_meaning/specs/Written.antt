@@ -1,4 +1,4 @@
--- Fields without inline parts (WebAssembly 3.0, 6.6.4 to 6.6.9: abbreviations).
+-- Fields without inline parts (WebAssembly 3.0, 6.6: abbreviations).
 use Rattle.std.specs.Prelude.{ℕ, zero, suc, pos, ◌+◌, ◌-◌, ◌/◌, ◌^◌, Bool, true, false, ◌||◌, ◌&&◌, not, is_some, if◌then◌else◌, List, [], ◌∷◌, ◌++◌, length, map, Option, Some, None, unwrap_or, codes}
 use Rattle.std.specs.List.{sum_by}
 use Rattle.wasm_encoder_base.specs.Table.{entry, Space, Functions, Tables, Memories, Globals, Tags, I32, I64}

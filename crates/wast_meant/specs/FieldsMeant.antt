@@ -16,7 +16,7 @@ use Rattle.wast_conversions.specs.Types.{number_of, ref_meant, val_meant, type_m
 use Rattle.wast_conversions.specs.Operands.{optional_meant}
 use Rattle.wast_conversions.specs.Instructions.{instrs_meant}
 
--- the bytes of a data segment (6.6.12)
+-- the bytes of a data segment (6.6, data segments)
 abbrev pub values_of : List DataVal → List ℕ
 values_of vs = flat_map (λ v. unwrap_or (bytes_of v) []) vs
 
@@ -31,7 +31,7 @@ module _ {N P : Type 0} where
   types_of (RecField r) = rec_meant r ∷ []
   types_of f = []
 
-  -- imports, one by one and in groups (6.6.9)
+  -- imports, one by one and in groups (6.6, imports)
   abbrev pub import_of : (from : List ℕ) → ImportItems N P → imports.Imports
   import_of from (Single name i) = imports.One (record { module_name = from; name = name; type = extern_meant i.extern_type })
   import_of from (Group1 is) = imports.OfModule from (map (λ i. record { name = i.0; type = extern_meant i.1.extern_type }) is)
@@ -46,7 +46,7 @@ module _ {N P : Type 0} where
   defined_in (Define d) = d.defined ∷ []
   defined_in f = []
 
-  -- functions (6.6.4)
+  -- functions (6.6, functions)
   abbrev pub function_of : Function N P → abstract.Function
   function_of f = record { type_index = use_meant f.type_use; body = record { locals = map (λ l. val_meant l.val_type) f.locals; instructions = expr_meant f.body } }
 
@@ -54,7 +54,7 @@ module _ {N P : Type 0} where
   functions_of (Func f) = function_of f ∷ []
   functions_of d = []
 
-  -- tables (6.6.7)
+  -- tables (6.6, tables)
   abbrev pub table_of : binary.TableType → Option (Expr N P) → segments.Table (List Instr)
   table_of t None = segments.WithoutInit t
   table_of t (Some init) = segments.WithInit t (expr_meant init)
@@ -63,32 +63,32 @@ module _ {N P : Type 0} where
   tables_of (Table t init) = table_of (table_meant t) init ∷ []
   tables_of d = []
 
-  -- memories (6.6.6)
+  -- memories (6.6, memories)
   abbrev pub memories_of : Defined N P → List binary.Limits
   memories_of (Memory t) = memory_meant t ∷ []
   memories_of d = []
 
-  -- tags (6.6.8)
+  -- tags (6.6, tags)
   abbrev pub tags_of : Defined N P → List ℕ
   tags_of (Tag u) = use_meant u ∷ []
   tags_of d = []
 
-  -- globals (6.6.5)
+  -- globals (6.6, globals)
   abbrev pub globals_of : Defined N P → List (segments.Global (List Instr))
   globals_of (Global t init) = record { type = global_meant t; init = expr_meant init } ∷ []
   globals_of d = []
 
-  -- exports (6.6.10)
+  -- exports (6.6, exports)
   abbrev pub exports_of : Field N P → List imports.Export
   exports_of (ExportField e) = record { name = e.name; kind = export_kind_meant e.kind; index = number_of e.item } ∷ []
   exports_of f = []
 
-  -- the start function (6.6.10)
+  -- the start function (6.6, start function)
   abbrev pub starts_of : Field N P → List ℕ
   starts_of (StartField s) = number_of s.func ∷ []
   starts_of f = []
 
-  -- Element segments (6.6.11). Without a table that is written values of another type than funcref stand in table 0.
+  -- Element segments (6.6, element segments). Without a table that is written values of another type than funcref stand in table 0.
   abbrev pub active_of : Option (Reference N P) → List Instr → Elements N P → segments.ElementSegment (List Instr)
   active_of None offset (Indices is) = segments.ActiveFunctions offset (map number_of is)
   active_of (Some table) offset (Indices is) = segments.ActiveTableFunctions (number_of table) offset (map number_of is)
@@ -109,7 +109,7 @@ module _ {N P : Type 0} where
   elements_of (ElemField e) = element_of e.mode e.elements ∷ []
   elements_of f = []
 
-  -- data segments (6.6.12)
+  -- data segments (6.6, data segments)
   abbrev pub data_of : DataMode N P → List ℕ → segments.DataSegment (List Instr)
   data_of PassiveData bytes = segments.PassiveData bytes
   data_of (ActiveData memory offset) bytes = segments.ActiveData (optional_meant memory) (expr_meant offset) bytes

@@ -119,7 +119,7 @@ module _ {N P : Type 0} (is_made : N → Bool) where
   abbrev pub param_names : Option (Sig N P) → List (Option (GivenName N))
   param_names s = local_names (unwrap_or s no_sig).params
 
-  -- the locals of a function: the parameters that its use writes, else, unnamed, those of its type, and then its own (6.6.4)
+  -- the locals of a function: the parameters that its use writes, else, unnamed, those of its type, and then its own (6.6, functions)
   abbrev pub names_of_locals : Scope N P → Option (Function N P) → List (Option (GivenName N))
   names_of_locals s None = []
   names_of_locals s (Some f) = elim f.type_use.inline [ Some sig ↦ param_names (Some sig) | None ↦ map (λ p. None) (params_of s f.type_use) ] ++ local_names f.locals

@@ -18,7 +18,7 @@ use wast_field_syntax::{
 };
 use wast_value_types::Group;
 
-/// A data segment (6.6.12): `(data (i32.const 8) "bytes")`.
+/// A data segment (6.6, data segments): `(data (i32.const 8) "bytes")`.
 ///
 /// It is taken apart by [`Data::into_parts`] alone.
 pub struct Data<'a> {

@@ -22,7 +22,7 @@ use wast_field_syntax::{
 use wast_value_types::keyword::Shared;
 use wast_value_types::{Limits, MemoryType, address_type, optional, page_size};
 
-/// A memory (6.6.6): `(memory $m 1 2)`.
+/// A memory (6.6, memories): `(memory $m 1 2)`.
 ///
 /// It is taken apart by [`Memory::into_parts`] alone.
 pub struct Memory<'a> {

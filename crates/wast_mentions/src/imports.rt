@@ -1,4 +1,4 @@
-//! What imports say of names (6.6.9).
+//! What imports say of names (6.6, imports).
 ghost use Rattle.wast_imports.specs.ImportViews.{extern_tree, items_tree, member_tree};
 ghost use Rattle.wast_meaning.specs.Mentions as spec;
 

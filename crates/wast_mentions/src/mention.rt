@@ -12,7 +12,7 @@ pub enum Mention<'t, 'a> {
         owner: &'t Index<'a>,
         field: &'t Index<'a>,
     },
-    /// A type use (6.6.3).
+    /// A type use (6.6, type uses).
     Uses(&'t TypeUse<'a, FunctionType<'a>>),
     /// The type use of a block (6.5.2).
     UsesInBlock(&'t TypeUse<'a, FunctionType<'a>>),

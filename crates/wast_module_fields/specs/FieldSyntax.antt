@@ -1,4 +1,4 @@
--- The syntax of fields (WebAssembly 3.0, 6.6.10 and 6.6.14).
+-- The syntax of fields (WebAssembly 3.0, 6.6, the start function and modules).
 use Rattle.std.specs.Prelude.{List, [], ◌∷◌, codes}
 use Rattle.wast_parser.specs.Look.{Test, this_group, join}
 use Rattle.wast_parser.specs.Grammar.{Syntax, word, seen, seq, either, paren}
@@ -24,7 +24,7 @@ abbrev pub field_starts : List Test
 field_starts = this_group (codes "type") ∷ this_group (codes "rec") ∷ this_group (codes "import") ∷ join defining_starts describing_starts
 
 module _ {N P : Type 0} where
-  -- THE START FUNCTION (6.6.10): (start index)
+  -- THE START FUNCTION (6.6, start function): (start index)
   abbrev pub as_start : P × Reference N P → Start N P
   as_start s = record { place = s.0; func = s.1 }
 

@@ -22,7 +22,7 @@ use wast_imports::Imports;
 use wast_parser::{Cursor, Error, Item, Meaning, Parse, Parser, Peek, Span};
 use wast_value_types::{Group, or_peek};
 
-/// A field of a module (6.6.14).
+/// A field of a module (6.6, modules).
 #[derive(Drop)]
 pub enum ModuleField<'a> {
     TypeItem(TypeItem<'a>),

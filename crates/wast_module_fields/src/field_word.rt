@@ -5,7 +5,7 @@ ghost use Rattle.wast_module_fields.specs.FieldWords.{field_word, field_words};
 use wast_exports::ExportKind;
 use wast_parser::{Spelled, WordSet, find_among};
 
-/// The word of a field (6.6.14), unless that is an annotation.
+/// The word of a field (6.6, modules), unless that is an annotation.
 #[derive(Clone, Copy)]
 pub(crate) enum FieldWord {
     Type,

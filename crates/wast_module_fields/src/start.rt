@@ -9,7 +9,7 @@ ghost use Rattle.wast_module_fields.specs.ModuleFieldViews.{start_tree};
 use wast_lexer::Span;
 use wast_parser::{Error, Index, LParen, Meaning, Parse, Parser, RParen};
 
-/// The function with which a module starts: `(start $f)` (6.6.10).
+/// The function with which a module starts: `(start $f)` (6.6, start function).
 #[derive(Drop)]
 pub struct Start<'a> {
     /// Where the word `start` stands.

@@ -14,7 +14,7 @@ use std::alloc::Global;
 use wasm_encoder_base::EncodeError;
 use wast_module_fields::{FunctionType, Local, TypeUse};
 
-/// The names of the locals of a function (6.6.4): of the parameters, and then of its own. A use without a signature has the parameters of
+/// The names of the locals of a function (6.6, functions): of the parameters, and then of its own. A use without a signature has the parameters of
 /// its type, by these counts, without names.
 pub(crate) fn names_of_locals<'a>(
     alloc: Global,

@@ -16,7 +16,7 @@ use wast_names::Namespace;
 use wast_parser::Id;
 use wast_signatures::Param;
 
-/// The space of the parameters and locals of a function (6.6.4); of two that bear one name the first counts. Fails only where no memory
+/// The space of the parameters and locals of a function (6.6, functions); of two that bear one name the first counts. Fails only where no memory
 /// is found, or there are more than 4294967295, which is told as that.
 pub(crate) fn locals_of<'a>(
     alloc: Global,

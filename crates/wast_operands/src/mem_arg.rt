@@ -30,8 +30,8 @@ pub enum MemArgOrdering {
     Rmw(Ordering, Ordering),
 }
 
-/// A memory argument (6.5.6). The alignment is in bytes; an absent target is memory 0. Few have a target: it stands in a box, so
-/// that the others take no room for it.
+/// A memory argument (6.5.6). The alignment and the offset are in bytes; an absent target is memory 0. Few have a target: it stands
+/// in a box, so that the others take no room for it.
 #[derive(Drop)]
 pub struct MemArg<'a> {
     pub align: u64,
@@ -41,7 +41,8 @@ pub struct MemArg<'a> {
 }
 
 impl<'a> MemArg<'a> {
-    /// Reads one of an instruction with this natural alignment, in bytes, which counts where none is written.
+    /// Reads one of an instruction with this natural alignment, in bytes, which counts where none is written. Refused where none is
+    /// spelled here, or for want of memory.
     pub fn parse(parser: &mut Parser<'a>, default_align: u64) -> Result<Self, Error>
         ensures read { Gives mem_arg_tree result parser.new ((mem_arg default_align).reads (ahead parser.old)) }
         ensures keeps { Keeps parser.old parser.new }
@@ -61,7 +62,7 @@ pub struct LoadOrStoreLane<'a> {
 
 impl<'a> LoadOrStoreLane<'a> {
     /// Reads one of an instruction with this natural alignment, in bytes, which counts where none is written. An integer in
-    /// front is the memory where a lane still follows it, and else the lane.
+    /// front is the memory where a lane still follows it, and else the lane. Refused where none is spelled here, or for want of memory.
     pub fn parse(parser: &mut Parser<'a>, default_align: u64) -> Result<Self, Error>
         ensures read { Gives lane_access_tree result parser.new ((mem_arg_lane default_align).reads (ahead parser.old)) }
         ensures keeps { Keeps parser.old parser.new }

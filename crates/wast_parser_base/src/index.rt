@@ -59,7 +59,8 @@ pub struct ItemRef<'a, K> {
     pub idx: Index<'a>,
 }
 
-/// The name that an annotation `(@name "..")` gives (6.4.1).
+/// The name that an annotation `(@name "..")` gives (6.4.1). It is read inside of the parentheses; `Option<NameAnnotation>` is
+/// read with them, and none where no annotation `name` is registered.
 #[derive(Drop)]
 pub struct NameAnnotation<'a> {
     pub name: CowStr<'a, Global>,

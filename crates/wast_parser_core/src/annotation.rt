@@ -43,7 +43,8 @@ impl<'a> Parser<'a> {
         let _ = self.names.pop();
     }
 
-    /// Reads one with one more annotation registered, which is taken back on both outcomes.
+    /// Reads one with one more annotation registered, which is taken back on both outcomes. Refused as [`Parser::parse`] is, or
+    /// for want of memory for the name.
     pub fn with_annotation<T: Parse<'a>>(&mut self, name: &'a str) -> Result<T, Error>
         ensures read { Gives T.tree result (knowing T.registers (also name.now self.new)) (T.syntax.reads (ahead (knowing T.registers (also name.now self.old)))) }
         ensures keeps { Moves self.old self.new }
@@ -55,7 +56,8 @@ impl<'a> Parser<'a> {
         result
     }
 
-    /// Reads one with more annotations registered, which are taken back on both outcomes.
+    /// Reads one with more annotations registered, which are taken back on both outcomes. Refused as [`Parser::parse`] is, or for
+    /// want of memory for the names.
     pub fn with_annotations<T: Parse<'a>>(&mut self, names: &[&'a str]) -> Result<T, Error>
         ensures read { Gives T.tree result (knowing (T.registers ++ map (λ n. n.now) names.now) self.new) (T.syntax.reads (ahead (knowing (T.registers ++ map (λ n. n.now) names.now) self.old))) }
         ensures keeps { KeepsWith (T.registers ++ map (λ n. n.now) names.now) self.old self.new }

@@ -12,7 +12,7 @@ use wast_lexer::Span;
 use wast_parser_base::Error;
 
 impl<'a> Parser<'a> {
-    /// Whether a word that begins so stands here.
+    /// Whether a word that begins so stands here. Refused as [`Parser::peek`] is.
     pub fn peek_begun(&self, prefix: &str) -> Result<bool, Error>
         ensures { Asks result self.now.source (ask (On false AWord (Begun prefix.now) ∷ []) (ahead self.now)) }
     {
@@ -24,7 +24,8 @@ impl<'a> Parser<'a> {
         }
     }
 
-    /// Takes a word that begins so; answers what follows in it, and where it stands.
+    /// Takes a word that begins so; answers what follows in it, and where it stands. Refused only where none is there; the parser
+    /// stays then.
     pub fn begun(&mut self, prefix: &str) -> Result<(&'a [u8], Span), Error>
         ensures read { Gives (λ x. (x.0.now, x.1)) result self.new ((begun prefix.now (λ w. Some w)).reads (ahead self.old)) }
         ensures keeps { Keeps self.old self.new }
@@ -40,7 +41,8 @@ impl<'a> Parser<'a> {
         Err(self.error("expected another word"))
     }
 
-    /// Takes a float or an integer; answers its text, and where it stands.
+    /// Takes a float or an integer; answers its text, and where it stands. Refused only where none is there; the parser stays
+    /// then.
     pub fn float(&mut self) -> Result<(&'a str, Span), Error>
         ensures read { Gives (λ x. (x.0.now, x.1)) result self.new (float.reads (ahead self.old)) }
         ensures keeps { Keeps self.old self.new }

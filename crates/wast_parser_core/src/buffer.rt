@@ -36,7 +36,8 @@ impl<'a> Model for ParseBuffer<'a> {
 }
 
 impl<'a> ParseBuffer<'a> {
-    /// The tokens of a text. Refused for want of memory alone: a text that does not lex is told of where it is read.
+    /// The tokens of a text, which has fewer than 2^32 bytes. Refused for want of memory alone: a text that does not lex is told
+    /// of where it is read.
     pub fn new(alloc: Global, text: &'a str) -> Result<ParseBuffer<'a>, Error>
         requires { length text.now < 2 ^ 32 }
         ensures text { IfOk result (λ b. (b.text ≡ text.now) × (b.track ≡ false)) }

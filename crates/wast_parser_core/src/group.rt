@@ -14,8 +14,11 @@ use wast_lexer::Span;
 use wast_parser_base::Error;
 
 impl<'a> Parser<'a> {
-    /// What a closure reads, in parentheses. Refused where none opens, where the closure refuses, or where none closes
-    /// behind what it reads; offset and depth are then as they were.
+    /// What a closure reads, in parentheses. It may be called on any parser, leaves depth and registered names on both outcomes,
+    /// and passes nothing behind the last token that it takes.
+    ///
+    /// Refused where none opens, where the closure refuses, or where none closes behind what it reads; offset and depth are then as
+    /// they were.
     pub fn parens<T: Drop, F: FnOnce(&mut Parser<'a>) -> Result<T, Error>>(
         &mut self,
         f: F,
@@ -58,7 +61,8 @@ impl<'a> Parser<'a> {
         }
     }
 
-    /// A value in parentheses. Where it is refused, offset and depth are as they were.
+    /// A value in parentheses, whose type registers no annotation. Refused where none opens, where the value isn't read, where none
+    /// closes behind it, or for want of memory; offset and depth are then as they were.
     pub fn parens_of<T: Parse<'a>>(&mut self) -> Result<T, Error>
         requires { T.registers ≡ [] }
         ensures read { Gives T.tree result self.new ((paren T.syntax).reads (ahead self.old)) }

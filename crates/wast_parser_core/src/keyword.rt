@@ -13,6 +13,7 @@ use wast_parser_base::Error;
 pub trait KeywordName: Sized + Drop {
     ghost word: { List ℕ };
 
+    /// The word.
     fn text() -> &'static str
         ensures { result.now ≡ word };
 }

@@ -27,11 +27,13 @@
 //! | `Reading` | what its calls answer, and when they refuse |
 //! | `Cursors`, `Kinds` | what the calls of a cursor look at and take |
 //! | `Comments` | the comment that follows a place |
+//! | `Openings` | where groups open and close |
 //! | `Literals`, `Integers`, `Productions`, `Identifiers`, `Marks` | ranges of integers and the numbers that they say, names, identifiers, indices, the annotation that names |
 //! | `Laws` | the statements of the law functions |
 //!
 //! What is spelled is refused only for want of memory, by an error without a place. What others tell is told of the calls of a
-//! cursor; of a text that isn't read, which message and place they have is promised nowhere.
+//! cursor; of a text that isn't read, which message and place they have is promised nowhere. Where there is no memory for the
+//! message of an error, the error is want of memory.
 #![tactic(auto)]
 
 mod annotation;

@@ -96,21 +96,22 @@ impl<'a> Parser<'a> {
         }
     }
 
-    /// Whether one begins here.
+    /// Whether one begins here. Refused only where no token can be read: by the lexer's fault, for a group that isn't closed, or
+    /// for want of memory for the message of that.
     pub fn peek<T: Peek>(&self) -> Result<bool, Error>
         ensures { Asks result self.now.source (ask T.syntax.starts (ahead self.now)) }
     {
         T::peek(self.cursor())
     }
 
-    /// Whether one begins behind the next token.
+    /// Whether one begins behind the next token. Refused as [`Parser::peek`] is.
     pub fn peek2<T: Peek>(&self) -> Result<bool, Error>
         ensures { Asks result self.now.source (ask T.syntax.starts (past (ahead self.now))) }
     {
         T::peek2(self.cursor())
     }
 
-    /// Whether one begins behind the next two tokens.
+    /// Whether one begins behind the next two tokens. Refused as [`Parser::peek`] is.
     pub fn peek3<T: Peek>(&self) -> Result<bool, Error>
         ensures { Asks result self.now.source (ask T.syntax.starts (past (past (ahead self.now)))) }
     {
@@ -121,7 +122,9 @@ impl<'a> Parser<'a> {
         }
     }
 
-    /// Reads one.
+    /// Reads one where its production is spelled here, and takes its tokens; refused elsewhere, or for want of memory. Depth and
+    /// registered names stay, and, from outside of the groups that are passed, the parser stands where it did or directly behind
+    /// the last token that it took.
     pub fn parse<T: Parse<'a>>(&mut self) -> Result<T, Error>
         ensures read { Gives T.tree result (knowing T.registers self.new) (T.syntax.reads (ahead (knowing T.registers self.old))) }
         ensures keeps { KeepsWith T.registers self.old self.new }
@@ -129,7 +132,8 @@ impl<'a> Parser<'a> {
         T::parse(self)
     }
 
-    /// Takes what a closure takes by a cursor. Where the closure refuses, nothing is taken.
+    /// Takes what a closure takes by a cursor: with its value it answers the cursor that it is given, or one behind that. Refused
+    /// by the closure's error alone; nothing is taken then.
     pub fn step<T: Drop, F: for<'b> FnOnce(Cursor<'b, 'a>) -> Result<(T, Cursor<'b, 'a>), Error>>(
         &mut self,
         f: F,
@@ -151,7 +155,7 @@ impl<'a> Parser<'a> {
         }
     }
 
-    /// Whether no token is left in this group.
+    /// Whether no token is left in this group; not where it can't be told.
     pub fn is_empty(&self) -> bool
         ensures { result ≡ ends_here (ahead self.now) }
     {
@@ -249,7 +253,7 @@ impl<'a> Parser<'a> {
         self.error_at(self.cur_span(), message)
     }
 
-    /// Whether the text ends here: refused where a significant token is left, or where none can be read.
+    /// Tests that the text ends here: refused where a significant token is left, or where none can be read.
     pub fn end(&self) -> Result<(), Error>
         ensures ends { OnOk result (ahead self.now ≡ []) }
         ensures left { OnErr result (ahead self.now ≢ []) }

@@ -22,7 +22,7 @@ use wast_lexer::{Integer, IntegerKind, Span, Token, TokenKind};
 use wast_parser_base::Error;
 
 impl<'a> Parser<'a> {
-    /// Takes this word; answers where it stands.
+    /// Takes this word; answers where it stands. Refused only where it isn't there; the parser stays then.
     #[inline(always)]
     pub fn word(&mut self, text: &str) -> Result<Span, Error>
         ensures read { Gives (λ s. s) result self.new ((word text.now).reads (ahead self.old)) }
@@ -50,7 +50,8 @@ impl<'a> Parser<'a> {
         }
     }
 
-    /// Takes an identifier that has a name; answers the name, and where it stands.
+    /// Takes an identifier that has a name; answers the name, and where it stands. Refused where none is there, or for want of
+    /// memory; the parser stays then.
     pub fn id(&mut self) -> Result<(CowStr<'a, Global>, Span), Error>
         ensures read { Gives (λ x. (as_read (cow_str_bytes x.0), x.1)) result self.new (id.reads (ahead self.old)) }
         ensures keeps { Keeps self.old self.new }
@@ -67,7 +68,7 @@ impl<'a> Parser<'a> {
         }
     }
 
-    /// Takes the name of this annotation; answers where it stands.
+    /// Takes the name of this annotation; answers where it stands. Refused only where it isn't there; the parser stays then.
     pub fn mark(&mut self, text: &str) -> Result<Span, Error>
         ensures read { Gives (λ s. s) result self.new ((mark text.now).reads (ahead self.old)) }
         ensures keeps { Keeps self.old self.new }
@@ -86,7 +87,8 @@ impl<'a> Parser<'a> {
     }
 
     /// Takes an integer of a range: without a minus sign it is at most `most`; with one, where there may be one, at most
-    /// `least`. Answers whether it has a minus sign, its magnitude, and where it stands.
+    /// `least`. Answers whether it has a minus sign, its magnitude, and where it stands. Refused only where none of the range is
+    /// there; the parser stays then.
     pub fn literal(&mut self, most: u64, least: Option<u64>) -> Result<((bool, u64), Span), Error>
         ensures read { Gives (λ x. (literal_from x.0, x.1)) result self.new ((ranged most least).reads (ahead self.old)) }
         ensures keeps { Keeps self.old self.new }
@@ -107,7 +109,8 @@ impl<'a> Parser<'a> {
         }
     }
 
-    /// Takes a string; answers the bytes that it stands for.
+    /// Takes a string; answers the bytes that it stands for. Refused where none is there, or for want of memory; the parser stays
+    /// then.
     pub fn string(&mut self) -> Result<Bytes<'a>, Error>
         ensures read { Gives (λ b. b) result self.new (string.reads (ahead self.old)) }
         ensures keeps { Keeps self.old self.new }
@@ -122,7 +125,8 @@ impl<'a> Parser<'a> {
         }
     }
 
-    /// Takes a string that is UTF-8; answers the text that it stands for.
+    /// Takes a string that is UTF-8; answers the text that it stands for. Refused where none is there, or for want of memory; the
+    /// parser stays then.
     pub fn name(&mut self) -> Result<CowStr<'a, Global>, Error>
         ensures read { Gives cow_str_bytes result self.new (name.reads (ahead self.old)) }
         ensures keeps { Keeps self.old self.new }

@@ -62,8 +62,8 @@ pub fn find_among<T: Spelled>(values: &[T], text: &[u8]) -> Option<T>
 }
 
 impl<'a> Parser<'a> {
-    /// Takes a word of a set; answers its value, and where it stands. Refused where no word of the set comes next;
-    /// `expected` is for the message.
+    /// Takes a word of a set; answers its value, and where it stands. Refused where no word of the set comes next, and the
+    /// parser stays then; `expected` is for the message.
     pub fn among<T: WordSet>(&mut self, expected: &str) -> Result<(T, Span), Error>
         ensures read { Gives (λ m. (T.entry m.0, m.1)) result self.new ((among T.word T.entries T.but).reads (ahead self.old)) }
         ensures keeps { Keeps self.old self.new }

@@ -1,5 +1,5 @@
 //! Lists of fields resolved: each type use has its type, and each index is a number, or the first demand of names that isn't met is
-//! refused (WebAssembly Core Specification 3.0, 6.1.3 and 6.6.3).
+//! refused (WebAssembly Core Specification 3.0, 6.1.3 and 6.6, type uses).
 //!
 //! [`types::expand`] gives each type use without an index the number of the type that it takes, and appends the types that uses imply
 //! as fields. The use of a block without parameters and with at most one result stays as it is.

@@ -25,15 +25,16 @@ pub trait ResolveModule<'a> {
     /// What contracts see of it.
     ghost tree: { Self → spec.Module Name ℕ };
 
-    /// Writes the fields out, gives each use its type and makes each index the number that it means (6.1.3, 6.6.3), and answers what names
+    /// Writes the fields out, gives each use its type and makes each index the number that it means (6.1.3, and 6.6, type uses), and answers what names
     /// mean. Pieces of a binary stay as they are, and want no memory; place and name of the module stay too. A field that is referred to and
     /// has no name takes the next one of `gensym`, and there is room for one a field. A name that is taken is fresh where each name of the
     /// module that was made is one that `gensym` made since its last reset; else it may be that of another item.
     ///
     /// Refuses a module of which a demand of names isn't met, by the first, with its place and message; else only where no memory is found,
-    /// or there are more than 4294967295 items of a kind or blocks inside each other. The module then keeps why, and each later call is
-    /// refused by a copy of that, or for want of memory for the copy; it takes no name. The fields of a module that is refused may be gone,
-    /// and as many names are taken as where it is resolved; fewer, it may be, where no memory is found.
+    /// or there are more than 4294967295 items of a kind, types with those that uses imply, fields of a structure, parameters and locals of
+    /// a function, or blocks inside each other, which is told as that. The module then keeps why, and each later call is refused by a copy
+    /// of that, or for want of memory for the copy; it takes no name. The fields of a module that is refused may be gone, and as many names
+    /// are taken as where it is resolved; fewer, it may be, where no memory is found.
     fn resolve(&mut self, alloc: Global, gensym: &mut Gensym) -> Result<Names<'a>, Error>
         requires { (tree self.old).refusal ≡ None → gensym.old + length (content_fields (tree self.old).content) < 2 ^ 32 }
         ensures answers { (tree self.old).refusal ≡ None → Answers result (module_demands_by gensym.old (tree self.old)) }
@@ -50,7 +51,7 @@ pub trait ResolveModule<'a> {
         ensures kept { (why : Problem) → (tree self.old).refusal ≡ Some why → tree self.new ≡ tree self.old }
         ensures uncounted { (why : Problem) → (tree self.old).refusal ≡ Some why → gensym.new ≡ gensym.old };
 
-    /// Where the keyword of the first field stands that isn't well formed, if there is one (3.4.13, 6.5.6, 6.6.1 and 6.6.14, and the
+    /// Where the keyword of the first field stands that isn't well formed, if there is one (3.4.13, 6.5.6, 6.6.1 and 6.6, modules, and the
     /// proposals on branch hints and page sizes). In fields that are, alignments are powers of two below 65536, in bytes; branch hints rise,
     /// each stands on an instruction, and their values are below 128; constant expressions close each block that they open, and no other;
     /// a memory with its segment inline has pages of 2 to a power below 64 bytes; no start function stands behind another; and each name

@@ -39,7 +39,7 @@ pub enum Ns {
     Type,
 }
 
-/// What the names of a module mean.
+/// What the names of a module mean, in each of its index spaces.
 #[derive(Drop)]
 pub struct Resolver<'a> {
     pub(crate) spaces: Spaces<'a>,
@@ -72,7 +72,8 @@ impl<'a> Resolver<'a> {
 /// their numbers, behind those that are written, but are not added: that is done by `types::expand`.
 ///
 /// Refuses fields of which a demand of names isn't met, by the first, with its place and message; else only where no memory is found, or
-/// there are more than 4294967295 items of a kind or blocks inside each other. The fields are gone then.
+/// there are more than 4294967295 items of a kind, types with those that uses imply, fields of a structure, parameters and locals of a
+/// function, or blocks inside each other, which is told as that. The fields are gone then.
 pub fn resolve<'a>(
     alloc: Global,
     fields: Vec<ModuleField<'a>>,

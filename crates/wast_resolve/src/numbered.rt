@@ -1,4 +1,4 @@
-//! Whole fields.
+//! The indices of fields as numbers.
 ghost use Rattle.std.specs.Prelude.{◌≡◌, OnOk, map};
 ghost use Rattle.wast_grammar.specs.Spelling.{same_name};
 ghost use Rattle.wast_core.specs.ModuleFieldViews.{field_tree};

@@ -88,12 +88,13 @@ impl<'a> Names<'a> {
     }
 }
 
-/// The fields, written out, with the types that uses take and with numbers for indices, and what their names mean (6.1.3, 6.6.3). A
+/// The fields, written out, with the types that uses take and with numbers for indices, and what their names mean (6.1.3, and 6.6, type uses). A
 /// field that is referred to and has no name takes the next one of `gensym`, and there is room for one a field.
 ///
 /// Refuses fields of which, written out, a demand of names isn't met, by the first, with its place and message; else only where no memory
-/// is found, or there are more than 4294967295 items of a kind or blocks inside each other. The fields are gone then, and as many names
-/// are taken as where they are resolved; fewer, it may be, where no memory is found.
+/// is found, or there are more than 4294967295 items of a kind, types with those that uses imply, fields of a structure, parameters and
+/// locals of a function, or blocks inside each other, which is told as that. The fields are gone then, and as many names are taken as where
+/// they are resolved; fewer, it may be, where no memory is found.
 pub fn resolve<'a>(
     alloc: Global,
     fields: Vec<ModuleField<'a>>,

@@ -1,7 +1,7 @@
 //! Laws over the definitions that contracts cite: functions without parameters whose contracts are the laws. They do nothing.
 //!
 //! Fields are *expanded* where each use of a type without an index has the number of the type that it takes, and the implied types stand
-//! behind all fields (WebAssembly Core Specification 3.0, 6.6.3: abbreviations).
+//! behind all fields (WebAssembly Core Specification 3.0, 6.6, type uses: abbreviations).
 
 ghost use Rattle.wast_resolve_laws.specs.Laws.{DemandsKept, FieldsKept, LabelsHandedOn, NamingsAlike, NothingImplied, NumberedSettled, OrdersAgree, RenamedDemands, RenamedNumbers, ResolvedAgain, ResolvedMet, ResolvedSettled, ScopeKept, SignaturesKept, SpacesApart, SpacesKept, TestedOnTheWay, TypesTaken, WrittenDemands, WrittenNames, WrittenSignatures, WrittenTypes};
 

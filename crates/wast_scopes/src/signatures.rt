@@ -23,7 +23,7 @@ use wast_names::Namespace;
 use wast_signatures::FunctionType;
 use wast_spaces::Spaces;
 
-/// The function types of a module by number, written and implied, in which each index is the number that it means (6.6.3).
+/// The function types of a module by number, written and implied, in which each index is the number that it means (6.6, type uses).
 #[derive(Drop)]
 pub struct Signatures {
     /// None where a type is no function type.

@@ -21,13 +21,13 @@ module _ {N P : Type 0} where
     pub aligned : All (λ i. OperandsAligned i.operands) e.instrs
     pub balanced : IsBalanced (expr_meant e) 0
 
-  -- what is imported (6.6.9)
+  -- what is imported (6.6, imports)
   abbrev pub ImportResolved : ImportItems N P → Type 0
   ImportResolved (Single name i) = ExternResolved i.extern_type
   ImportResolved (Group1 is) = All (λ i. ExternResolved i.1.extern_type) is
   ImportResolved (Group2 names i) = ExternResolved i.extern_type
 
-  -- what is defined (6.6.4 to 6.6.8)
+  -- what is defined (6.6)
   pub record FunctionReady (f : Function N P) : Type 0 where
     pub type_use : UseResolved f.type_use
     pub locals : All (λ l. ValResolved l.val_type) f.locals
@@ -41,7 +41,7 @@ module _ {N P : Type 0} where
   DefinedReady (Tag u) = UseResolved u
   DefinedReady _ = ⊥
 
-  -- segments (6.6.11 and 6.6.12)
+  -- segments (6.6, element and data segments)
   abbrev pub ElementsReady : Elements N P → Type 0
   ElementsReady (Indices is) = All IsNumber is
   ElementsReady (Expressions t es) = RefResolved t × All ConstantReady es

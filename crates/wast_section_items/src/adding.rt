@@ -21,12 +21,14 @@ use wasm_encoder_sections::{
     ImportSection, MemorySection, TableSection, TagSection, TypeSection,
 };
 
+/// Appends a type definition, alone in its entry.
 pub(crate) fn add_type(section: &mut TypeSection, definition: &SubType) -> Result<(), EncodeError>
     ensures { Writes (entry_bytes (OneType (sub_view definition.now))) (composite_fits definition.now.composite_type) section.old section.new result }
 {
     section.ty().subtype(definition)
 }
 
+/// Appends an entry of type definitions that may refer to each other.
 pub(crate) fn add_group(
     section: &mut TypeSection,
     definitions: &[SubType],
@@ -36,6 +38,7 @@ pub(crate) fn add_group(
     section.ty().rec(definitions)
 }
 
+/// Appends an entry of one import, or of several of a module.
 pub(crate) fn add_imports(
     section: &mut ImportSection,
     imports: Imports<'_>,
@@ -46,6 +49,7 @@ pub(crate) fn add_imports(
     Ok(())
 }
 
+/// Appends a function by the number of its type.
 pub(crate) fn add_function(
     section: &mut FunctionSection,
     type_index: u32,
@@ -56,6 +60,7 @@ pub(crate) fn add_function(
     Ok(())
 }
 
+/// Appends a table without a value that its elements have at first.
 pub(crate) fn add_table(section: &mut TableSection, ty: TableType) -> Result<(), EncodeError>
     ensures { Writes (table_item ended (WithoutInit (table_view ty))) (Unit {0}) section.old section.new result }
 {
@@ -63,6 +68,7 @@ pub(crate) fn add_table(section: &mut TableSection, ty: TableType) -> Result<(),
     Ok(())
 }
 
+/// Appends a table with the value that its elements have at first.
 pub(crate) fn add_table_with_init(
     section: &mut TableSection,
     ty: TableType,
@@ -74,6 +80,7 @@ pub(crate) fn add_table_with_init(
     Ok(())
 }
 
+/// Appends a memory by its type.
 pub(crate) fn add_memory(section: &mut MemorySection, ty: MemoryType) -> Result<(), EncodeError>
     ensures { Writes (limits_bytes (memory_view ty)) (Unit {0}) section.old section.new result }
 {
@@ -81,6 +88,7 @@ pub(crate) fn add_memory(section: &mut MemorySection, ty: MemoryType) -> Result<
     Ok(())
 }
 
+/// Appends a tag by its type.
 pub(crate) fn add_tag(section: &mut TagSection, ty: TagType) -> Result<(), EncodeError>
     ensures { Writes (tag_bytes ty.func_type_idx) (Unit {0}) section.old section.new result }
 {
@@ -88,6 +96,7 @@ pub(crate) fn add_tag(section: &mut TagSection, ty: TagType) -> Result<(), Encod
     Ok(())
 }
 
+/// Appends a global and its value at first.
 pub(crate) fn add_global(
     section: &mut GlobalSection,
     ty: GlobalType,
@@ -99,6 +108,7 @@ pub(crate) fn add_global(
     Ok(())
 }
 
+/// Appends an export: its name, and the kind and number of what is exported.
 pub(crate) fn add_export(
     section: &mut ExportSection,
     name: &str,
@@ -111,6 +121,7 @@ pub(crate) fn add_export(
     Ok(())
 }
 
+/// Appends an element segment.
 pub(crate) fn add_segment(
     section: &mut ElementSection,
     segment: ElementSegment<'_>,
@@ -121,6 +132,7 @@ pub(crate) fn add_segment(
     Ok(())
 }
 
+/// Appends the body of a function.
 pub(crate) fn add_body(section: &mut CodeSection, body: &Function) -> Result<(), EncodeError>
     ensures { Writes (function_item body.now) (length body.now < 2 ^ 32) section.old section.new result }
 {
@@ -128,6 +140,7 @@ pub(crate) fn add_body(section: &mut CodeSection, body: &Function) -> Result<(),
     Ok(())
 }
 
+/// Appends a data segment that is copied into a memory, by its number, at an offset.
 pub(crate) fn add_active_data(
     section: &mut DataSection,
     memory: u32,
@@ -140,6 +153,7 @@ pub(crate) fn add_active_data(
     Ok(())
 }
 
+/// Appends a data segment that instructions copy.
 pub(crate) fn add_passive_data(section: &mut DataSection, bytes: &[u8]) -> Result<(), EncodeError>
     ensures { Writes (data_bytes ended (PassiveData bytes.now)) (length bytes.now < 2 ^ 32) section.old section.new result }
 {

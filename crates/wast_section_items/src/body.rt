@@ -43,7 +43,7 @@ use wast_fields::{Func, FuncKind, Local};
 #[derive(Clone, Copy)]
 pub struct FuncBody<'f, 'a>(pub &'f Func<'a>);
 
-/// Its locals, neighbours of one type joined, and its instructions (6.6.4).
+/// Its locals, neighbours of one type joined, and its instructions (6.6, functions).
 impl SectionItem for FuncBody<'_, '_> {
     type Section = CodeSection;
 

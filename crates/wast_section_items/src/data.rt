@@ -31,7 +31,7 @@ use wast_data::DataVal;
 use wast_fields::{Data, DataKind};
 use wast_parser::Index;
 
-/// Its bytes, and where it is copied, if it is (6.6.12).
+/// Its bytes, and where it is copied, if it is (6.6, data segments).
 impl SectionItem for Data<'_> {
     type Section = DataSection;
 

@@ -38,7 +38,7 @@ use wast_fields::{Elem, ElemKind, ElemPayload};
 use wast_parser::Index;
 use wast_value_types::RefType;
 
-/// Its elements, and where they are copied, if they are (6.6.11).
+/// Its elements, and where they are copied, if they are (6.6, element segments).
 impl SectionItem for Elem<'_> {
     type Section = ElementSection;
 

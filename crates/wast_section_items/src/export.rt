@@ -18,7 +18,7 @@ use wast_conversions::{export_kind, index};
 use wast_customs::CustomPlaceAnchor;
 use wast_exports::Export;
 
-/// Its name, and of what it is (6.6.10).
+/// Its name, and of what it is (6.6, exports).
 impl SectionItem for Export<'_> {
     type Section = ExportSection;
 

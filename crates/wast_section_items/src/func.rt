@@ -19,7 +19,7 @@ use wast_conversions::type_index;
 use wast_customs::CustomPlaceAnchor;
 use wast_fields::{Func, FuncKind};
 
-/// The index of its type (6.6.4).
+/// The index of its type (6.6, functions).
 impl SectionItem for Func<'_> {
     type Section = FunctionSection;
 

@@ -30,7 +30,7 @@ use wast_customs::CustomPlaceAnchor;
 use wast_fields::{Global as GlobalField, GlobalKind};
 use wast_value_types::GlobalType;
 
-/// Its type and its value at first (6.6.5).
+/// Its type and its value at first (6.6, globals).
 impl SectionItem for GlobalField<'_> {
     type Section = GlobalSection;
 

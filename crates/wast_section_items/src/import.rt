@@ -25,7 +25,7 @@ use wast_conversions::entity_type;
 use wast_customs::CustomPlaceAnchor;
 use wast_imports::{ImportGroup1Item, ImportGroup2Item, ImportItems, Imports};
 
-/// An entry of one import, or of several of a module (6.6.9).
+/// An entry of one import, or of several of a module (6.6, imports).
 impl SectionItem for Imports<'_> {
     type Section = ImportSection;
 

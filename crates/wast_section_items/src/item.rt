@@ -8,7 +8,9 @@ use std::alloc::Global;
 use wasm_encoder_base::EncodeError;
 use wast_customs::CustomPlaceAnchor;
 
-/// What stands in a section: an item of it.
+/// What stands in a section: an item of it. What is encoded is ready: it is resolved, with nothing inline in place of what it defines, and
+/// covered, with no form that has no binary here; its alignments, in bytes, are powers of two below 65536, and its constant expressions close
+/// each block that they open, and no other.
 pub trait SectionItem {
     /// The section of the encoder.
     type Section;

@@ -17,7 +17,7 @@ use wast_conversions::memory_type;
 use wast_customs::CustomPlaceAnchor;
 use wast_fields::{Memory, MemoryKind};
 
-/// Its type (6.6.6).
+/// Its type (6.6, memories).
 impl SectionItem for Memory<'_> {
     type Section = MemorySection;
 

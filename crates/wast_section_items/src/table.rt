@@ -31,7 +31,7 @@ use wast_customs::CustomPlaceAnchor;
 use wast_fields::{Table, TableKind};
 use wast_value_types::TableType;
 
-/// Its type, and the value of its elements at first, where one is written (6.6.7).
+/// Its type, and the value of its elements at first, where one is written (6.6, tables).
 impl SectionItem for Table<'_> {
     type Section = TableSection;
 

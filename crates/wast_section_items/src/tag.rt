@@ -23,7 +23,7 @@ use wast_customs::CustomPlaceAnchor;
 use wast_fields::{Tag, TagKind};
 use wast_imports::TagType;
 
-/// The index of its type (6.6.8).
+/// The index of its type (6.6, tags).
 impl SectionItem for Tag<'_> {
     type Section = TagSection;
 

@@ -1,4 +1,4 @@
-//! Indices.
+//! Indices as numbers: one that may be left out, and some in a row.
 ghost use Rattle.std.specs.Prelude.{◌≡◌, All, IfOk, OnOk, map, option_map};
 ghost use Rattle.std.specs.List.{AllByRecursion};
 ghost use Rattle.wasm_layout.specs.IsModule.{IsU32};

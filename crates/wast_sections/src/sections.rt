@@ -75,7 +75,7 @@ impl FieldItems for TypeItems {
     }
 }
 
-/// The section of imports, a group being one entry (6.6.9). Refused for want of memory, and as too large where their count, or a count or
+/// The section of imports, a group being one entry (6.6, imports). Refused for want of memory, and as too large where their count, or a count or
 /// length in them, is past 4294967295.
 pub fn imports(alloc: Global, fields: &[ModuleField<'_>]) -> Result<ImportSection, EncodeError>
     requires { All (λ f. FieldReady (field_tree f)) fields.now }
@@ -117,7 +117,7 @@ impl FieldItems for ImportItems {
     }
 }
 
-/// The section of the types of functions (6.6.4). Refused for want of memory, and as too large where their count, or a count or length in
+/// The section of the types of functions (6.6, functions). Refused for want of memory, and as too large where their count, or a count or length in
 /// them, is past 4294967295.
 pub fn functions(alloc: Global, fields: &[ModuleField<'_>]) -> Result<FunctionSection, EncodeError>
     requires { All (λ f. FieldReady (field_tree f)) fields.now }
@@ -159,7 +159,7 @@ impl FieldItems for FuncItems {
     }
 }
 
-/// The section of tables (6.6.7). Refused for want of memory, and as too large where their count, or a count or length in them, is past
+/// The section of tables (6.6, tables). Refused for want of memory, and as too large where their count, or a count or length in them, is past
 /// 4294967295.
 pub fn tables(alloc: Global, fields: &[ModuleField<'_>]) -> Result<TableSection, EncodeError>
     requires { All (λ f. FieldReady (field_tree f)) fields.now }
@@ -201,7 +201,7 @@ impl FieldItems for TableItems {
     }
 }
 
-/// The section of memories (6.6.6). Refused for want of memory, and as too large where their count, or a count or length in them, is past
+/// The section of memories (6.6, memories). Refused for want of memory, and as too large where their count, or a count or length in them, is past
 /// 4294967295.
 pub fn memories(alloc: Global, fields: &[ModuleField<'_>]) -> Result<MemorySection, EncodeError>
     requires { All (λ f. FieldReady (field_tree f)) fields.now }
@@ -243,7 +243,7 @@ impl FieldItems for MemoryItems {
     }
 }
 
-/// The section of tags (6.6.8). Refused for want of memory, and as too large where their count, or a count or length in them, is past
+/// The section of tags (6.6, tags). Refused for want of memory, and as too large where their count, or a count or length in them, is past
 /// 4294967295.
 pub fn tags(alloc: Global, fields: &[ModuleField<'_>]) -> Result<TagSection, EncodeError>
     requires { All (λ f. FieldReady (field_tree f)) fields.now }
@@ -285,7 +285,7 @@ impl FieldItems for TagItems {
     }
 }
 
-/// The section of globals (6.6.5). Refused for want of memory, and as too large where their count, or a count or length in them, is past
+/// The section of globals (6.6, globals). Refused for want of memory, and as too large where their count, or a count or length in them, is past
 /// 4294967295.
 pub fn globals(alloc: Global, fields: &[ModuleField<'_>]) -> Result<GlobalSection, EncodeError>
     requires { All (λ f. FieldReady (field_tree f)) fields.now }
@@ -327,7 +327,7 @@ impl FieldItems for GlobalItems {
     }
 }
 
-/// The section of exports (6.6.10). Refused for want of memory, and as too large where their count, or a count or length in them, is past
+/// The section of exports (6.6, exports). Refused for want of memory, and as too large where their count, or a count or length in them, is past
 /// 4294967295.
 pub fn exports(alloc: Global, fields: &[ModuleField<'_>]) -> Result<ExportSection, EncodeError>
     requires { All (λ f. FieldReady (field_tree f)) fields.now }
@@ -369,7 +369,7 @@ impl FieldItems for ExportItems {
     }
 }
 
-/// The section of element segments (6.6.11). Refused for want of memory, and as too large where their count, or a count or length in them, is past
+/// The section of element segments (6.6, element segments). Refused for want of memory, and as too large where their count, or a count or length in them, is past
 /// 4294967295.
 pub fn elements(alloc: Global, fields: &[ModuleField<'_>]) -> Result<ElementSection, EncodeError>
     requires { All (λ f. FieldReady (field_tree f)) fields.now }
@@ -411,7 +411,7 @@ impl FieldItems for ElemItems {
     }
 }
 
-/// The section of the bodies of functions (6.6.4). Refused for want of memory, and as too large where their count, or a count or length in
+/// The section of the bodies of functions (6.6, functions). Refused for want of memory, and as too large where their count, or a count or length in
 /// them, is past 4294967295.
 pub fn codes(alloc: Global, fields: &[ModuleField<'_>]) -> Result<CodeSection, EncodeError>
     requires { All (λ f. FieldReady (field_tree f)) fields.now }
@@ -453,7 +453,7 @@ impl FieldItems for CodeItems {
     }
 }
 
-/// The section of data segments (6.6.12). Refused for want of memory, and as too large where their count, or a count or length in them, is past
+/// The section of data segments (6.6, data segments). Refused for want of memory, and as too large where their count, or a count or length in them, is past
 /// 4294967295.
 pub fn datas(alloc: Global, fields: &[ModuleField<'_>]) -> Result<DataSection, EncodeError>
     requires { All (λ f. FieldReady (field_tree f)) fields.now }
@@ -495,7 +495,7 @@ impl FieldItems for DataItems {
     }
 }
 
-/// The section of the start function (6.6.10), by the first field that is one.
+/// The section of the start function (6.6, start function), by the first field that is one.
 pub fn start(fields: &[ModuleField<'_>]) -> Option<StartSection>
     requires { All (λ f. FieldReady (field_tree f)) fields.now }
     ensures same { option_map (λ section. section.function_index) result ≡ slice_get (flat_map starts_of (map field_tree fields.now)) 0 }

@@ -156,7 +156,7 @@ module _ {N P : Type 0} where
   abbrev pub rec_group : Syntax N P (Rec N P)
   rec_group = paren rec_body
 
-  -- TYPE USES (6.6.3): (type index)? sig, where the signature is there if any group of it is
+  -- TYPE USES (6.6, type uses): (type index)? sig, where the signature is there if any group of it is
   abbrev pub as_inline : {A : Type 0} → (List (List A) × List (List (ValType N P)) → Sig N P) → List (List A) × List (List (ValType N P)) → Option (Sig N P)
   as_inline f ([], []) = None
   as_inline f s = Some (f s)

@@ -52,7 +52,7 @@ pub record Rec (N P : Type 0) : Type 0 where
   pub place : P
   pub types : List (TypeItem N P)
 
--- type uses (6.6.3); the signature is there where a group of parameters or results is written
+-- type uses (6.6, type uses); the signature is there where a group of parameters or results is written
 pub record TypeUse (N P : Type 0) : Type 0 where
   pub index : Option (Reference N P)
   pub inline : Option (Sig N P)

@@ -21,7 +21,7 @@ pub trait Body: Meaning {
     ghost ended: { any_end Self.syntax.stops ≡ false };
 }
 
-/// `(word ..)`.
+/// `(word ..)`, by what stands behind the word.
 #[derive(Drop)]
 pub struct Grouped<N, T> {
     pub value: T,

@@ -11,7 +11,7 @@ pub struct Several<T> {
     pub items: Vec<T>,
 }
 
-/// The items of groups, one after the other.
+/// The items of groups, one after the other. Fails only for want of memory.
 pub fn join<N: Drop, T: Drop>(
     alloc: Global,
     groups: Vec<Grouped<N, Several<T>>>,

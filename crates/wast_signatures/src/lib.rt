@@ -1,5 +1,5 @@
 //! Signatures, type uses and fields of structures as trees, and their syntax (WebAssembly Core Specification 3.0, 6.4.5, 6.4.6
-//! and 6.6.3). A part of the crate `wast_core_types`.
+//! and 6.6, type uses). A part of the crate `wast_core_types`.
 //!
 //! Each is read where its production is spelled, and is then the one value that the tokens spell. A production is read with the
 //! parentheses that stand in it: a [`FunctionType`] is `(param i32) (result i64)`.

@@ -1,4 +1,4 @@
-//! The index spaces of a module, and what its items must keep to (WebAssembly Core Specification 3.0, 6.1.3 and 6.6.14).
+//! The index spaces of a module, and what its items must keep to (WebAssembly Core Specification 3.0, 6.1.3 and 6.6, modules).
 //!
 //! [`Spaces::of`] numbers the items of fields, and refuses the first that bears the name of another, segments aside, and likewise fields of
 //! structures; [`Spaces::space`] answers one of the spaces, and [`Spaces::fields_of`] that of the fields of a type. [`check_order`] refuses

@@ -1,4 +1,4 @@
-//! How many parameters types have: with as many locals the index space of locals of a function begins (6.6.3).
+//! How many parameters types have: with as many locals the index space of locals of a function begins (6.6, type uses).
 ghost use Rattle.std.specs.Prelude.{◌≡◌, [], ◌∷◌, ◌++◌, true, IfOk, OnOk, map};
 ghost use Rattle.std.specs.List.{flat_map};
 ghost use Rattle.wast_core_types.specs.TypeViews.{inner_tree, item_tree};

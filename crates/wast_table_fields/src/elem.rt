@@ -19,7 +19,7 @@ use wast_field_syntax::{
 };
 use wast_value_types::RefType;
 
-/// An element segment (6.6.11).
+/// An element segment (6.6, element segments).
 ///
 /// It is taken apart by [`Elem::into_parts`] alone.
 pub struct Elem<'a> {

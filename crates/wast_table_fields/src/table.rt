@@ -22,7 +22,7 @@ use wast_field_syntax::{
 use wast_value_types::keyword::Shared;
 use wast_value_types::{Limits, RefType, TableType, address_type};
 
-/// A table (6.6.5).
+/// A table (6.6, tables).
 ///
 /// It is taken apart by [`Table::into_parts`] alone.
 pub struct Table<'a> {

@@ -1,4 +1,4 @@
-//! Imports (6.6.9).
+//! Imports (6.6, imports).
 ghost use Rattle.std.specs.Prelude.{◌≡◌, ℕ, List};
 ghost use Rattle.wast_grammar.specs.Tokens.{Name};
 ghost use Rattle.wast_imports.specs.ImportTree as imports;

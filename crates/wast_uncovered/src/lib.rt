@@ -1,8 +1,9 @@
 //! The first form of a module that has no binary here (WebAssembly Core Specification 3.0, 6.4 to 6.6).
 //!
-//! A text may have forms of the proposals on stack switching, shared types, custom descriptors and exact types, and literals of
-//! floating-point numbers, which are read and resolved, and not encoded. [`uncovered`] answers the first, in the order of the text, and
-//! of instructions as they are unfolded: where the keyword of its field stands, and what it is called; in an instruction that is the mnemonic.
+//! A text may have forms of the proposals on stack switching, shared types, custom descriptors and exact types, literals of floating-point
+//! numbers, memory arguments of arrays, orderings of atomic accesses, and others, which are read and resolved, and not encoded.
+//! [`uncovered`] answers the first, in the order of the text, and of instructions as they are unfolded: where the keyword of its field
+//! stands, and what it is called; in an instruction that is the mnemonic.
 //!
 //! ```
 //! uncovered(&module) // (func (result f32) f32.const 1.5): the place of `func`, and "f32.const"

@@ -93,7 +93,8 @@ impl<'a> Parse<'a> for MemoryType {
     }
 }
 
-/// Reads `(pagesize n)` where it stands; answers the power to which 2 is n. Refused where n is no power of two.
+/// Reads `(pagesize n)` where it stands; answers the power to which 2 is n. Refused where n is no power of two that is a `u32`, where
+/// the group isn't spelled behind its word, or for want of memory.
 pub fn page_size(parser: &mut Parser<'_>) -> Result<Option<u32>, Error>
     ensures read { Gives (λ p. p) result parser.new (page_size.reads (ahead parser.old)) }
     ensures keeps { Keeps parser.old parser.new }

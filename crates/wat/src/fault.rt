@@ -3,7 +3,7 @@
 use wast_lexer::Span;
 use wast_parser_base::Error;
 
-/// Why no binary was made, read or written.
+/// Why no text was read, or no binary made or written.
 ///
 /// `TooLong` to `Uncovered` are conditions that the input fails, the first that it does; `TooLarge` speaks of the
 /// binary, and `Read`, `Memory` and `Write` of the run.
@@ -21,7 +21,7 @@ pub enum Fault {
     /// The input spells no module.
     #[error("{0}")]
     Spelling(Error),
-    /// The module spelled isn't well formed.
+    /// The module spelled isn't well formed, by the place of the keyword of the first field that isn't.
     #[error("module isn't well formed")]
     NotWellFormed(Span),
     /// A name or a type use doesn't stand for what it must.

@@ -13,8 +13,8 @@ use std::alloc::Global;
 use std::io::{Read, Write};
 use wat_io::{Counted, write_front};
 
-/// As `run`, for a program: answers 0 where the whole binary was written and flushed, else 1, with the fault's text, or `out of memory` where
-/// there is none for the text, and a line feed written to the error writer, as far as that one takes them. Its failures are ignored.
+/// As `run`, for a program: answers 0 where the whole binary was written and flushed, else 1, with the fault's text, or `out of memory` where no
+/// memory is found for the text, and a line feed written to the error writer, as far as that one takes them. Its failures are ignored.
 pub fn run_program<R: Read, W: Write, E: Write>(
     alloc: Global,
     reader: &mut Counted<R>,

@@ -7,8 +7,8 @@ use crate::fault::Fault;
 use std::alloc::{AllocError, Global};
 use wast_parser_base::push_place;
 
-/// What is wrong, and, where the fault has a place in the input, a line of it with a caret below that place. Fails only
-/// where no memory is found.
+/// What is wrong, and, where the fault has a place in the input, its line and column, both from 1, the column in bytes, and that
+/// line with a caret below the place. Fails only where no memory is found.
 pub fn render(alloc: Global, fault: &Fault, input: &[u8]) -> Result<String, AllocError>
     ensures { IfOk result (λ text. string_bytes text ≡ rendering fault.now input.now) }
 {

@@ -12,8 +12,12 @@ use wat_io::{Counted, ReadFault, read_within, write_whole};
 /// How many bytes are read at most: one more than an input may have.
 const BOUND: usize = 4_294_967_296;
 
-/// Reads text until 0 bytes come, at most 4294967296 bytes, assembles it and writes the binary. The answer is the
-/// number of bytes written. Nothing is written before the binary is whole.
+/// Reads bytes until none come, at most 4294967296, assembles the text that they are and writes the binary. The answer is
+/// the number of bytes written. Nothing is written before the binary is whole, and the writer is flushed where all of it
+/// went out.
+///
+/// A call that fails, or a write that takes nothing, is counted, and told as `Read` or `Write`; want of memory for what is
+/// read is `Memory`, and else the fault is that of `assemble`.
 pub fn run<R: Read, W: Write>(
     alloc: Global,
     reader: &mut Counted<R>,

@@ -14,7 +14,7 @@ ghost use Rattle.wat.specs.TextViews.{wat_tree};
 use wast_core::{Module, TextModule};
 use wast_parser::{Error, Meaning, Parse, ParseBuffer, Parser};
 
-/// A text, read: the module that it spells (6.6.14), `(module ..)`, or the fields of one alone.
+/// A text, read: the module that it spells (6.6, modules), `(module ..)`, or the fields of one alone.
 ///
 /// While it is read the annotations `name`, `custom`, `producers`, `dylink.0` and `metadata.code.branch_hint` are registered, which are
 /// taken back on both outcomes. Refused where no module is spelled, and where behind it, with these names registered, a significant

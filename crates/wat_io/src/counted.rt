@@ -38,6 +38,7 @@ impl<T> Counted<T> {
         self.failures
     }
 
+    /// One more call has failed.
     pub(crate) fn count_failure(&mut self)
         ensures inner { self.new.inner ≡ self.old.inner }
         ensures failures { self.new.failures ≡ one_more self.old.failures }
@@ -47,7 +48,7 @@ impl<T> Counted<T> {
 }
 
 impl<R: Read> Counted<R> {
-    /// One `read` of the reader inside.
+    /// One `read` of the reader inside. One that fails is counted.
     pub fn read(&mut self, buffer: &mut [u8]) -> io::Result<usize>
         ensures failures { self.new.failures ≡ after_call self.old.failures result }
         ensures bound { ReadsAtMost result buffer.new }
@@ -62,7 +63,7 @@ impl<R: Read> Counted<R> {
 }
 
 impl<W: Write> Counted<W> {
-    /// One `write` of the writer inside.
+    /// One `write` of the writer inside. One that fails is counted, as is one that takes none of some bytes.
     pub fn write(&mut self, bytes: &[u8]) -> io::Result<usize>
         ensures failures { self.new.failures ≡ after_write self.old.failures result bytes.now }
         ensures bound { WritesAtMost result bytes.now }
@@ -79,7 +80,7 @@ impl<W: Write> Counted<W> {
         result
     }
 
-    /// One `flush` of the writer inside.
+    /// One `flush` of the writer inside. One that fails is counted.
     pub fn flush(&mut self) -> io::Result<()>
         ensures failures { self.new.failures ≡ after_call self.old.failures result }
         ensures bytes { Keeps (W.contents self.old.inner) (W.contents self.new.inner) }

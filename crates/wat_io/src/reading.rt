@@ -21,6 +21,7 @@ pub enum ReadFault {
 }
 
 /// Reads until 0 bytes come or there are `bound`. Where that goes well, what is read stands in `input`, which is empty at first.
+/// Refused where a call of the reader fails, which is counted, and where no memory is found; `input` may hold some of it then.
 pub fn read_within<R: Read>(
     alloc: Global,
     input: &mut Vec<u8>,

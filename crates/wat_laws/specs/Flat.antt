@@ -34,14 +34,14 @@ module _ {N P : Type 0} where
     pub unfolds : expression_of (map without_tokens (unfolded (kept_made instruction_made) parts)) ≡ e
     pub flat : WrittenFlat (unfolded (kept_made instruction_made) parts) us
 
-  -- FUNCTIONS (6.6.4): (func id? (@name ..)? (export name)* use (local ..)* item*), of which the body is written flat
+  -- FUNCTIONS (6.6, functions): (func id? (@name ..)? (export name)* use (local ..)* item*), of which the body is written flat
   abbrev pub function : Pairs N P (Function N P)
   function = seen plain.as_function (next (unchanged type_use.spells) (λ _. next (unchanged plain.all_locals.spells) (λ _. IsFlat)))
 
   abbrev pub func : Pairs N P (Definition N P)
   func = paren (seen as_definition (next (token (that_one (codes "func"))) (λ _. next (unchanged head.spells) (λ _. next (unchanged inline_export.spells) (λ _. seen Func function)))))
 
-  -- FIELDS (6.6.14), any of which may stay as it is
+  -- FIELDS (6.6, modules), any of which may stay as it is
   abbrev pub field : Pairs N P (Field N P)
   field = either (seen Define func) (unchanged plain_fields.field.spells)
 

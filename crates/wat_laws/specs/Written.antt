@@ -1,4 +1,4 @@
--- Texts of which one spells the fields of the other written out: without inline parts (WebAssembly 3.0, 6.6.4 to 6.6.9, abbreviations).
+-- Texts of which one spells the fields of the other written out: without inline parts (WebAssembly 3.0, 6.6, abbreviations).
 use Rattle.std.specs.Prelude.{ℕ, ◌≡◌, true, false, List, map, None, option_map}
 use std.Equiv.{Iso}
 use Rattle.wast_grammar.specs.Tokens.{Name}
