@@ -19,7 +19,7 @@ use wast_customs::Custom;
 use wast_exports::{Export, ExportKind, InlineExport, InlineImport, keyword};
 use wast_fields::{Data, Elem, Func, Global, Memory, Table, Tag};
 use wast_imports::Imports;
-use wast_parser::{Cursor, Error, Item, Meaning, Parse, Parser, Peek, Span};
+use wast_parser::{Cursor, Error, Item, Meaning, Parse, Parser, Peek, Span, required};
 use wast_value_types::{Group, or_peek};
 
 /// A field of a module (6.6, modules).
@@ -187,6 +187,6 @@ fn parse_describing<'a>(parser: &mut Parser<'a>) -> Result<ModuleField<'a>, Erro
     } else if parser.peek::<Group<words::Data>>()? {
         Ok(ModuleField::Data(Data::parse(parser)?))
     } else {
-        Ok(ModuleField::Custom(Custom::parse(parser)?))
+        Ok(ModuleField::Custom(required(parser, "expected a field of a module")?))
     }
 }

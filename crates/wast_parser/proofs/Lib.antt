@@ -1,7 +1,6 @@
 pub use Rattle.wast_parser_core.proofs.BehindLaws
 pub use Rattle.wast_parser_core.proofs.GrammarLaws
 pub use Rattle.wast_parser_core.proofs.LeadLaws
-pub use Rattle.wast_parser_core.proofs.NestedLaws
 pub use Rattle.wast_parser_core.proofs.RecursionLaws
 pub use Rattle.wast_parser_core.proofs.TokenLaws
 pub use Rattle.wast_parser_core.proofs.IdentifierLaws
@@ -9,4 +8,5 @@ pub use Rattle.wast_parser_core.proofs.IntegerLaws
 pub use Rattle.wast_parser_core.proofs.States
 pub use Rattle.wast_parser_core.proofs.Looks
 pub use Rattle.wast_parser_core.proofs.Repeats
+pub use Rattle.wast_parser_core.proofs.Unread
 pub use Rattle.wast_parser_core.proofs.Beginnings

@@ -3,7 +3,6 @@ pub use Rattle.wast_parser_core.specs.Behind
 pub use Rattle.wast_parser_core.specs.Grammar
 pub use Rattle.wast_parser_core.specs.Lawful
 pub use Rattle.wast_parser_core.specs.Look
-pub use Rattle.wast_parser_core.specs.Nested
 pub use Rattle.wast_parser_core.specs.Recursion
 pub use Rattle.wast_parser_core.specs.Significant
 pub use Rattle.wast_parser_core.specs.Spelling

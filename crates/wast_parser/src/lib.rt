@@ -20,5 +20,5 @@ pub use wast_parser_core::{
     IntegerKind, Item, ItemRef, Keyword, KeywordName, LParen, LexError, LexFault, Lexer,
     Lookahead1, Meaning, NameAnnotation, Parse, ParseBuffer, Parser, Peek, RParen, SignToken, Span,
     Spelled, Token, TokenKind, TokenTable, Tokens, WordSet, find_among, laws, lexical_text,
-    list_of, magnitude, parse, push_place,
+    list_of, magnitude, parse, push_place, required,
 };

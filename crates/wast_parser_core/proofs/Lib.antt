@@ -4,6 +4,7 @@ pub mod Fronts
 pub mod Words
 pub mod Names
 pub mod Texts
+pub mod Unread
 pub mod Literals
 pub mod Places
 pub mod Shown
@@ -21,7 +22,6 @@ pub use Rattle.wast_grammar.proofs.BehindLaws
 pub use Rattle.wast_grammar.proofs.GrammarLaws
 pub use Rattle.wast_grammar.proofs.LeadLaws
 pub use Rattle.wast_grammar.proofs.Looks
-pub use Rattle.wast_grammar.proofs.NestedLaws
 pub use Rattle.wast_grammar.proofs.RecursionLaws
 pub use Rattle.wast_grammar.proofs.TokenLaws
 pub use Rattle.wast_grammar.proofs.Repeats

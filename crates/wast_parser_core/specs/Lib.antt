@@ -16,7 +16,6 @@ pub use Rattle.wast_grammar.specs.Behind
 pub use Rattle.wast_grammar.specs.Grammar
 pub use Rattle.wast_grammar.specs.Lawful
 pub use Rattle.wast_grammar.specs.Look
-pub use Rattle.wast_grammar.specs.Nested
 pub use Rattle.wast_grammar.specs.Recursion
 pub use Rattle.wast_grammar.specs.Significant
 pub use Rattle.wast_grammar.specs.Spelling

@@ -11,6 +11,7 @@ ghost use Rattle.wast_parser_core.specs.Identifiers.{Named, Reference, identifie
 use crate::cursor::Cursor;
 use crate::keyword::{Keyword, KeywordName};
 use crate::meaning::{Item, Meaning, Parse, Peek};
+use crate::option::required;
 use crate::parser::Parser;
 use wast_lexer::Span;
 use wast_parser_base::{Error, Id, Index, ItemRef};
@@ -76,7 +77,7 @@ impl<'a> Parse<'a> for Index<'a> {
             let (number, span) = <(u32, Span)>::parse(parser)?;
             Ok(Index::Num(number, span))
         } else {
-            Ok(Index::Id(Id::parse(parser)?))
+            Ok(Index::Id(required(parser, "expected an index")?))
         }
     }
 }

@@ -68,6 +68,7 @@ pub use list::list_of;
 pub use literal::magnitude;
 pub use lookahead::Lookahead1;
 pub use meaning::{Item, Meaning, Parse, Peek};
+pub use option::required;
 pub use paren::{LParen, RParen};
 pub use parser::{Parser, parse};
 pub use wast_lexer::{

@@ -1,6 +1,8 @@
-//! One or none, and one in a box.
+//! One or none, one that has to be there, and one in a box.
 ghost use Rattle.std.specs.Prelude.{Option, option_map};
 ghost use Rattle.wast_grammar.specs.Grammar.{maybe};
+ghost use Rattle.wast_parser_core.specs.State.{ahead, Keeps};
+ghost use Rattle.wast_parser_core.specs.Reading.{Gives};
 
 use crate::meaning::{Item, Meaning, Parse};
 use crate::parser::Parser;
@@ -25,6 +27,20 @@ impl<'a, T: Parse<'a> + Item> Parse<'a> for Option<T> {
         } else {
             Ok(None)
         }
+    }
+}
+
+/// Reads one where one begins, and takes its tokens; refused elsewhere with this message, and where one that begins isn't read,
+/// where no token can be read, or for want of memory.
+pub fn required<'a, T: Parse<'a> + Item>(parser: &mut Parser<'a>, message: &str) -> Result<T, Error>
+    ensures read { Gives T.tree result parser.new (T.syntax.reads (ahead parser.old)) }
+    ensures keeps { Keeps parser.old parser.new }
+{
+    T::lawful();
+    match parser.peek::<T>() {
+        Ok(true) => T::parse(parser),
+        Ok(false) => Err(parser.error(message)),
+        Err(e) => Err(e),
     }
 }
 

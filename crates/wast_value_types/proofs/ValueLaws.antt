@@ -1,13 +1,14 @@
 -- The laws of the syntax of types: each mirrors its production.
-use Rattle.std.proofs.Common.{false, List, [], ◌∷◌, Some, None, refl, ℕ, inl, inr}
+use Rattle.std.proofs.Common.{◌≡◌, false, List, [], ◌∷◌, Some, None, refl, ℕ, inl, inr}
 use Rattle.std.specs.Prelude.{◌-◌, ◌^◌, codes}
 use Rattle.wasm_encoder_base.specs.Types.{FuncHeap}
 use Rattle.wast_words.specs.Tokens.{SignificantToken, Id, Word}
-use Rattle.wast_words.specs.Look.{this_word, this_group, join}
-use Rattle.wast_words.specs.Grammar.{word}
+use Rattle.wast_words.specs.Look.{this_word, this_group, join, ask}
+use Rattle.wast_words.specs.Grammar.{word, group}
 use Rattle.wast_words.specs.Integers.{unsigned}
 use Rattle.wast_words.specs.Identifiers.{Reference, ByName, index}
 use Rattle.wast_words.proofs.GrammarLaws.{Lawful, Leads, word_laws, among_laws, seen_laws, only_laws, seq_laws, maybe_laws, either_laws, paren_laws, group_laws}
+use Rattle.wast_words.proofs.Unread.{unread_else, unread_fault}
 use Rattle.wast_words.proofs.LeadLaws.{word_leads, paren_leads, seen_leads, among_leads, either_leads, group_leads}
 use Rattle.wast_words.proofs.IdentifierLaws.{index_laws, index_leads}
 use Rattle.wast_words.proofs.IntegerLaws.{number_laws}
@@ -29,6 +30,12 @@ module _ {N P : Type 0} where
       either_laws index_starts _ _ (seen_laws _ _ index_laws)
       (either_laws (keywords heap_words) _ _ (seen_laws _ _ (keyword_laws heap_words))
       (either_laws (this_group (codes "exact") ∷ []) _ _ (seen_laws _ _ (group_laws (codes "exact") _ index_laws refl)) (seen_laws _ _ (group_laws (codes "shared") _ (keyword_laws heap_words) refl)) refl refl refl refl) refl refl refl refl) refl refl refl refl
+
+  pub no_shared : (ts : List (SignificantToken N P)) → ask (this_group (codes "shared") ∷ []) ts ≡ Some false → (group (codes "shared") (keyword heap_words)).reads ts ≡ None
+  no_shared ts n = unread_else (group (codes "shared") (keyword heap_words)) (group_laws (codes "shared") _ (keyword_laws heap_words) refl) refl refl ts n
+
+  pub faulty_shared : (ts : List (SignificantToken N P)) → ask (this_group (codes "shared") ∷ []) ts ≡ None → (group (codes "shared") (keyword heap_words)).reads ts ≡ None
+  faulty_shared ts n = unread_fault (group (codes "shared") (keyword heap_words)) (group_laws (codes "shared") _ (keyword_laws heap_words) refl) refl refl ts n
 
   pub ref_body_laws : Lawful (ref_body {N = N} {P = P})
   ref_body_laws = seen_laws _ _ (seq_laws _ _ (optional_laws (codes "null")) heap_type_laws refl)

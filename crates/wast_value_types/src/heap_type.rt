@@ -119,6 +119,7 @@ impl<'a> Meaning for HeapType<'a> {
 }
 
 impl<'a> Parse<'a> for HeapType<'a> {
+    #[tactic(auto, using(crate::proofs::ValueLaws::no_shared, crate::proofs::ValueLaws::faulty_shared))]
     fn parse(parser: &mut Parser<'a>) -> Result<Self, Error> {
         if parser.peek::<Index>()? {
             Ok(HeapType::Concrete(Index::parse(parser)?))
@@ -127,9 +128,11 @@ impl<'a> Parse<'a> for HeapType<'a> {
             Ok(HeapType::Abstract { shared: false, ty })
         } else if parser.peek::<Group<Exact>>()? {
             Ok(HeapType::Exact(group_of(parser, "exact")?))
-        } else {
+        } else if parser.peek::<Group<Shared>>()? {
             let ty = group_of(parser, "shared")?;
             Ok(HeapType::Abstract { shared: true, ty })
+        } else {
+            Err(parser.error("expected a heap type"))
         }
     }
 }

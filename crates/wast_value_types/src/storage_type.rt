@@ -16,7 +16,7 @@ use crate::val_type::ValType;
 use std::alloc::{AllocError, Global};
 use wast_words::{
     Cursor, Error, Group, Item, Meaning, Parse, Parser, Peek, Word, Words, Written, find, group_of,
-    or_peek,
+    or_peek, required,
 };
 
 /// A storage type (6.4.6): what a field holds.
@@ -59,7 +59,7 @@ impl<'a> Parse<'a> for StorageType<'a> {
             let packed: Word<PackedType> = parser.parse()?;
             Ok(packed.value.storage_type())
         } else {
-            Ok(StorageType::Val(ValType::parse(parser)?))
+            Ok(StorageType::Val(required(parser, "expected a storage type")?))
         }
     }
 }

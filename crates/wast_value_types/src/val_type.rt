@@ -15,6 +15,7 @@ use crate::ref_type::RefType;
 use std::alloc::{AllocError, Global};
 use wast_words::{
     Cursor, Error, Item, Meaning, Parse, Parser, Peek, Word, Words, Written, find, or_peek,
+    required,
 };
 
 /// A value type (6.4.4). Indices are the same wherever they stand; equal value types hash alike.
@@ -63,7 +64,7 @@ impl<'a> Parse<'a> for ValType<'a> {
             let number: Word<NumberType> = parser.parse()?;
             Ok(number.value.val_type())
         } else {
-            Ok(ValType::Ref(RefType::parse(parser)?))
+            Ok(ValType::Ref(required(parser, "expected a value type")?))
         }
     }
 }

@@ -5,4 +5,5 @@ pub use Rattle.wast_parser.proofs.IdentifierLaws
 pub use Rattle.wast_parser.proofs.IntegerLaws
 pub use Rattle.wast_parser.proofs.LeadLaws
 pub use Rattle.wast_parser.proofs.Looks
+pub use Rattle.wast_parser.proofs.Unread
 pub use Rattle.wast_parser.proofs.States
