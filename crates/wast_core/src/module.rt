@@ -11,6 +11,7 @@ ghost use Rattle.wast_module_fields.specs.ModuleFieldViews.{field_tree};
 ghost use Rattle.wast_core.specs.ModuleViews.{content_tree, module_tree};
 
 use crate::keyword;
+use std::mem;
 use wasm_encoder_base::Bytes;
 use wast_imports::Head;
 use wast_lexer::Span;
@@ -41,15 +42,12 @@ impl Drop for Module<'_> {
             kind,
             refusal,
         } = self;
-        let_go(id);
-        let_go(name);
-        let_go(kind);
-        let_go(refusal);
+        mem::drop(id);
+        mem::drop(name);
+        mem::drop(kind);
+        mem::drop(refusal);
     }
 }
-
-/// Lets a value go.
-fn let_go<T: Drop>(_value: T) {}
 
 /// What a module holds.
 #[derive(Drop)]

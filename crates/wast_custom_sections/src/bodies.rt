@@ -1,7 +1,6 @@
 //! Where the instructions of a function's body begin, and the branch hints there (branch hinting).
 ghost use Rattle.std.specs.Prelude.{◌≡◌, ◌+◌, ◌<◌, ◌^◌, ◌++◌, [], ◌∷◌, length, map, take, All, IfOk, OnOk, IsErrOf};
 ghost use Rattle.std.specs.List.{flat_map, range_with_len};
-ghost use Rattle.wasm_encoder_base.specs.Views.{val_view};
 ghost use Rattle.wasm_encoder_code.specs.Body.{locals_bytes};
 ghost use Rattle.wasm_encoder_code.specs.Locals.{LocalsFit};
 ghost use Rattle.wasm_encoder_code.specs.Sink.{IsMade};
@@ -19,12 +18,13 @@ ghost use Rattle.wast_custom_sections.specs.Hinted.{places_of, placed_at, among,
 
 use crate::number::as_u32;
 use std::alloc::{AllocError, Global};
-use wasm_encoder_base::{EncodeError, ValType};
+use wasm_encoder_base::EncodeError;
 use wasm_encoder_code::Function;
 use wasm_encoder_custom::BranchHint;
-use wast_conversions::{push_instruction, val_type};
+use wast_conversions::push_instruction;
 use wast_core_instr::{Expression, Instruction};
 use wast_module_fields::Local;
+use wast_section_items::local_types;
 
 /// The hints of a body, at the places of their instructions. A hint of no instruction is at the end.
 pub(crate) fn placed_hints(
@@ -68,19 +68,6 @@ fn with_locals(alloc: Global, locals: &[Local<'_>]) -> Result<Function, EncodeEr
 {
     let types = local_types(alloc, locals)?;
     Function::new_with_locals_types(alloc, &types)
-}
-
-/// The types of locals, one by one. Fails only for want of memory.
-fn local_types(alloc: Global, locals: &[Local<'_>]) -> Result<Vec<ValType>, AllocError>
-    requires resolved { All (λ l. ValResolved l.val_type) (map local_tree locals.now) }
-    requires covered { flat_map (λ l. val_forms l.val_type) (map local_tree locals.now) ≡ [] }
-    ensures { IfOk result (λ v. map val_view v.items ≡ map (λ l. val_meant l.val_type) (map local_tree locals.now)) }
-{
-    let mut types = Vec::with_capacity(alloc, locals.len())?;
-    for local in locals {
-        types.push(val_type(&local.ty))?;
-    }
-    Ok(types)
 }
 
 /// Appends the instructions of an expression to a body, and to places where each of them ends.

@@ -49,7 +49,7 @@ fn put_raw(
 }
 
 /// Strings of bytes, one after the other. Fails only for want of memory.
-fn joined(alloc: Global, strings: &[Bytes<'_>]) -> Result<Vec<u8>, AllocError>
+pub fn joined(alloc: Global, strings: &[Bytes<'_>]) -> Result<Vec<u8>, AllocError>
     ensures { IfOk result (λ v. v.items ≡ flat_map (λ bytes. bytes) strings.now) }
 {
     let mut bytes = Vec::new(alloc);

@@ -40,5 +40,6 @@ mod place;
 mod producers;
 mod section;
 
+pub use custom::joined;
 pub use customs::put_customs;
 pub use hints::put_hints;

@@ -43,12 +43,6 @@ place_starts = On true AWord (OneOf (map side_word sides) []) ∷ []
 abbrev pub section_starts : List Test
 section_starts = On false AWord (OneOf (map anchor_word anchors) []) ∷ []
 
-abbrev pub first_starts : List Test
-first_starts = this_word (codes "first") ∷ section_starts
-
-abbrev pub last_starts : List Test
-last_starts = this_word (codes "last") ∷ section_starts
-
 abbrev pub end_starts : List Test
 end_starts = this_word (codes "first") ∷ this_word (codes "last") ∷ section_starts
 

@@ -13,6 +13,7 @@ ghost use Rattle.wast_deinline.specs.Definitions.{defined_view, definition_view,
 use crate::definition::Definition;
 use crate::split::{Split, set_apart};
 use std::alloc::{AllocError, Global};
+use std::mem;
 use wast_exports::ExportName;
 use wast_imports::Head;
 use wast_module_fields::{
@@ -240,7 +241,7 @@ fn push_split<'a>(
     match push(out, alone.into_field(alloc, span, head)) {
         Ok(()) => push_behind(alloc, span, exported, id, segment, out),
         Err(e) => {
-            let_go(segment);
+            mem::drop(segment);
             Err(e)
         }
     }
@@ -261,14 +262,11 @@ fn push_behind<'a>(
     match push_exports(alloc, span, kind, id, exports, out) {
         Ok(()) => push_some(out, segment),
         Err(e) => {
-            let_go(segment);
+            mem::drop(segment);
             Err(e)
         }
     }
 }
-
-/// Lets a value go, whatever its type, so that a caller owes nothing for how a tree is dropped.
-fn let_go<T: Drop>(_value: T) {}
 
 /// Appends the exports of a field that has this name.
 fn push_exports<'a>(

@@ -31,7 +31,6 @@
 
 mod fault;
 mod options;
-mod pieces;
 
 pub use fault::EncodeFault;
 pub use options::EncodeOptions;

@@ -19,11 +19,11 @@ ghost use Rattle.wast_binary.specs.Parts.{module_of};
 ghost use Rattle.wast_encode.specs.Resolved.{ContentReady, IsEncoded, IsToldBy, IsUnlaid, IsUnresolved, IsUnencoded};
 
 use crate::fault::{EncodeFault, fault_of};
-use crate::pieces::joined;
 use std::alloc::Global;
 use wasm_encoder_base::Bytes;
 use wast_binary::encode_fields;
 use wast_core::{Module, ModuleField, ModuleKind};
+use wast_custom_sections::joined;
 use wast_parser::{Error, Gensym, Id, NameAnnotation};
 use wast_resolve::ResolveModule;
 use wast_uncovered::uncovered;

@@ -6,7 +6,6 @@ pub mod Free
 pub mod GrammarLaws
 pub mod LeadLaws
 pub mod Looks
-pub mod NestedLaws
 pub mod Productions
 pub mod Readings
 pub mod RecursionLaws

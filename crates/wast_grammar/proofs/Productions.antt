@@ -9,14 +9,12 @@ use Rattle.wast_grammar.specs.Look.{AnInteger, AnId, AWord, OneOf, Any, Test, On
 use Rattle.wast_grammar.specs.Grammar.{Syntax, word, among, begun, mark, id, integer, float, string, nothing, next, seq, wide, seen, only, maybe, many, times, either, fenced, led, group, annotation, part}
 use Rattle.wast_grammar.specs.Recursion.{fix}
 use Rattle.wast_grammar.specs.Behind.{next_but, row}
-use Rattle.wast_grammar.specs.Nested.{nested_but, Items, Done, Plain, Folded, unfolded, tokens_of}
 use Rattle.wast_grammar.proofs.Examples.{named, word_at, id_at, mark_at, nameless_at, open_at, close_at, broken, seven, seven_at, text_at, heaps, mnemonics, indices}
 use Rattle.wast_grammar.proofs.GrammarLaws.{Lawful, word_laws, among_laws, id_laws, integer_laws, string_laws, nothing_laws, seen_laws, only_laws, seq_laws, next_laws, maybe_laws, many_laws, times_laws, either_laws, fenced_laws, group_laws, annotation_laws, bound_laws, wide_laws, one_value, all_spelled}
 use Rattle.wast_grammar.proofs.Looks.{within_self}
 use Rattle.wast_grammar.proofs.Twins.{Paired, group_twins, part_twins, part_laws, twins_read}
 use Rattle.wast_grammar.proofs.RecursionLaws.{Steps, fix_laws, under_self, under_seen, under_group, under_either}
 use Rattle.wast_grammar.proofs.BehindLaws.{but_of, row_laws, next_but_laws}
-use Rattle.wast_grammar.proofs.NestedLaws.{nested_but_laws}
 use Rattle.wast_grammar.proofs.Decide.{names_decide, tokens_decide, renaming, carried_over}
 use Rattle.wast_grammar.specs.Alike.{Alike, Same, Matched, Rising, Carries, names as paired, places}
 
@@ -255,34 +253,12 @@ module _ {N P : Type 0} where
   labelled_sum_laws : Lawful labelled_sum
   labelled_sum_laws = next_but_laws id (λ _. []) (λ _. flat_sum) sum_tests (but_of _ id_laws) (λ _. record { laws = flat_sum_laws; open_ended = refl; begins = within_self sum_tests }) refl refl (λ _. refl) refl refl
 
-  abbrev folded_sum : Syntax N P (List (List ℕ))
-  folded_sum = nested_but sum_word (λ _. [])
-
-  folded_sum_laws : Lawful folded_sum
-  folded_sum_laws = nested_but_laws sum_word (λ _. []) (but_of _ sum_word_laws) refl refl (λ _. refl) refl refl refl
-
 reads_flat : labelled_sum.reads (id_at "x" 0 ∷ word_at "one" 3 ∷ word_at "two" 7 ∷ word_at "add" 11 ∷ close_at 14 ∷ []) ≡ Some (((named "x", 0), codes "one" ∷ codes "two" ∷ codes "add" ∷ []), close_at 14 ∷ [])
 reads_flat = refl
 
 -- not up to an end
 reads_no_flat : flat_sum.reads (word_at "one" 0 ∷ seven_at 4 ∷ []) ≡ None
 reads_no_flat = refl
-
--- (add (one) two)
-abbrev folded_items : Items tokens.Name ℕ (List ℕ)
-folded_items = Folded 0 14 (codes "add") (word_at "add" 1 ∷ []) (Folded 5 9 (codes "one") (word_at "one" 6 ∷ []) Done (Plain (codes "two") (word_at "two" 11 ∷ []) Done)) Done
-
-abbrev folded_tokens : List TextToken
-folded_tokens = open_at 0 ∷ word_at "add" 1 ∷ open_at 5 ∷ word_at "one" 6 ∷ close_at 9 ∷ word_at "two" 11 ∷ close_at 14 ∷ []
-
-folded_are : tokens_of folded_items ≡ folded_tokens
-folded_are = refl
-
-folded_mean : unfolded folded_items ≡ codes "one" ∷ codes "two" ∷ codes "add" ∷ []
-folded_mean = refl
-
-reads_folded : folded_sum.reads folded_tokens ≡ Some (codes "one" ∷ codes "two" ∷ codes "add" ∷ [], [])
-reads_folded = refl
 
 -- TOKENS DECIDE: whether (elem id id) has one name twice, for any names and places
 abbrev one_twice : (N P : Type 0) → (N → N → Bool) → List (SignificantToken N P) → Option Bool

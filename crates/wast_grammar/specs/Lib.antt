@@ -4,7 +4,6 @@ pub mod Grammar
 pub mod Lawful
 pub mod Laws
 pub mod Look
-pub mod Nested
 pub mod Recursion
 pub mod Significant
 pub mod Spelling

@@ -12,7 +12,7 @@
 //! | `Significant` | which tokens of a text are significant, where some annotations are registered by name |
 //! | `Spelling` | which tokens spell a value, a relation for each way to make a production, without any look ahead |
 //! | `Recursion` | the same where items stand in themselves |
-//! | `Behind`, `Nested` | the same where items go up to an end, or fold; these ask by `at` of `Look` how what stands behind begins |
+//! | `Behind` | the same where items go up to an end; it asks by `at` of `Look` how what stands behind begins |
 //!
 //! # How a reader decides
 //!
@@ -26,7 +26,7 @@
 //! | `Laws` | the statements of the crate's law functions |
 //!
 //! The laws of productions range over types, so they are lemmas of `proofs/` and no law functions: `GrammarLaws`,
-//! `TokenLaws`, `RecursionLaws`, `BehindLaws` and `NestedLaws` have one for each combinator, `LeadLaws` says that a look
+//! `TokenLaws`, `RecursionLaws` and `BehindLaws` have one for each combinator, `LeadLaws` says that a look
 //! tells where a production begins, `Readings` that what is read of a text is what it spells, `Twins` that marked parts
 //! may be put for one another, `Repeats` what a loop keeps, and `Decide` that tokens that are alike have one answer.
 //! `Examples` and `Productions` compute worked examples of all.
@@ -44,7 +44,6 @@
 //! | a part that may be written another way | `part` |
 //! | in itself, at any depth | `fix` |
 //! | up to an end, where what goes on with one may not begin the next | `row`, `next_but` |
-//! | folded | `nested_but` |
 //!
 //! The law of a production is one term that mirrors it: `group_laws (codes "export") _ name_laws refl`. Each side condition
 //! is computed, so an ambiguous production is refused at a `refl`, where `false` stands for `true`. Where the prover has

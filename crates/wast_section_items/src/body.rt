@@ -131,7 +131,7 @@ fn body_of(
 }
 
 /// The types of locals, one by one. Fails only for want of memory.
-fn local_types(alloc: Global, locals: &[Local<'_>]) -> Result<Vec<ValType>, AllocError>
+pub fn local_types(alloc: Global, locals: &[Local<'_>]) -> Result<Vec<ValType>, AllocError>
     requires resolved { All (λ l. ValResolved l.val_type) (map local_tree locals.now) }
     requires covered { flat_map (λ l. val_forms l.val_type) (map local_tree locals.now) ≡ [] }
     ensures same { IfOk result (λ v. map val_view v.items ≡ map (λ l. val_meant l.val_type) (map local_tree locals.now)) }

@@ -36,5 +36,5 @@ mod tag;
 mod type_item;
 mod uses;
 
-pub use body::FuncBody;
+pub use body::{FuncBody, local_types};
 pub use item::SectionItem;

@@ -9,6 +9,6 @@ use Rattle.wast_custom_sections.proofs.bodies.with_locals.Goals as goal
 
 pub returns : goal.returns
 returns c =
-    let same : map val_view c.deref.result.now ≡ map (λ l. val_meant l.val_type) (map local_tree c.args.locals.now) = ap (map val_view) c.deref.ensures.value ∙ c.in_ok-types.ensures in
+    let same : map val_view c.deref.result.now ≡ map (λ l. val_meant l.val_type) (map local_tree c.args.locals.now) = ap (map val_view) c.deref.ensures.value ∙ c.in_ok-types.ensures.same in
     let made = c.new_with_locals_types.ensures in
     subst (λ ts. IsMade (locals_bytes ts) (LocalsFit ts) c.new_with_locals_types.result) same (record { ok = made.ok; fit = made.fits; too_large = made.too_large })
