@@ -227,7 +227,7 @@ module _ {N P : Type 0} where
 reads_comp : comp.reads (open_at 0 ∷ word_at "shared" 1 ∷ open_at 8 ∷ word_at "shared" 9 ∷ open_at 16 ∷ word_at "func" 17 ∷ close_at 21 ∷ close_at 22 ∷ close_at 23 ∷ []) ≡ Some (2, [])
 reads_comp = refl
 
--- UP TO AN END: instructions in a row, and folded (6.5.10)
+-- UP TO AN END: instructions in a row
 abbrev sums : List (List ℕ)
 sums = codes "one" ∷ codes "two" ∷ codes "add" ∷ []
 

@@ -11,18 +11,10 @@ module _ {N P A : Type 0} (g : Syntax N P A) (lg : Lawful g) (full : g.empty ≡
       let s = lg.sound ts x e in
       rw s.parts (ask_begun g.starts g lg refl full sure x.0 s.taken x.1 s.spelled)
 
-  pub unread_else : (ts : List (SignificantToken N P)) → ask g.starts ts ≡ Some false → g.reads ts ≡ None
-  unread_else ts n =
+  pub unread : (ts : List (SignificantToken N P)) → (ask g.starts ts ≡ Some true → ⊥) → g.reads ts ≡ None
+  unread ts n =
       let none : (o : Option (A × List (SignificantToken N P))) → g.reads ts ≡ o → o ≡ None = elim [
         | None ↦ λ e. refl
-        | Some x ↦ λ e. (let b = begins ts x e in cc)
-      ] in
-      none (g.reads ts) refl
-
-  pub unread_fault : (ts : List (SignificantToken N P)) → ask g.starts ts ≡ None → g.reads ts ≡ None
-  unread_fault ts n =
-      let none : (o : Option (A × List (SignificantToken N P))) → g.reads ts ≡ o → o ≡ None = elim [
-        | None ↦ λ e. refl
-        | Some x ↦ λ e. (let b = begins ts x e in cc)
+        | Some x ↦ λ e. absurd (n (begins ts x e))
       ] in
       none (g.reads ts) refl

@@ -1,8 +1,9 @@
 //! One or none, one that has to be there, and one in a box.
-ghost use Rattle.std.specs.Prelude.{Option, option_map};
+ghost use Rattle.std.specs.Prelude.{◌≡◌, Option, option_map, Some, false, IfOk, IfErr};
+ghost use Rattle.wast_grammar.specs.Look.{ask};
 ghost use Rattle.wast_grammar.specs.Grammar.{maybe};
-ghost use Rattle.wast_parser_core.specs.State.{ahead, Keeps};
-ghost use Rattle.wast_parser_core.specs.Reading.{Gives};
+ghost use Rattle.wast_parser_core.specs.State.{ahead, Keeps, place_ahead};
+ghost use Rattle.wast_parser_core.specs.Reading.{Gives, SaysAt};
 
 use crate::meaning::{Item, Meaning, Parse};
 use crate::parser::Parser;
@@ -35,6 +36,8 @@ impl<'a, T: Parse<'a> + Item> Parse<'a> for Option<T> {
 pub fn required<'a, T: Parse<'a> + Item>(parser: &mut Parser<'a>, message: &str) -> Result<T, Error>
     ensures read { Gives T.tree result parser.new (T.syntax.reads (ahead parser.old)) }
     ensures keeps { Keeps parser.old parser.new }
+    ensures told { ask T.syntax.starts (ahead parser.old) ≡ Some false → IfErr result (SaysAt message.now (place_ahead parser.old)) }
+    ensures missing { ask T.syntax.starts (ahead parser.old) ≡ Some false → IfOk result (λ _. ⊥) }
 {
     T::lawful();
     match parser.peek::<T>() {

@@ -8,7 +8,7 @@ use Rattle.wast_words.specs.Grammar.{word, group}
 use Rattle.wast_words.specs.Integers.{unsigned}
 use Rattle.wast_words.specs.Identifiers.{Reference, ByName, index}
 use Rattle.wast_words.proofs.GrammarLaws.{Lawful, Leads, word_laws, among_laws, seen_laws, only_laws, seq_laws, maybe_laws, either_laws, paren_laws, group_laws}
-use Rattle.wast_words.proofs.Unread.{unread_else, unread_fault}
+use Rattle.wast_words.proofs.Unread.{unread}
 use Rattle.wast_words.proofs.LeadLaws.{word_leads, paren_leads, seen_leads, among_leads, either_leads, group_leads}
 use Rattle.wast_words.proofs.IdentifierLaws.{index_laws, index_leads}
 use Rattle.wast_words.proofs.IntegerLaws.{number_laws}
@@ -32,10 +32,10 @@ module _ {N P : Type 0} where
       (either_laws (this_group (codes "exact") ∷ []) _ _ (seen_laws _ _ (group_laws (codes "exact") _ index_laws refl)) (seen_laws _ _ (group_laws (codes "shared") _ (keyword_laws heap_words) refl)) refl refl refl refl) refl refl refl refl) refl refl refl refl
 
   pub no_shared : (ts : List (SignificantToken N P)) → ask (this_group (codes "shared") ∷ []) ts ≡ Some false → (group (codes "shared") (keyword heap_words)).reads ts ≡ None
-  no_shared ts n = unread_else (group (codes "shared") (keyword heap_words)) (group_laws (codes "shared") _ (keyword_laws heap_words) refl) refl refl ts n
+  no_shared ts n = unread (group (codes "shared") (keyword heap_words)) (group_laws (codes "shared") _ (keyword_laws heap_words) refl) refl refl ts (λ e. cc)
 
   pub faulty_shared : (ts : List (SignificantToken N P)) → ask (this_group (codes "shared") ∷ []) ts ≡ None → (group (codes "shared") (keyword heap_words)).reads ts ≡ None
-  faulty_shared ts n = unread_fault (group (codes "shared") (keyword heap_words)) (group_laws (codes "shared") _ (keyword_laws heap_words) refl) refl refl ts n
+  faulty_shared ts n = unread (group (codes "shared") (keyword heap_words)) (group_laws (codes "shared") _ (keyword_laws heap_words) refl) refl refl ts (λ e. cc)
 
   pub ref_body_laws : Lawful (ref_body {N = N} {P = P})
   ref_body_laws = seen_laws _ _ (seq_laws _ _ (optional_laws (codes "null")) heap_type_laws refl)
