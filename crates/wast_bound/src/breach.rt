@@ -16,8 +16,8 @@ use wast_core::{Module, ModuleField, ModuleKind};
 use wast_parser::Span;
 use wast_well_formed::field_formed;
 
-/// Where the keyword of the first field of a module stands that doesn't keep to what it must (3.4.13, 6.5.6, 6.6.1 and 6.6, modules), if there
-/// is one. The pieces of a binary breach nothing.
+/// Where the keyword of the first field of a module stands that doesn't keep to what it must (3.4.13, 6.5, 6.6.1 and 6.6, modules), if
+/// there is one. The pieces of a binary breach nothing.
 pub fn first_breach_of(module: &Module<'_>) -> Option<Span>
     ensures { result ≡ slice_get (module_breaches same_name is_made (module_tree «module».now)) 0 }
 {

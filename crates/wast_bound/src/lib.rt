@@ -1,4 +1,4 @@
-//! What trees of modules must keep to, those that are made by hand too (WebAssembly Core Specification 3.0, 3.4.13, 6.5.6, 6.6.1 and
+//! What trees of modules must keep to, those that are made by hand too (WebAssembly Core Specification 3.0, 3.4.13, 6.5, 6.6.1 and
 //! 6.6, modules, and the proposal on branch hints).
 //!
 //! Beside what `wast_well_formed` tests, a name that is made up means something wherever an index mentions it: an item of its index space bears

@@ -16,7 +16,7 @@ use wast_meaning::Space;
 use wast_operands::{MemoryInit, TableInit};
 use wast_parser::Index;
 
-/// A bulk instruction (6.5.5, 6.5.6).
+/// A bulk instruction (6.5, table and memory instructions).
 #[tactic(auto, using(crate::proofs::Rows::index_row, crate::proofs::Rows::optional_row, crate::proofs::Rows::copy_row, crate::proofs::Rows::init_row))]
 pub(crate) fn change_bulk<'a, C: Changing<'a>>(change: &C, op: &mut BulkOp<'a>)
     ensures word { bulk_word op.new ≡ bulk_word op.old }

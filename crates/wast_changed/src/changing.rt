@@ -20,7 +20,7 @@ pub trait Changing<'a> {
     fn index(&self, space: Space, index: &mut Index<'a>)
         ensures { index_tree index.new ≡ (change self.now).index (space_view space) (index_tree index.old) };
 
-    /// The index of a field, behind that of the struct type that has it (6.5.7).
+    /// The index of a field, behind that of the struct type that has it (6.5, aggregate instructions).
     fn member(&self, owner: &Index<'a>, field: &mut Index<'a>)
         ensures { index_tree field.new ≡ (change self.now).member (index_tree owner.now) (index_tree field.old) };
 
@@ -34,7 +34,7 @@ pub trait Changing<'a> {
         ensures changed { OnOk result (option_map index_tree index.new ≡ (change self.now).type_use (record { index = option_map index_tree index.old; inline = option_map (λ s. sig_tree s.now) inline.entry })) }
         ensures given { is_some index.old ≡ true → IsOk result };
 
-    /// The same in a block (6.5.2); nor is memory asked for where no signature is written.
+    /// The same in a block (6.5, control instructions); nor is memory asked for where no signature is written.
     fn block_use(
         &self,
         index: &mut Option<Index<'a>>,

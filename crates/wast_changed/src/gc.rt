@@ -12,7 +12,7 @@ use crate::value_types::{change_heap_type, change_ref_type};
 use wast_core_instr::GcOp;
 use wast_meaning::Space;
 
-/// An instruction on references, structures or arrays (6.5.3, 6.5.7).
+/// An instruction on references, structures or arrays (6.5, reference and aggregate instructions).
 #[tactic(auto, using(crate::proofs::Rows::index_row, crate::proofs::Rows::indices_row, crate::proofs::Rows::fixed_row))]
 pub(crate) fn change_gc<'a, C: Changing<'a>>(change: &C, op: &mut GcOp<'a>)
     ensures word { gc_word op.new ≡ gc_word op.old }

@@ -23,8 +23,8 @@ use wast_typed_operands::{
 };
 use wast_value_types::RefType;
 
-/// A block's label and type (6.5.2). Fails only for want of memory, of which none is asked for a block with an index or without a
-/// signature.
+/// A block's label and type (6.5, control instructions). Fails only for want of memory, of which none is asked for a block with an index or
+/// without a signature.
 pub fn change_block_type<'a, C: Changing<'a>>(
     change: &C,
     block: &mut BlockType<'a>,
@@ -35,7 +35,7 @@ pub fn change_block_type<'a, C: Changing<'a>>(
     change_block_use(change, &mut block.ty)
 }
 
-/// A type use in a block (6.5.2). Fails only for want of memory.
+/// A type use in a block (6.5, control instructions). Fails only for want of memory.
 fn change_block_use<'a, C: Changing<'a>>(
     change: &C,
     ty: &mut TypeUse<'a, FunctionType<'a>>,
@@ -48,7 +48,7 @@ fn change_block_use<'a, C: Changing<'a>>(
     Ok(())
 }
 
-/// A clause of `try_table` (6.5.2).
+/// A clause of `try_table` (6.5, control instructions).
 pub fn change_catch<'a, C: Changing<'a>>(change: &C, clause: &mut TryTableCatch<'a>)
     ensures { catch_tree clause.new ≡ catch_changed (C.change change.now) (catch_tree clause.old) }
 {
@@ -60,8 +60,8 @@ pub fn change_catch<'a, C: Changing<'a>>(change: &C, clause: &mut TryTableCatch<
     }
 }
 
-/// What stands behind `try_table` (6.5.2). Fails only for want of memory, of which none is asked for a block with an index or without a
-/// signature.
+/// What stands behind `try_table` (6.5, control instructions). Fails only for want of memory, of which none is asked for a block with an
+/// index or without a signature.
 pub fn change_try_table<'a, C: Changing<'a>>(
     change: &C,
     table: &mut TryTable<'a>,
@@ -74,8 +74,8 @@ pub fn change_try_table<'a, C: Changing<'a>>(
     Ok(())
 }
 
-/// What stands behind an indirect call (6.5.2). Fails only for want of memory, of which none is asked for where its type's index is
-/// written.
+/// What stands behind an indirect call (6.5, control instructions). Fails only for want of memory, of which none is asked for where its
+/// type's index is written.
 pub fn change_call_indirect<'a, C: Changing<'a>>(
     change: &C,
     call: &mut CallIndirect<'a>,
@@ -87,7 +87,7 @@ pub fn change_call_indirect<'a, C: Changing<'a>>(
     change_type_use(change, &mut call.ty)
 }
 
-/// A label and two reference types (6.5.2).
+/// A label and two reference types (6.5, control instructions).
 pub(crate) fn change_cast<'a, C: Changing<'a>>(
     change: &C,
     label: &mut Index<'a>,
@@ -103,7 +103,7 @@ pub(crate) fn change_cast<'a, C: Changing<'a>>(
     change_ref_type(change, to);
 }
 
-/// The types of `select` (6.5.2).
+/// The types of `select` (6.5, parametric instructions).
 pub fn change_select_types<'a, C: Changing<'a>>(change: &C, types: &mut SelectTypes<'a>)
     ensures { select_types_tree types.new ≡ option_map (map (val_changed (C.change change.now))) (select_types_tree types.old) }
 {

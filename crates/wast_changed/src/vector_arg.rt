@@ -11,7 +11,7 @@ use crate::operands::change_mem_arg;
 use wast_core_instr::VectorArgOp;
 use wast_operands::LoadOrStoreLane;
 
-/// A vector instruction with operands (6.5.6, 6.5.10).
+/// A vector instruction with operands (6.5, memory and vector instructions).
 pub(crate) fn change_vector_arg<'a, C: Changing<'a>>(change: &C, op: &mut VectorArgOp<'a>)
     ensures word { vector_arg_word op.new ≡ vector_arg_word op.old }
     ensures operands { vector_arg_operands op.new ≡ operands_changed (C.change change.now) (row_of (vector_arg_word op.old)) (vector_arg_operands op.old) }
@@ -58,7 +58,7 @@ pub(crate) fn change_vector_arg<'a, C: Changing<'a>>(change: &C, op: &mut Vector
     }
 }
 
-/// A memory argument and a lane (6.5.6).
+/// A memory argument and a lane (6.5, memory instructions).
 fn change_lane_access<'a, C: Changing<'a>>(change: &C, access: &mut LoadOrStoreLane<'a>)
     ensures memarg { mem_arg_tree access.new.memarg ≡ mem_arg_changed (C.change change.now) (mem_arg_tree access.old.memarg) }
     ensures lane { access.new.lane ≡ access.old.lane }

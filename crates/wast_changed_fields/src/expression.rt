@@ -11,7 +11,8 @@ use std::alloc::{AllocError, Global};
 use wast_changed::{ByChange, Changing, Rewriting, TryEach, try_turn_list};
 use wast_core_instr::{Expression, Instruction};
 
-/// An expression (6.5.11) whose instructions are rewritten alike wherever they stand; the hints stay. Fails only for want of memory.
+/// An expression (6.5, expressions) whose instructions are rewritten alike wherever they stand; the hints stay. Fails only for want of
+/// memory.
 pub fn change_expression<'a, C: Changing<'a>>(
     change: &C,
     expression: &mut Expression<'a>,

@@ -23,11 +23,11 @@ IsPower n = (k : ℕ) × (k < 16) × (n ≡ 2 ^ k)
 unfoldable pub logarithm : ℕ → ℕ
 logarithm n = trailing_zeros w64 n
 
--- the bits of a vector of integers: its lanes' bytes are its own, the low one first (6.5.10)
+-- the bits of a vector of integers: its lanes' bytes are its own, the low one first (6.5, vector instructions)
 abbrev pub vector_meant : Vector → ℕ
 vector_meant v = from_le_bytes w128 (unwrap_or (vector_bytes v) [])
 
--- the number of a literal, by the table (6.5.9)
+-- the number of a literal, by the table (6.5, numeric instructions)
 abbrev pub integer_meant : OperandSyntax → ℤ → binary.Operands
 integer_meant syntax.I64 z = binary.I64 z
 integer_meant _ z = binary.I32 z
@@ -42,7 +42,7 @@ module _ {N P : Type 0} where
   abbrev pub optional_meant : Option (Reference N P) → ℕ
   optional_meant i = unwrap_or (option_map number_of i) 0
 
-  -- the types of blocks (6.5.2): that of the type use's index; without one, that of no result or of one
+  -- the types of blocks (6.5, control instructions): that of the type use's index; without one, that of no result or of one
   abbrev pub results_meant : List (ValType N P) → binary.BlockType
   results_meant [] = binary.NoResult
   results_meant (t ∷ ts) = binary.Result (val_meant t)
@@ -54,14 +54,14 @@ module _ {N P : Type 0} where
   abbrev pub block_meant : TypeUse N P → binary.BlockType
   block_meant u = elim u.index [ Some i ↦ binary.FunctionType (number_of i) | None ↦ inline_meant u.inline ]
 
-  -- clauses (6.5.2)
+  -- clauses (6.5, control instructions)
   abbrev pub catch_meant : Catch N P → binary.Catch
   catch_meant (CatchTag t l) = binary.CatchTag (number_of t) (number_of l)
   catch_meant (CatchTagRef t l) = binary.CatchTagRef (number_of t) (number_of l)
   catch_meant (CatchAll l) = binary.CatchAll (number_of l)
   catch_meant (CatchAllRef l) = binary.CatchAllRef (number_of l)
 
-  -- memory arguments (6.5.6): memory 0 where none is written
+  -- memory arguments (6.5, memory instructions): memory 0 where none is written
   abbrev pub target_meant : MemArgTarget N P → ℕ
   target_meant (Memory i) = number_of i
   target_meant (Array i) = number_of i
@@ -74,7 +74,7 @@ module _ {N P : Type 0} where
   both_meant None = binary.Pair 0 0
   both_meant (Some p) = binary.Pair (number_of p.0) (number_of p.1)
 
-  -- the types of a select (6.5.2), where some are written
+  -- the types of a select (6.5, parametric instructions), where some are written
   abbrev pub select_meant : Option (List (ValType N P)) → binary.Operands
   select_meant None = binary.NoOperands
   select_meant (Some ts) = binary.ValTypes (map val_meant ts)
@@ -104,7 +104,7 @@ module _ {N P : Type 0} where
   operands_meant o (instr.Fence ordering) = binary.Fence
   operands_meant o _ = binary.NoOperands
 
-  -- where alignments are powers of two below 65536 (6.5.6)
+  -- where alignments are powers of two below 65536 (6.5, memory instructions)
   abbrev pub OperandsAligned : Operands N P → Type 0
   OperandsAligned (instr.Memory m) = IsPower m.align
   OperandsAligned (instr.MemoryLane m n) = IsPower m.align

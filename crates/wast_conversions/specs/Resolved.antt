@@ -61,7 +61,7 @@ module _ {N P : Type 0} where
   ExternResolved (OfGlobal t) = ValResolved t.val_type
   ExternResolved (OfTag u) = UseResolved u
 
-  -- the type of a block (6.5.2), which needs no index without parameters and with at most one result
+  -- the type of a block (6.5, control instructions), which needs no index without parameters and with at most one result
   abbrev pub ResultsResolved : List (ValType N P) → Type 0
   ResultsResolved [] = Unit {0}
   ResultsResolved (t ∷ ts) = ValResolved t × (ts ≡ [])

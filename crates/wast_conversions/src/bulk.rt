@@ -15,7 +15,7 @@ use crate::operands::{memory_arg, table_arg};
 use wast_core_instr::BulkOp;
 use wast_operands::{MemoryCopy, TableCopy};
 
-/// A bulk instruction (6.5.5, 6.5.6).
+/// A bulk instruction (6.5, table and memory instructions).
 pub(crate) fn bulk(op: &BulkOp<'_>) -> wasm_encoder_instr::BulkOp
     requires { OperandsResolved (bulk_operands op.now) }
     ensures mnemonic { bulk_mnemonic result ≡ word_mnemonic (bulk_word op.now) }

@@ -18,8 +18,8 @@ use wasm_encoder_base::{Encode, EncodeError};
 use wasm_encoder_code::ConstExpr;
 use wast_core_instr::{Expression, Instruction};
 
-/// The encoder's constant expression that an expression (6.5.11) stands for whose alignments, in bytes, are powers of two below 65536: its
-/// instructions. Refused for want of memory, and as too large where a count in them is past 4294967295.
+/// The encoder's constant expression that an expression (6.5, expressions) stands for whose alignments, in bytes, are powers of two below
+/// 65536: its instructions. Refused for want of memory, and as too large where a count in them is past 4294967295.
 pub fn const_expr(alloc: Global, expr: &Expression<'_>) -> Result<ConstExpr, EncodeError>
     requires resolved { InstrsResolved (expression_tree expr.now).instrs }
     requires covered { instrs_forms (expression_tree expr.now).instrs ≡ [] }

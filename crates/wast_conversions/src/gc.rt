@@ -26,7 +26,7 @@ use wast_operands::ArrayNewFixed;
 use wast_typed_operands::{BrOnCast, BrOnCastFail};
 use wast_value_types::RefType;
 
-/// An instruction on references, structures or arrays (6.5.3, 6.5.7).
+/// An instruction on references, structures or arrays (6.5, reference and aggregate instructions).
 pub(crate) fn gc(op: &GcOp<'_>) -> wasm_encoder_instr::GcOp
     requires resolved { OperandsResolved (gc_operands op.now) }
     requires covered { operand_forms (gc_operands op.now) ≡ [] }

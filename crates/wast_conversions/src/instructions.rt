@@ -165,7 +165,7 @@ fn with_operands(
     }
 }
 
-/// `br_table` (6.5.2). Fails only for want of memory.
+/// `br_table` (6.5, control instructions). Fails only for want of memory.
 fn br_table(
     alloc: Global,
     table: &BrTableIndices<'_>,
@@ -193,7 +193,7 @@ fn indices(alloc: Global, indices: &[Index<'_>]) -> Result<Vec<u32>, AllocError>
     Ok(numbers)
 }
 
-/// `try_table` (6.5.2). Fails only for want of memory.
+/// `try_table` (6.5, control instructions). Fails only for want of memory.
 fn try_table(
     alloc: Global,
     table: &TryTable<'_>,
@@ -225,7 +225,7 @@ fn catches(
     Ok(converted)
 }
 
-/// `select` (6.5.2), of which there are two. Fails only for want of memory.
+/// `select` (6.5, parametric instructions), of which there are two. Fails only for want of memory.
 fn select(
     alloc: Global,
     types: &SelectTypes<'_>,

@@ -31,7 +31,7 @@ use wast_signatures::FunctionType;
 use wast_typed_operands::{BlockType, TryTableCatch, TryTableCatchKind};
 use wast_value_types::ValType;
 
-/// The number of a table that may be left out, and is 0 then (6.5.5).
+/// The number of a table that may be left out, and is 0 then (6.5, table instructions).
 pub fn table_arg(arg: &TableArg<'_>) -> u32
     requires { IfThere IsNumber (table_arg_tree arg.now) }
     ensures same { result ≡ optional_meant (table_arg_tree arg.now) }
@@ -40,7 +40,7 @@ pub fn table_arg(arg: &TableArg<'_>) -> u32
     optional_index(&arg.dst)
 }
 
-/// The number of a memory that may be left out, and is 0 then (6.5.6).
+/// The number of a memory that may be left out, and is 0 then (6.5, memory instructions).
 pub fn memory_arg(arg: &MemoryArg<'_>) -> u32
     requires { IfThere IsNumber (memory_arg_tree arg.now) }
     ensures same { result ≡ optional_meant (memory_arg_tree arg.now) }
@@ -49,7 +49,7 @@ pub fn memory_arg(arg: &MemoryArg<'_>) -> u32
     optional_index(&arg.mem)
 }
 
-/// The number of the array type that is filled (6.5.7).
+/// The number of the array type that is filled (6.5, aggregate instructions).
 pub fn array_fill(fill: &ArrayFill<'_>) -> u32
     requires { IsNumber (index_tree fill.now.array) }
     ensures same { result ≡ number_of (index_tree fill.now.array) }
@@ -58,7 +58,7 @@ pub fn array_fill(fill: &ArrayFill<'_>) -> u32
     index(&fill.array)
 }
 
-/// The number of a lane (6.5.10).
+/// The number of a lane (6.5, vector instructions).
 pub fn lane_arg(arg: LaneArg) -> Lane
     ensures same { result ≡ arg.lane }
     ensures sound { in_range (binary.Lane arg.lane) }
@@ -66,7 +66,7 @@ pub fn lane_arg(arg: LaneArg) -> Lane
     arg.lane
 }
 
-/// The numbers of the lanes that a shuffle takes (6.5.10), in order.
+/// The numbers of the lanes that a shuffle takes (6.5, vector instructions), in order.
 pub fn shuffle(lanes: &I8x16Shuffle) -> [Lane; 16]
     ensures same { result ≡ lanes.now.lanes }
     ensures sound { in_range (binary.Shuffle lanes.now.lanes) }
@@ -80,7 +80,8 @@ fn lanes_in_range(lanes: &[Lane])
     ensures { AllByRecursion (λ n. n < 256) lanes.now }
 {}
 
-/// The number of 128 bits that a constant of them (6.5.10) is, whose lanes are integers: its lanes' bytes are its own, the low one first.
+/// The number of 128 bits that a constant of them (6.5, vector instructions) is, whose lanes are integers: its lanes' bytes are its own,
+/// the low one first.
 pub fn v128_const(value: &V128Const<'_>) -> i128
     requires { vector_forms (vector_tree value.now) ≡ [] }
     ensures same { cast_unsigned w128 result ≡ vector_meant (vector_tree value.now) }
@@ -102,8 +103,8 @@ pub fn ordering(ordering: Ordering) -> wasm_encoder_instr::Ordering
     }
 }
 
-/// The encoder's memory argument that a memory argument (6.5.6) stands for: the number of its memory, its offset in bytes, and the
-/// logarithm of its alignment. It can be encoded where the alignment, in bytes, is a power of two below 65536.
+/// The encoder's memory argument that a memory argument (6.5, memory instructions) stands for: the number of its memory, its offset in
+/// bytes, and the logarithm of its alignment. It can be encoded where the alignment, in bytes, is a power of two below 65536.
 #[tactic(auto, using(crate::proofs::Empty::front, crate::proofs::Logarithms::logarithm_below))]
 pub fn mem_arg(arg: &MemArg<'_>) -> wasm_encoder_instr::MemArg
     requires resolved { MemArgResolved (mem_arg_tree arg.now) }
@@ -151,8 +152,8 @@ fn mem_arg_target(target: &Option<Box<MemArgTarget<'_>>>) -> wasm_encoder_instr:
     }
 }
 
-/// The encoder's type of a block that a block's type (6.5.2) stands for: a type by its number, where the use has one; else no result, or
-/// the one that is written.
+/// The encoder's type of a block that a block's type (6.5, control instructions) stands for: a type by its number, where the use has one;
+/// else no result, or the one that is written.
 pub fn block_type(ty: &BlockType<'_>) -> wasm_encoder_instr::BlockType
     requires resolved { BlockResolved (block_tree ty.now).type_use }
     requires covered { use_forms (block_tree ty.now).type_use ≡ [] }
@@ -193,7 +194,8 @@ fn results_type(results: &[ValType<'_>]) -> wasm_encoder_instr::BlockType
     }
 }
 
-/// The encoder's clause that a clause of a `try_table` (6.5.2) stands for: the number of its label, and of its tag, where it has one.
+/// The encoder's clause that a clause of a `try_table` (6.5, control instructions) stands for: the number of its label, and of its tag,
+/// where it has one.
 pub fn catch(clause: &TryTableCatch<'_>) -> wasm_encoder_instr::Catch
     requires { CatchResolved (catch_tree clause.now) }
     ensures same { catch_view result ≡ catch_meant (catch_tree clause.now) }

@@ -13,7 +13,7 @@ ghost use Rattle.wast_conversions.specs.Rows.{row_of};
 use crate::operands::{lane_arg, mem_arg, shuffle, v128_const};
 use wast_core_instr::VectorArgOp;
 
-/// A vector instruction with operands (6.5.6, 6.5.10).
+/// A vector instruction with operands (6.5, memory and vector instructions).
 pub(crate) fn vector_arg(op: &VectorArgOp<'_>) -> wasm_encoder_instr::VectorArgOp
     requires resolved { OperandsResolved (vector_arg_operands op.now) }
     requires covered { operand_forms (vector_arg_operands op.now) ≡ [] }

@@ -1,5 +1,5 @@
 -- What expressions ask of instructions: their words, which groups they head, and which of them groups make (WebAssembly 3.0,
--- 6.5.10).
+-- 6.5, folded instructions).
 use Rattle.std.specs.Prelude.{ℕ, false, if◌then◌else◌, List, [], ◌∷◌, map, None, codes}
 use Rattle.wasm_encoder_base.specs.Table.{table, entries_of, same_text}
 use Rattle.wasm_encoder_base.specs.Distinct.{is_among}

@@ -2,7 +2,7 @@
 use wast_operands::{MemoryArg, MemoryCopy, MemoryInit, TableArg, TableCopy, TableInit};
 use wast_typed_operands::Index;
 
-/// Bulk instructions on memories and tables (6.5.5, 6.5.6).
+/// Bulk instructions on memories and tables (6.5, table and memory instructions).
 #[derive(Drop)]
 pub enum BulkOp<'a> {
     DataDrop(Index<'a>),

@@ -21,8 +21,8 @@ use std::sync::ledger::Ledger;
 use wast_expressions::{BranchHint, Instructions, Operation, Steps};
 use wast_typed_operands::{Error, Meaning, Parse, Parser, Span};
 
-/// Instructions in the order in which they are carried out, and hints, whose indices rise where they are read (6.5.10). Folded and
-/// flat forms of an expression are one value.
+/// Instructions in the order in which they are carried out, and hints, whose indices rise where they are read (6.5, expressions). Folded
+/// and flat forms of an expression are one value.
 ///
 /// It is taken apart by [`Expression::into_parts`] alone.
 pub struct Expression<'a> {

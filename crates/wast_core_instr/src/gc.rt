@@ -4,7 +4,7 @@ use wast_operands::{
 };
 use wast_typed_operands::{BrOnCast, BrOnCastFail, HeapType, Index, RefCast, RefTest};
 
-/// Instructions on references, structures and arrays (6.5.3, 6.5.7).
+/// Instructions on references, structures and arrays (6.5, reference and aggregate instructions).
 #[derive(Drop)]
 pub enum GcOp<'a> {
     RefIsNull,

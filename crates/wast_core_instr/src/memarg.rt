@@ -10,8 +10,8 @@ use crate::vector_arg::VectorArgOp;
 use wast_operands::{LoadOrStoreLane, MemArg};
 
 impl<'a> Instruction<'a> {
-    /// The memory argument of a load, a store or an atomic access (6.5.6), also where a lane stands behind it. Other instructions have
-    /// none.
+    /// The memory argument of a load, a store or an atomic access (6.5, memory instructions), also where a lane stands behind it. Other
+    /// instructions have none.
     pub fn memarg(&self) -> Option<&MemArg<'a>>
         ensures { option_map (λ m. mem_arg_tree m.now) result ≡ mem_arg_in (instruction_operands self.now) }
     {

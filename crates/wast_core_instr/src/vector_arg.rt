@@ -1,7 +1,7 @@
 //! Vector instructions with operands.
 use wast_operands::{I8x16Shuffle, LaneArg, LoadOrStoreLane, MemArg, V128Const};
 
-/// Vector instructions with operands (6.5.6, 6.5.10).
+/// Vector instructions with operands (6.5, memory and vector instructions).
 #[derive(Drop)]
 pub enum VectorArgOp<'a> {
     V128Const(Box<V128Const<'a>>),

@@ -1,4 +1,4 @@
-//! What the names of a module must keep to (WebAssembly Core Specification 3.0, 6.1.3, 6.5.2, and 6.6, type uses and modules).
+//! What the names of a module must keep to (WebAssembly Core Specification 3.0, 6.1.3, 6.5, and 6.6, type uses and modules).
 //!
 //! [`check_names`] refuses the first demand of the fields of a module that isn't met, in this order:
 //!

@@ -1,5 +1,5 @@
--- Fields that are well formed beside names (WebAssembly 3.0, 3.4.13 and 6.5.6, and the proposal on branch hints): alignments are powers of
--- two, hints stand on instructions, and constant expressions close the blocks that they open.
+-- Fields that are well formed beside names (WebAssembly 3.0, 3.4.13 and 6.5, memory instructions, and the proposal on branch hints):
+-- alignments are powers of two, hints stand on instructions, and constant expressions close the blocks that they open.
 use Rattle.std.specs.Prelude.{ℕ, ◌+◌, ◌<◌, ◌≤◌, List, [], ◌∷◌, length, All}
 use Rattle.wasm_encoder_base.specs.Balanced.{IsBalanced}
 use Rattle.wast_expressions.specs.Items.{Hint}

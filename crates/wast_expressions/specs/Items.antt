@@ -1,5 +1,5 @@
--- Expressions as they are written: items in a row, and the instructions that they unfold to (WebAssembly 3.0, 6.5.10). I are
--- the instructions with their operands, P the places.
+-- Expressions as they are written: items in a row, and the instructions that they unfold to (WebAssembly 3.0, 6.5, folded instructions). I
+-- are the instructions with their operands, P the places.
 use Rattle.std.specs.Prelude.{ℕ, suc, List, [], ◌∷◌, ◌++◌, map, Option, Some, None}
 
 -- Items: the first, with a hint where one stands before it, and those after it. A group has the place where it closes.

@@ -13,7 +13,7 @@ use crate::turn::turn;
 use std::sync::ledger::Ledger;
 use wast_parser::{Error, Parser};
 
-/// Reads items up to an end, unfolded (6.5.10): `(i32.add (local.get 0) (local.get 1))` as `local.get 0`, `local.get 1`,
+/// Reads items up to an end, unfolded (6.5, folded instructions): `(i32.add (local.get 0) (local.get 1))` as `local.get 0`, `local.get 1`,
 /// `i32.add`. Refused where the grammar reads none, and for want of memory. Depth and registered names are as they were on both
 /// outcomes, and the parser stands where it did or behind what it read.
 pub fn parse_items<'a, I: ParseOperation<'a>>(

@@ -14,7 +14,7 @@ ghost use Rattle.wast_expressions.specs.Views.{kind_of, made_as, obtained};
 
 use wast_parser::{Cursor, Error, Parser, Span};
 
-/// What a group is, by the instruction that heads it (6.5.10).
+/// What a group is, by the instruction that heads it (6.5, folded instructions).
 #[derive(Clone, Copy, PartialEq, Eq, Drop)]
 pub enum GroupKind {
     /// Its items are operands, which stand before it when they are unfolded.

@@ -12,7 +12,7 @@ use Rattle.wast_customs.specs.CustomTree as customs
 use Rattle.wast_imports.specs.ImportTree.{ExternType, Imports}
 use Rattle.wast_data.specs.DataTree.{DataVal}
 
--- expressions (6.5.11), with the hints that stand in them
+-- expressions (6.5, expressions), with the hints that stand in them
 abbrev pub Expr : Type 0 → Type 0 → Type 0
 Expr N P = Expression (Instruction N P)
 

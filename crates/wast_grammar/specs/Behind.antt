@@ -1,5 +1,5 @@
 -- Productions that would go on with what may stand behind them, as the clauses of try_table do before the instructions of
--- its block (WebAssembly 3.0, 6.5.1): own a is what would go on with a, beyond the stops of all. What stands behind a may
+-- its block (WebAssembly 3.0, 6.5, labels): own a is what would go on with a, beyond the stops of all. What stands behind a may
 -- not begin so: here alone a spelling speaks of how tokens begin.
 use Rattle.std.specs.Prelude.{◌≡◌, true, false, if◌then◌else◌, List, [], ◌∷◌, ◌++◌, length, Some, None}
 use Rattle.wast_grammar.specs.Tokens.{SignificantToken}

@@ -27,7 +27,7 @@ pub struct ImpliedType<'a> {
     pub signature: FunctionType<'a>,
 }
 
-/// The types that the uses in a module's fields imply, and the number that each use takes (6.5.2 and 6.6, type uses).
+/// The types that the uses in a module's fields imply, and the number that each use takes (6.5, control instructions, and 6.6, type uses).
 #[derive(Drop)]
 pub struct Implied<'a> {
     alloc: Global,

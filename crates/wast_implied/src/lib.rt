@@ -1,5 +1,5 @@
-//! The types of a module that no field writes and that uses imply (WebAssembly Core Specification 3.0, 6.5.2 and 6.6, type uses), and which type
-//! each use without an index takes.
+//! The types of a module that no field writes and that uses imply (WebAssembly Core Specification 3.0, 6.5, control instructions, and 6.6,
+//! type uses), and which type each use without an index takes.
 //!
 //! A use that has no index takes the first plain type with its signature: a final function type without a supertype and outside groups.
 //! Where there is none, one is added behind all written types. Names of parameters are no part of a signature, and its indices are the

@@ -1,5 +1,5 @@
 -- What names of a module must keep to, each demand at its place, in the order in which they are tested (WebAssembly 3.0, 6.1.3,
--- 6.5.2, and 6.6, type uses and modules). The first that is not met is the complaint.
+-- 6.5, and 6.6, type uses and modules). The first that is not met is the complaint.
 use Rattle.std.specs.Prelude.{ℕ, nat_eq, Bool, true, false, if◌then◌else◌, List, [], ◌∷◌, ◌++◌, map, Option, Some, None, option_and_then, option_map, option_to_list, codes}
 use Rattle.std.specs.List.{flat_map}
 use Rattle.wasm_encoder_base.specs.Table.{Space, Locals, Functions, Types, Fields}
@@ -81,7 +81,7 @@ module _ {N P : Type 0} where
   agreements s u = flat_map (λ i. map (agreement s i) (option_to_list u.inline)) (option_to_list u.index)
 
 module _ {N P : Type 0} (eq : N → N → Bool) where
-  -- a name that is repeated is that of the block that it stands in; outside all blocks it is ignored (6.5.2)
+  -- a name that is repeated is that of the block that it stands in; outside all blocks it is ignored (6.5, control instructions)
   abbrev pub is_own : N → List (Option (Named N P)) → Bool
   is_own n [] = true
   is_own n (block ∷ blocks) = bears eq n (name_in block)

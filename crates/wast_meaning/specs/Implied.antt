@@ -1,4 +1,5 @@
--- The types that uses without an index imply, and those that they take (WebAssembly 3.0, 6.5.2 and 6.6, type uses: abbreviations).
+-- The types that uses without an index imply, and those that they take (WebAssembly 3.0, 6.5, control instructions, and 6.6, type uses:
+-- abbreviations).
 use Rattle.std.specs.Prelude.{ℕ, ◌+◌, Bool, true, false, ◌&&◌, nat_eq, nat_le, not, is_some, if◌then◌else◌, List, [], ◌∷◌, ◌++◌, length, map, slice_get, Option, Some, None, unwrap_or, option_and_then, filter, filter_map}
 use Rattle.std.specs.List.{flat_map, list_any, position_from}
 use Rattle.std.specs.Cmp.Lexicographic.{pointwise}

@@ -23,7 +23,7 @@ pub data Mention (N P : Type 0) : Type 0 where
   Refers : Space → Reference N P → Mention N P
   -- a field of the struct type that the index before it names
   Member : (owner field : Reference N P) → Mention N P
-  -- a type use (6.6, type uses), and that of a block (6.5.2)
+  -- a type use (6.6, type uses), and that of a block (6.5, control instructions)
   Uses : TypeUse N P → Mention N P
   UsesInBlock : TypeUse N P → Mention N P
   -- the name of a block, repeated where it ends, or after `else`

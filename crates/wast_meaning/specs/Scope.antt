@@ -1,4 +1,4 @@
--- What is known at a place of a module (WebAssembly 3.0, 6.1.3: identifier contexts), and labels (6.5.1 and 6.5.2).
+-- What is known at a place of a module (WebAssembly 3.0, 6.1.3: identifier contexts), and labels (6.5).
 use Rattle.std.specs.Prelude.{ℕ, zero, suc, Bool, List, [], ◌∷◌, ◌++◌, drop, length, map, Option, Some, None, option_and_then, unwrap_or}
 use Rattle.wasm_encoder_base.specs.Table.{Space, Labels, Locals, Types}
 use Rattle.wasm_encoder_base.specs.Balanced.{Turn, Opens, Closes, Stays, turn_of}

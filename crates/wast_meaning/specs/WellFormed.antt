@@ -1,4 +1,4 @@
--- What trees must keep to beside names (WebAssembly 3.0, 3.4.13, 6.5.6 and 6.6, modules, and the proposal on branch hints): the places of
+-- What trees must keep to beside names (WebAssembly 3.0, 3.4.13, 6.5 and 6.6, modules, and the proposal on branch hints): the places of
 -- the fields that don't. Names that are made up must be bound, since no complaint can tell them.
 use Rattle.std.specs.Prelude.{ℕ, zero, suc, ◌+◌, ◌^◌, Bool, true, false, ◌&&◌, ◌||◌, not, nat_eq, nat_lt, if◌then◌else◌, unwrap_or, List, [], ◌∷◌, length, map, slice_get, Option}
 use Rattle.std.specs.List.{list_any, list_all}

@@ -1,4 +1,4 @@
-//! What the fields of a module mean before they are encoded (WebAssembly Core Specification 3.0, 6.1.3, 6.5.2 and 6.6): the
+//! What the fields of a module mean before they are encoded (WebAssembly Core Specification 3.0, 6.1.3, 6.5 and 6.6): the
 //! definitions that resolving names rests on. Of code there is [`Space`] alone.
 //!
 //! All of it but what a module is refused with is over names of any type with a test, and over places of any type. Names are compared

@@ -14,7 +14,7 @@ pub enum Mention<'t, 'a> {
     },
     /// A type use (6.6, type uses).
     Uses(&'t TypeUse<'a, FunctionType<'a>>),
-    /// The type use of a block (6.5.2).
+    /// The type use of a block (6.5, control instructions).
     UsesInBlock(&'t TypeUse<'a, FunctionType<'a>>),
     /// The name of a block, repeated where it ends, or after `else`.
     Repeats(&'t Id<'a>),

@@ -1,4 +1,4 @@
-//! Natural alignments (6.5.6).
+//! Natural alignments (6.5, memory instructions).
 ghost use Rattle.std.specs.Prelude.{◌≡◌};
 ghost use Rattle.wasm_encoder_base.specs.OperandSyntax.{Mem, MemLane};
 ghost use Rattle.wasm_encoder_opcodes.specs.Access.{access_mnemonic};

@@ -26,7 +26,7 @@ digits_number hex text = if are_digits hex text && nat_lt (number (base_of hex) 
 abbrev pub u64_number : List ℕ → Option ℕ
 u64_number text = elim (after (codes "0x") text) [ Some digits ↦ digits_number true digits | None ↦ digits_number false text ]
 
--- the same of an alignment, which is a power of two (6.5.6)
+-- the same of an alignment, which is a power of two (6.5, memory instructions)
 abbrev pub alignment : List ℕ → Option ℕ
 alignment text = u64_number text >>= λ n. if is_power_of_two n then Some n else None
 
@@ -128,7 +128,8 @@ module _ {N P : Type 0} where
   abbrev pub ordered : {A : Type 0} → Syntax N P A → Syntax N P (Ordering × A)
   ordered g = seen (λ x. (unwrap_or x.0 SeqCst, x.1)) (seq optional_ordering g)
 
-  -- MEMORY ARGUMENTS (6.5.6): index? offset=u64? align=u64?; beside that (type index) for the index, and orderings behind it
+  -- MEMORY ARGUMENTS (6.5, memory instructions): index? offset=u64? align=u64?; beside that (type index) for the index, and orderings
+  -- behind it
   abbrev pub array_target : Syntax N P (MemArgTarget N P)
   array_target = seen (λ x. Array x.1) (item_ref (codes "type"))
 

@@ -19,7 +19,7 @@ pub record Modifiers : Type 0 where
   pub offset : Option ℕ
   pub align : Option ℕ
 
--- memory arguments (6.5.6); the alignment in bytes
+-- memory arguments (6.5, memory instructions); the alignment in bytes
 pub record MemArg (N P : Type 0) : Type 0 where
   pub target : Option (MemArgTarget N P)
   pub ordering : Option (Ordering × Option Ordering)

@@ -30,8 +30,8 @@ pub enum MemArgOrdering {
     Rmw(Ordering, Ordering),
 }
 
-/// A memory argument (6.5.6). The alignment and the offset are in bytes; an absent target is memory 0. Few have a target: it stands
-/// in a box, so that the others take no room for it.
+/// A memory argument (6.5, memory instructions). The alignment and the offset are in bytes; an absent target is memory 0. Few have a
+/// target: it stands in a box, so that the others take no room for it.
 #[derive(Drop)]
 pub struct MemArg<'a> {
     pub align: u64,

@@ -51,7 +51,7 @@ pub trait ResolveModule<'a> {
         ensures kept { (why : Problem) → (tree self.old).refusal ≡ Some why → tree self.new ≡ tree self.old }
         ensures uncounted { (why : Problem) → (tree self.old).refusal ≡ Some why → gensym.new ≡ gensym.old };
 
-    /// Where the keyword of the first field stands that isn't well formed, if there is one (3.4.13, 6.5.6, 6.6.1 and 6.6, modules, and the
+    /// Where the keyword of the first field stands that isn't well formed, if there is one (3.4.13, 6.5, 6.6.1 and 6.6, modules, and the
     /// proposals on branch hints and page sizes). In fields that are, alignments are powers of two below 65536, in bytes; branch hints rise,
     /// each stands on an instruction, and their values are below 128; constant expressions close each block that they open, and no other;
     /// a memory with its segment inline has pages of 2 to a power below 64 bytes; no start function stands behind another; and each name

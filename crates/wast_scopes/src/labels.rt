@@ -17,7 +17,8 @@ use std::marker::Model;
 use wast_names::copied_id;
 use wast_parser::{Id, Index};
 
-/// The labels of the blocks that are open at a place (6.5.1 and 6.5.2). Contracts see a list of them, the innermost first.
+/// The labels of the blocks that are open at a place (6.5, labels and control instructions). Contracts see a list of them, the innermost
+/// first.
 ///
 /// A name means the innermost open block that bears it, by the number of blocks that are open inside that. A look-up takes the time of
 /// one in an ordered map, however many blocks are open.

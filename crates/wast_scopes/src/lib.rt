@@ -1,5 +1,5 @@
-//! What is known at a place of a module's code, and the test of what is mentioned there (WebAssembly Core Specification 3.0, 6.1.3, 6.5.1,
-//! 6.5.2, and 6.6, type uses and functions).
+//! What is known at a place of a module's code, and the test of what is mentioned there (WebAssembly Core Specification 3.0, 6.1.3, 6.5,
+//! and 6.6, type uses and functions).
 //!
 //! A [`Scope`] knows the index spaces of a module, its function types ([`Signatures`]), and in a function the locals; a [`Place`] knows in
 //! addition the [`Labels`] of the blocks that are open. Whether what is mentioned at a place is so says [`check_mention`] outside

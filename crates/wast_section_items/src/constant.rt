@@ -16,7 +16,7 @@ use wasm_encoder_code::ConstExpr;
 use wast_conversions::const_expr;
 use wast_core_instr::Expression;
 
-/// A constant expression (6.5.11). Refused for want of memory, and as too large where a count in it is past 4294967295.
+/// A constant expression (6.5, expressions). Refused for want of memory, and as too large where a count in it is past 4294967295.
 pub(crate) fn constant(alloc: Global, expr: &Expression<'_>) -> Result<ConstExpr, EncodeError>
     requires ready { ConstantReady (expression_tree expr.now) }
     requires covered { expr_forms (expression_tree expr.now) ≡ [] }

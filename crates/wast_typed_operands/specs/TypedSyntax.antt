@@ -24,7 +24,7 @@ abbrev pub is_written : {N P : Type 0} → TypeUse N P → Bool
 is_written u = is_some u.index || is_some u.inline
 
 module _ {N P : Type 0} where
-  -- BLOCKS (6.5.2): an identifier where given, and a type use
+  -- BLOCKS (6.5, control instructions): an identifier where given, and a type use
   abbrev pub as_block : Option (Named N P) × TypeUse N P → Block N P
   as_block b = record { label = b.0; type_use = b.1 }
 
@@ -47,8 +47,8 @@ module _ {N P : Type 0} where
   abbrev pub try_table : Syntax N P (TryTable N P)
   try_table = seen as_try_table (seq block (many catch_starts clause))
 
-  -- INDIRECT CALLS (6.5.2): an index where given and a type use, or a type use and an index where given. A use of no tokens
-  -- stands behind an index alone: so an index by itself is read once.
+  -- INDIRECT CALLS (6.5, control instructions): an index where given and a type use, or a type use and an index where given. A use of no
+  -- tokens stands behind an index alone: so an index by itself is read once.
   abbrev pub written_use : Syntax N P (TypeUse N P)
   written_use = wide use_starts false (bare_use {N = N} {P = P}).stops (only is_written bare_use)
 
@@ -67,7 +67,7 @@ module _ {N P : Type 0} where
   abbrev pub indirect : Syntax N P (Indirect N P)
   indirect = either index_starts (seen table_first (seq index bare_use)) use_first
 
-  -- SELECT (6.5.2): (result t*)*; the types are there where a group is
+  -- SELECT (6.5, parametric instructions): (result t*)*; the types are there where a group is
   abbrev pub types_of : List (List (ValType N P)) → Option (List (ValType N P))
   types_of [] = None
   types_of groups = Some (joined groups)
@@ -75,7 +75,7 @@ module _ {N P : Type 0} where
   abbrev pub select_types : Syntax N P (Option (List (ValType N P)))
   select_types = seen types_of (many result_starts result)
 
-  -- CASTS (6.5.2): a label and two reference types
+  -- CASTS (6.5, control instructions): a label and two reference types
   abbrev pub as_cast : Reference N P × (RefType N P × RefType N P) → Cast N P
   as_cast x = record { label = x.0; source = x.1.0; target = x.1.1 }
 

@@ -15,7 +15,7 @@ use wast_signatures::{
     Error, FunctionType, FunctionTypeNoNames, Id, Meaning, Parse, Parser, TypeUse, list_of,
 };
 
-/// The label of a block, where it has one, and its type (6.5.2).
+/// The label of a block, where it has one, and its type (6.5, control instructions).
 #[derive(Drop)]
 pub struct BlockType<'a> {
     pub label: Option<Id<'a>>,
@@ -42,7 +42,7 @@ impl<'a> Parse<'a> for BlockType<'a> {
     }
 }
 
-/// The block type of `try_table`, and its clauses (6.5.2).
+/// The block type of `try_table`, and its clauses (6.5, control instructions).
 #[derive(Drop)]
 pub struct TryTable<'a> {
     pub block: Box<BlockType<'a>>,

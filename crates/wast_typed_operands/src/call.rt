@@ -12,7 +12,7 @@ ghost use Rattle.wast_typed_operands.specs.UseThenTable.{use_then_table};
 use crate::block::parse_use;
 use wast_signatures::{Error, FunctionType, Index, Meaning, Parse, Parser, TypeUse};
 
-/// The table of an indirect call, absent table 0, and the type of what is called (6.5.2).
+/// The table of an indirect call, absent table 0, and the type of what is called (6.5, control instructions).
 #[derive(Drop)]
 pub struct CallIndirect<'a> {
     pub table: Option<Index<'a>>,

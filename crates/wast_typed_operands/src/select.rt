@@ -12,7 +12,7 @@ use wast_signatures::{
     Error, Grouped, Meaning, Parse, Parser, Several, ValType, join_groups, keyword, list_of,
 };
 
-/// The result types of `select` (6.5.2), of all its groups; none where it has no group.
+/// The result types of `select` (6.5, parametric instructions), of all its groups; none where it has no group.
 #[derive(Drop)]
 pub struct SelectTypes<'a> {
     pub tys: Option<Vec<ValType<'a>>>,

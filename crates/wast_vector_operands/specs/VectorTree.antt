@@ -1,4 +1,4 @@
--- Constants of 128 bits and their shapes, as they are written: abstract syntax trees (WebAssembly 3.0, 6.5.10).
+-- Constants of 128 bits and their shapes, as they are written: abstract syntax trees (WebAssembly 3.0, 6.5, vector instructions).
 use Rattle.std.specs.Prelude.{ℕ, ℤ, List}
 use Rattle.std.specs.Int.{Width}
 
@@ -7,7 +7,7 @@ pub data Vector : Type 0 where
   Integers : Width → List ℤ → Vector
   Floats : Width → List (List ℕ) → Vector
 
--- the shapes of such constants (6.5.10)
+-- the shapes of such constants (6.5, vector instructions)
 pub data Shape : Type 0 where
   I8x16 : Shape
   I16x8 : Shape

@@ -1,4 +1,4 @@
-//! What trees of modules must keep to beside names (WebAssembly Core Specification 3.0, 3.4.13, 6.5.6 and 6.6, modules, and the proposal on
+//! What trees of modules must keep to beside names (WebAssembly Core Specification 3.0, 3.4.13, 6.5 and 6.6, modules, and the proposal on
 //! branch hints).
 //!
 //! Not every tree that a text spells is so, and one that is made by hand may not be either. Of a field:

@@ -1,5 +1,5 @@
--- Texts in which bodies of functions are written flat (WebAssembly 3.0, 6.5.10): a relation for each production around a body, by the
--- production's name. The first tokens spell the value; the second are the same tokens, but for bodies.
+-- Texts in which bodies of functions are written flat (WebAssembly 3.0, 6.5, folded instructions): a relation for each production around a
+-- body, by the production's name. The first tokens spell the value; the second are the same tokens, but for bodies.
 use Rattle.std.specs.Prelude.{◌≡◌, List, [], ◌∷◌, map, codes}
 use Rattle.wast_grammar.specs.Tokens.{SignificantToken}
 use Rattle.wast_grammar.specs.Spelling.{Spells, that_one}
