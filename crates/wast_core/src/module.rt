@@ -17,7 +17,7 @@ use wast_imports::Head;
 use wast_lexer::Span;
 use wast_module_fields::ModuleField;
 use wast_parser::{
-    Error, Id, Keyword, LParen, Meaning, NameAnnotation, Parse, Parser, RParen, list_of,
+    Error, Id, Keyword, LParen, Meaning, NameAnnotation, Parse, Parser, RParen, list_of, required,
 };
 
 /// A module (6.6, modules): `(module $m ..)`.
@@ -76,7 +76,7 @@ impl<'a> Parse<'a> for Module<'a> {
         let span = parser.word("module")?;
         let head = Head::parse(parser)?;
         let kind = parse_content(parser)?;
-        RParen::parse(parser)?;
+        required::<RParen>(parser, expected_behind(&kind))?;
         Ok(Module {
             span,
             id: head.id,
@@ -84,6 +84,14 @@ impl<'a> Parse<'a> for Module<'a> {
             kind,
             refusal: None,
         })
+    }
+}
+
+/// What is said where neither more of a module nor its end is read.
+fn expected_behind(kind: &ModuleKind<'_>) -> &'static str {
+    match kind {
+        ModuleKind::Text(_) => "expected a field of a module or `)`",
+        ModuleKind::Binary(_) => "expected a string or `)`",
     }
 }
 

@@ -30,5 +30,5 @@ pub use wast_exports::{InlineExport, InlineImport};
 pub use wast_imports::Head;
 pub use wast_parser::{
     Error, Id, Index, Keyword, KeywordName, LParen, Meaning, NameAnnotation, Parse, Parser, RParen,
-    Span, list_of,
+    Span, list_of, required,
 };

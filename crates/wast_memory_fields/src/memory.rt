@@ -17,7 +17,7 @@ ghost use Rattle.wast_memory_fields.specs.MemoryViews.{defined_memory, memory_de
 use wast_exports::{InlineExport, InlineImport};
 use wast_field_syntax::{
     DataVal, Error, Head, Id, LParen, Meaning, NameAnnotation, Parse, Parser, RParen, Span,
-    full_list, parse_sizes,
+    full_list, parse_sizes, required,
 };
 use wast_value_types::keyword::Shared;
 use wast_value_types::{Limits, MemoryType, address_type, optional, page_size};
@@ -181,7 +181,7 @@ fn parse_data<'a>(parser: &mut Parser<'a>) -> Result<Vec<DataVal<'a>>, Error>
     ensures read { Gives (λ d. map value_tree d.items) result parser.new ((group (codes "data") values).reads (ahead parser.old)) }
     ensures keeps { Keeps parser.old parser.new }
 {
-    LParen::parse(parser)?;
+    required::<LParen>(parser, "expected a number of pages or `(data`")?;
     parser.word("data")?;
     let data = full_list(parser)?;
     RParen::parse(parser)?;

@@ -5,7 +5,7 @@ ghost use Rattle.wast_grammar.specs.Grammar.{maybe};
 ghost use Rattle.wast_parser_core.specs.State.{ahead, Keeps, place_ahead};
 ghost use Rattle.wast_parser_core.specs.Reading.{Gives, SaysAt};
 
-use crate::meaning::{Item, Meaning, Parse};
+use crate::meaning::{Item, Meaning, Parse, Peek};
 use crate::parser::Parser;
 use wast_parser_base::Error;
 
@@ -31,9 +31,10 @@ impl<'a, T: Parse<'a> + Item> Parse<'a> for Option<T> {
     }
 }
 
-/// Reads one where one begins, and takes its tokens; refused elsewhere with this message, and where one that begins isn't read,
-/// where no token can be read, or for want of memory.
-pub fn required<'a, T: Parse<'a> + Item>(parser: &mut Parser<'a>, message: &str) -> Result<T, Error>
+/// Reads one where one begins, and takes its tokens; refused elsewhere with this message, at the next token, and where one that
+/// begins isn't read, where no token can be read, or for want of memory. Asks for something of which no spelling is nothing.
+pub fn required<'a, T: Parse<'a> + Peek>(parser: &mut Parser<'a>, message: &str) -> Result<T, Error>
+    requires { T.syntax.empty ≡ false }
     ensures read { Gives T.tree result parser.new (T.syntax.reads (ahead parser.old)) }
     ensures keeps { Keeps parser.old parser.new }
     ensures told { ask T.syntax.starts (ahead parser.old) ≡ Some false → IfErr result (SaysAt message.now (place_ahead parser.old)) }

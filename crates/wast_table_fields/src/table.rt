@@ -17,7 +17,7 @@ use crate::element::{parse_elements, peek_element};
 use wast_exports::{InlineExport, InlineImport};
 use wast_field_syntax::{
     Error, Expression, Head, Id, Keyword, LParen, Meaning, NameAnnotation, Parse, Parser, RParen,
-    Span, full_list, parse_sizes,
+    Span, full_list, parse_sizes, required,
 };
 use wast_value_types::keyword::Shared;
 use wast_value_types::{Limits, RefType, TableType, address_type};
@@ -219,7 +219,7 @@ fn parse_filled<'a>(parser: &mut Parser<'a>, is_64: bool) -> Result<TableKind<'a
     ensures keeps { Keeps parser.old parser.new }
 {
     let elem = RefType::parse(parser)?;
-    LParen::parse(parser)?;
+    required::<LParen>(parser, "expected `(elem`")?;
     parser.word("elem")?;
     let ty = elem.clone(parser.alloc())?;
     let payload = parse_payload(parser, ty)?;

@@ -6,7 +6,7 @@ use crate::text::failed;
 use std::alloc::Global;
 use std::process::Abort;
 use std::test::Fail;
-use wast_parser::{Error, Id, LParen, ParseBuffer, Parser, RParen, parse};
+use wast_parser::{Error, Id, LParen, ParseBuffer, Parser, RParen, parse, required};
 
 #[test]
 fn ample_name_and_text(rt: HostRuntime) -> Result<(), Fail> {
@@ -108,6 +108,27 @@ fn assert_told(rt: &impl Abort, alloc: Global, error: &Error, expected: &str) ->
     assert_eq!(rt; message.as_str(), expected);
     assert_eq!(rt; error.span().offset(), 1);
     Ok(())
+}
+
+/// What isn't there is told with the message that is given, and nothing is read; what is there is read.
+#[test]
+fn ample_required(rt: HostRuntime) -> Result<(), Fail> {
+    match ParseBuffer::new(rt.alloc(), " )") {
+        Ok(buffer) => reads_required(&rt, rt.alloc(), &mut Parser::new(&buffer)),
+        Err(error) => Err(failed(error)),
+    }
+}
+
+fn reads_required(rt: &impl Abort, alloc: Global, parser: &mut Parser<'_>) -> Result<(), Fail> {
+    match required::<Id>(parser, "expected y") {
+        Ok(_) => Err("an identifier is read".into()),
+        Err(error) => {
+            assert_told(rt, alloc, &error, "expected y")?;
+            assert!(rt; required::<RParen>(parser, "expected z").is_ok());
+            assert!(rt; parser.is_empty());
+            Ok(())
+        }
+    }
 }
 
 /// The error names what was looked for.
