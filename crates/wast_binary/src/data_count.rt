@@ -17,6 +17,7 @@ use crate::put::put_section;
 use wasm_encoder::Module;
 use wasm_encoder_base::EncodeError;
 use wasm_encoder_sections::DataCountSection;
+use wast_conversions::as_u32;
 use wast_core_instr::{BulkOp, GcOp, Instruction};
 use wast_module_fields::{Func, FuncKind, ModuleField};
 
@@ -38,10 +39,8 @@ pub(crate) fn put_data_count(
 fn put_count(count: usize, module: &mut Module) -> Result<(), EncodeError>
     ensures { Encodes (numbered 12 (data_count_section count)) (IsU32 count) «module».old «module».new result }
 {
-    match u32::try_from(count) {
-        Ok(count) => put_section(&DataCountSection { count }, module),
-        Err(_) => Err(EncodeError::TooLarge),
-    }
+    let count = as_u32(count)?;
+    put_section(&DataCountSection { count }, module)
 }
 
 /// How many data segments there are.

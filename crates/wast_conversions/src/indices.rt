@@ -1,11 +1,12 @@
 //! Indices.
-ghost use Rattle.std.specs.Prelude.{◌≡◌, option_map, option_copied};
+ghost use Rattle.std.specs.Prelude.{◌≡◌, ◌<◌, ◌^◌, option_map, option_copied, IfErr, IfOk, IsErrOf, OnOk};
 ghost use Rattle.wasm_layout.specs.IsModule.{IsU32};
 ghost use Rattle.wast_parser.specs.Identifiers.{index_tree};
 ghost use Rattle.wast_conversions.specs.Types.{number_of};
 ghost use Rattle.wast_conversions.specs.Operands.{optional_meant};
 ghost use Rattle.wast_conversions.specs.Resolved.{IsNumber, IfThere};
 
+use wasm_encoder_base::EncodeError;
 use wast_parser::Index;
 
 /// The number that an index is (6.6.1), which is no name.
@@ -29,5 +30,18 @@ pub fn optional_index(written: &Option<Index<'_>>) -> u32
     match written {
         Some(written) => index(written),
         None => 0,
+    }
+}
+
+/// The same number, which is a place, a count or an index, in 32 bits; too large where it doesn't fit in them.
+pub fn as_u32(number: usize) -> Result<u32, EncodeError>
+    ensures same { IfOk result (λ n. n ≡ number) }
+    ensures fits { OnOk result (number < 2 ^ 32) }
+    ensures refused { IfErr result (λ e. e ≡ EncodeError.TooLarge) }
+    ensures too_large { IsErrOf result EncodeError.TooLarge → number < 2 ^ 32 → ⊥ }
+{
+    match u32::try_from(number) {
+        Ok(number) => Ok(number),
+        Err(_) => Err(EncodeError::TooLarge),
     }
 }

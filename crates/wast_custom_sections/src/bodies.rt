@@ -16,12 +16,11 @@ ghost use Rattle.wast_conversions.specs.Rows.{bytes_meant};
 ghost use Rattle.wast_custom_sections.specs.Hints.{PlacesFit, BodyReady};
 ghost use Rattle.wast_custom_sections.specs.Hinted.{places_of, placed_at, among, body_meant};
 
-use crate::number::as_u32;
 use std::alloc::{AllocError, Global};
 use wasm_encoder_base::EncodeError;
 use wasm_encoder_code::Function;
 use wasm_encoder_custom::BranchHint;
-use wast_conversions::push_instruction;
+use wast_conversions::{as_u32, push_instruction};
 use wast_core_instr::{Expression, Instruction};
 use wast_module_fields::Local;
 use wast_section_items::local_types;

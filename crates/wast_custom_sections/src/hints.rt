@@ -16,12 +16,12 @@ ghost use Rattle.wast_custom_sections.specs.Hinted.{AddsHinted, HintedFits, hint
 
 use crate::bodies::placed_hints;
 use crate::functions::function_count;
-use crate::number::as_u32;
 use crate::section::add_section;
 use std::alloc::Global;
 use wasm_encoder::Module;
 use wasm_encoder_base::EncodeError;
 use wasm_encoder_custom::{BranchHint, BranchHints};
+use wast_conversions::as_u32;
 use wast_core_instr::Expression;
 use wast_module_fields::{Func, FuncKind, Local, ModuleField};
 

@@ -35,7 +35,6 @@ mod customs;
 mod dylink;
 mod functions;
 mod hints;
-mod number;
 mod place;
 mod producers;
 mod section;

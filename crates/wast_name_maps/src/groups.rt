@@ -6,11 +6,12 @@ ghost use Rattle.wast_name_maps.specs.Numbered.{none_yet, GroupsJoin, NamesJoine
 
 use crate::inner_map::InnerMap;
 use crate::names::Names;
-use crate::number::{index, number_behind};
+use crate::number::number_behind;
 use std::alloc::Global;
 use std::marker::Model;
 use wasm_encoder_base::EncodeError;
 use wasm_encoder_custom::{IndirectNameMap, NameMap};
+use wast_conversions::as_u32;
 
 /// The names inside of what has come, each with its number. Contracts see the list that is written, and the number of what comes next.
 #[derive(Drop)]
@@ -89,5 +90,5 @@ fn append(written: &mut InnerMap, number: usize, names: &NameMap) -> Result<(), 
     ensures room { OnOk result (HasRoom written.old) }
     ensures too_large { IsErrOf result EncodeError.TooLarge → number < 2 ^ 32 → HasRoom written.old → ⊥ }
 {
-    written.append(index(number)?, names)
+    written.append(as_u32(number)?, names)
 }

@@ -4,11 +4,12 @@ ghost use Rattle.wasm_encoder_base.specs.Lists.{with_item, HasRoom};
 ghost use Rattle.wasm_encoder_custom.specs.Names.{naming_bytes};
 ghost use Rattle.wast_name_maps.specs.Numbered.{none_yet, NamesJoin};
 
-use crate::number::{index, number_behind};
+use crate::number::number_behind;
 use std::alloc::Global;
 use std::marker::Model;
 use wasm_encoder_base::EncodeError;
 use wasm_encoder_custom::NameMap;
+use wast_conversions::as_u32;
 
 /// The names of what has come, each with its number. Contracts see the list that is written, and the number of what comes next.
 #[derive(Drop)]
@@ -87,6 +88,6 @@ fn append(written: &mut NameMap, number: usize, name: &str) -> Result<(), Encode
     ensures name { OnOk result (length name.now < 2 ^ 32) }
     ensures too_large { IsErrOf result EncodeError.TooLarge → number < 2 ^ 32 → HasRoom written.old → length name.now < 2 ^ 32 → ⊥ }
 {
-    written.append(index(number)?, name)?;
+    written.append(as_u32(number)?, name)?;
     Ok(())
 }
