@@ -1,5 +1,5 @@
 -- The laws of the syntax of types: each mirrors its production.
-use Rattle.std.proofs.Common.{◌≡◌, false, List, [], ◌∷◌, Some, None, refl, ℕ, inl, inr}
+use Rattle.std.proofs.Common.{◌≡◌, true, false, List, [], ◌∷◌, Some, None, refl, ℕ, inl, inr}
 use Rattle.std.specs.Prelude.{◌-◌, ◌^◌, codes}
 use Rattle.wasm_encoder_base.specs.Types.{FuncHeap}
 use Rattle.wast_words.specs.Tokens.{SignificantToken, Id, Word}
@@ -31,11 +31,8 @@ module _ {N P : Type 0} where
       (either_laws (keywords heap_words) _ _ (seen_laws _ _ (keyword_laws heap_words))
       (either_laws (this_group (codes "exact") ∷ []) _ _ (seen_laws _ _ (group_laws (codes "exact") _ index_laws refl)) (seen_laws _ _ (group_laws (codes "shared") _ (keyword_laws heap_words) refl)) refl refl refl refl) refl refl refl refl) refl refl refl refl
 
-  pub no_shared : (ts : List (SignificantToken N P)) → ask (this_group (codes "shared") ∷ []) ts ≡ Some false → (group (codes "shared") (keyword heap_words)).reads ts ≡ None
-  no_shared ts n = unread (group (codes "shared") (keyword heap_words)) (group_laws (codes "shared") _ (keyword_laws heap_words) refl) refl refl ts (λ e. cc)
-
-  pub faulty_shared : (ts : List (SignificantToken N P)) → ask (this_group (codes "shared") ∷ []) ts ≡ None → (group (codes "shared") (keyword heap_words)).reads ts ≡ None
-  faulty_shared ts n = unread (group (codes "shared") (keyword heap_words)) (group_laws (codes "shared") _ (keyword_laws heap_words) refl) refl refl ts (λ e. cc)
+  pub not_shared : (ts : List (SignificantToken N P)) → (ask (this_group (codes "shared") ∷ []) ts ≡ Some true → ⊥) → (group (codes "shared") (keyword heap_words)).reads ts ≡ None
+  not_shared = unread (group (codes "shared") (keyword heap_words)) (group_laws (codes "shared") _ (keyword_laws heap_words) refl) refl refl
 
   pub ref_body_laws : Lawful (ref_body {N = N} {P = P})
   ref_body_laws = seen_laws _ _ (seq_laws _ _ (optional_laws (codes "null")) heap_type_laws refl)

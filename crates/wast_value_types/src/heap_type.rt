@@ -119,7 +119,7 @@ impl<'a> Meaning for HeapType<'a> {
 }
 
 impl<'a> Parse<'a> for HeapType<'a> {
-    #[tactic(auto, using(crate::proofs::ValueLaws::no_shared, crate::proofs::ValueLaws::faulty_shared))]
+    #[tactic(auto, using(crate::proofs::ValueLaws::not_shared))]
     fn parse(parser: &mut Parser<'a>) -> Result<Self, Error> {
         if parser.peek::<Index>()? {
             Ok(HeapType::Concrete(Index::parse(parser)?))
