@@ -1,5 +1,5 @@
 -- Names that are made up, and what is demanded of them.
-use Rattle.std.specs.Prelude.{ℕ, ◌+◌, ◌-◌, nat_eq, not, Bool, false, ◌&&◌, ◌≡◌, List, [], ◌∷◌, map, Option, Some, None, is_some}
+use Rattle.std.specs.Prelude.{ℕ, ◌+◌, ◌-◌, Bool, false, ◌&&◌, ◌≡◌, List, [], ◌∷◌, map, Option, Some, None, is_some}
 use Rattle.std.specs.List.{flat_map, list_any}
 use Rattle.wasm_encoder_base.specs.Balanced.{Turn, Opens, Closes, Stays}
 use Rattle.wasm_encoder_base.specs.Table.{Space}

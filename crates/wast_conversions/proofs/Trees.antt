@@ -1,5 +1,5 @@
 -- An instruction of the same mnemonic, with the operands that are meant, is the one that is meant.
-use Rattle.std.proofs.Common.{◌≡◌, ℕ, List, [], ◌∷◌, refl, sym, subst, ap, ◌∙◌, Some, None}
+use Rattle.std.proofs.Common.{◌≡◌, List, [], ◌∷◌, refl, sym, subst, ap, ◌∙◌, Some, None}
 use Rattle.std.specs.Prelude.{ℤ, Option, Result, Ok, Err, IfOk, OnOk}
 use Rattle.wasm_encoder_base.specs.Instr as binary
 use Rattle.wasm_encoder_base.specs.Instr.{kind_at, kind_of, in_range, IsInstr}

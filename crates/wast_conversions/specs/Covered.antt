@@ -7,7 +7,7 @@ use Rattle.std.specs.List.{flat_map}
 use Rattle.wast_value_types.specs.ValueTree.{HeapWord, Known, HeapType, Abstract, Concrete, Exact, RefType, ValType, Number, Ref, StorageType, Packed, Value, TableType, GlobalType}
 use Rattle.wast_signatures.specs.TypeTree.{Sig, InnerType, FuncType, StructType, ArrayType, ContType, CompType, TypeDef, TypeUse}
 use Rattle.wast_vector_operands.specs.VectorTree.{Vector, Integers, Floats}
-use Rattle.wast_operands.specs.OperandTree.{Ordering, AcqRel, SeqCst, MemArgTarget, Memory, Array, MemArg}
+use Rattle.wast_operands.specs.OperandTree.{Ordering, AcqRel, MemArgTarget, Memory, Array, MemArg}
 use Rattle.wast_imports.specs.ImportTree.{ExternType, OfFunc, OfExactFunc, OfTable, OfMemory, OfGlobal, OfTag}
 use Rattle.wast_mnemonics.specs.Heads.{Head, Listed, Unlisted}
 use Rattle.wast_core_instr.specs.InstructionTree.{Operands, Instruction}

@@ -2,7 +2,7 @@
 -- (WebAssembly 3.0, 6.1.3 and 6.6, type uses). What a type describes or is described by has no bytes, nor has a signature beside an index.
 use Rattle.std.specs.Prelude.{◌≡◌, List, [], ◌∷◌, All, Option, Some, None}
 use Rattle.wast_parser.specs.Identifiers.{Reference, ByNumber, ByName}
-use Rattle.wast_value_types.specs.ValueTree.{HeapType, Abstract, Concrete, Exact, RefType, ValType, Number, Ref, StorageType, Packed, Value, FieldType, TableType, GlobalType}
+use Rattle.wast_value_types.specs.ValueTree.{HeapType, Abstract, Concrete, Exact, RefType, ValType, Number, Ref, StorageType, Packed, Value}
 use Rattle.wast_signatures.specs.TypeTree.{Sig, InnerType, FuncType, StructType, ArrayType, ContType, TypeDef, TypeUse}
 use Rattle.wast_operands.specs.OperandTree.{MemArgTarget, Memory, Array, MemArg, Handle, OnLabel, OnSwitch}
 use Rattle.wast_typed_operands.specs.TypedTree.{Catch, CatchTag, CatchTagRef, CatchAll, CatchAllRef}

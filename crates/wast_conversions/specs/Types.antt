@@ -1,7 +1,7 @@
 -- The types of a binary that types stand for whose indices are numbers (WebAssembly 3.0, 6.4 and 5.3), over names of type N and
 -- places of type P. Names, places and annotations leave no trace. What isn't covered stands for nothing; it is left out here, or
 -- taken for something else.
-use Rattle.std.specs.Prelude.{ℕ, Bool, List, [], map, Option, Some, None, option_map}
+use Rattle.std.specs.Prelude.{ℕ, Bool, [], map, Option, Some, None, option_map}
 use Rattle.wasm_encoder_base.specs.Types as binary
 use Rattle.wasm_encoder_items.specs.EntityTypes as entities
 use Rattle.wasm_encoder_items.specs.TypeEntries.{TypeEntry, OneType, TypeGroup}

@@ -1,5 +1,4 @@
 -- Which groups instructions head.
-use Rattle.std.specs.Prelude.{codes}
 use Rattle.std.proofs.Common.{◌≡◌, ℕ, List, refl, sym}
 use Rattle.wast_expressions.specs.Expressions.{OfOperands}
 use Rattle.wast_core_instr.specs.InstructionViews.{bulk_operands, gc_operands, vector_arg_operands, proposal_operands, instruction_tree}

@@ -1,6 +1,6 @@
 -- Instructions keep what expressions ask.
 use Rattle.std.specs.Prelude.{codes}
-use Rattle.std.proofs.Common.{◌≡◌, ℕ, List, [], ◌∷◌, false, true, Option, Some, None, refl, ap, map}
+use Rattle.std.proofs.Common.{◌≡◌, [], ◌∷◌, false, true, Option, Some, None, refl, ap, map}
 use Rattle.wasm_encoder_base.specs.Table.{table, entries_of}
 use Rattle.wasm_encoder_base.specs.Leb.{uleb, leb, digits}
 use Rattle.wasm_encoder_base.specs.Uncovered.{uncovered}
@@ -17,7 +17,7 @@ use Rattle.wast_mnemonics.specs.declared.word.NameWord.TheVariants as name_words
 use Rattle.wast_mnemonics.specs.Mnemonics.{word_mnemonic}
 use Rattle.wast_expressions.specs.Expressions.{OfOperands, OfBlock, OfArms, hint_tests, inside_tests}
 use Rattle.wast_expressions.specs.Heeds.{Heeds, Spelled}
-use Rattle.wast_core_instr.specs.InstructionTree.{Instruction, Operands, Label, TryTable}
+use Rattle.wast_core_instr.specs.InstructionTree.{Operands, Label, TryTable}
 use Rattle.wast_core_instr.specs.InstructionSyntax.{instruction, instruction_starts, own_operands, row_stops}
 use Rattle.wast_core_instr.specs.InstructionGroups.{block_group, head_mnemonic, instruction_heads, instruction_made, unlabelled}
 

@@ -1,5 +1,5 @@
 -- What the grammar sees of expressions.
-use Rattle.std.specs.Prelude.{ℕ, List, map}
+use Rattle.std.specs.Prelude.{ℕ, map}
 use Rattle.wast_typed_operands.specs.Tokens.{Name}
 use Rattle.wast_expressions.specs.Items as items
 use Rattle.wast_expressions.specs.Partial.{hint_tree}

@@ -7,7 +7,7 @@ use Rattle.wast_typed_operands.specs.Grammar.{Syntax, among, nothing, next, seen
 use Rattle.wast_typed_operands.specs.Identifiers.{identifier, index}
 use Rattle.wast_typed_operands.specs.ValueSyntax.{index_starts, heap_starts, ref_starts, heap_type, ref_type}
 use Rattle.wast_vector_operands.specs.VectorSyntax.{float_starts, shape_starts, signed_literal, float_literal, lane, shuffle, vector}
-use Rattle.wast_operands.specs.OperandSyntax.{id_starts, ordering_starts, lane_starts, type_starts, handle_starts, two_indices, index_count, label_table, optional_index, optional_indices, one_or_two, optional_ordering, mem_arg, mem_arg_lane, resume, resume_throw}
+use Rattle.wast_operands.specs.OperandSyntax.{id_starts, lane_starts, handle_starts, two_indices, index_count, label_table, optional_index, optional_indices, one_or_two, optional_ordering, mem_arg, mem_arg_lane, resume, resume_throw}
 use Rattle.wast_operands.specs.OperandSyntax as behind
 use Rattle.wast_typed_operands.specs.TypedSyntax.{use_starts, catch_starts, block, try_table, indirect, cast, select_types}
 use Rattle.wast_mnemonics.specs.TextTable.{TextOperands, TextEntry, text_table}

@@ -1,5 +1,5 @@
 -- What the grammar sees of instructions: their operands, and which they are.
-use Rattle.std.specs.Prelude.{ℕ, List, map, option_map}
+use Rattle.std.specs.Prelude.{ℕ, map, option_map}
 use Rattle.wast_typed_operands.specs.Tokens.{Name}
 use Rattle.wast_typed_operands.specs.Identifiers.{identifier_tree, index_tree}
 use Rattle.wast_typed_operands.specs.ValueViews.{heap_tree, ref_tree}

@@ -5,7 +5,7 @@ use Rattle.std.specs.Global.{Vec}
 use Rattle.std.specs.Vec.{with_item}
 use Rattle.std.specs.Cow.{cow_str_bytes}
 use Rattle.wast_signatures.specs.Tokens.{Name}
-use Rattle.wast_signatures.specs.Identifiers.{identifier_tree, index_tree}
+use Rattle.wast_signatures.specs.Identifiers.{identifier_tree}
 use Rattle.wast_value_types.specs.ValueViews.{table_tree, memory_tree, global_tree}
 use Rattle.wast_signatures.specs.TypeTree as types
 use Rattle.wast_signatures.specs.SignatureViews.{name_tree, use_tree}

@@ -5,7 +5,7 @@ use Rattle.wasm_encoder_base.specs.Uncovered as uncovered
 use Rattle.wasm_encoder_base.specs.Table.{Functions, Datas}
 use Rattle.wast_parser.specs.Identifiers.{Reference, ByNumber, ByName}
 use Rattle.wast_parser.specs.Problem.{Problem}
-use Rattle.wast_names.specs.Demand.{ImportAfter, Duplicate, Unknown, TypeMismatch, LabelMismatch, words, told}
+use Rattle.wast_names.specs.Demand.{ImportAfter, Duplicate, Unknown, TypeMismatch, LabelMismatch, words}
 use Rattle.wast_field_syntax.specs.ValueTree.{Concrete, Packed, I8, Value}
 use Rattle.wast_field_syntax.specs.TypeTree.{FuncType, StructType}
 use Rattle.wast_field_syntax.specs.OperandTree.{SeqCst, OnLabel}

@@ -9,7 +9,7 @@ use Rattle.wast_meant.specs.Meaning.{ContentMeans, Meaning}
 use Rattle.wast_meant.specs.Binary.{in_bytes}
 use Rattle.wast_meant.specs.Means as worth
 use Rattle.wast_meaning.specs.Made.{is_made}
-use Rattle.wast_meant.specs.Means.{naming_of, Means, SpellsPieces, Worth, Stands, IsWorth}
+use Rattle.wast_meant.specs.Means.{naming_of, Means, SpellsPieces, Stands}
 use Rattle.wast_meant.specs.Laws.{OneMeaning, OneModule, OneTree, OneWorth}
 
 by_content : {N P : Type 0} (eq : N → N → Bool) (made : N → Bool) (naming : ℕ → N) (name : Option (GivenName N)) (c : Content N P) (m n : AbstractModule (GivenName N)) →

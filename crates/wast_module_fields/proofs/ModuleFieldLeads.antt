@@ -1,6 +1,6 @@
 -- Where fields begin.
 use Rattle.std.proofs.Common.{◌≡◌, ℕ, List, [], ◌∷◌, ◌++◌, refl, codes}
-use Rattle.wast_parser.specs.Tokens.{Open, Close, Word}
+use Rattle.wast_parser.specs.Tokens.{Close, Word}
 use Rattle.wast_parser.specs.Look.{this_group}
 use Rattle.wast_parser.specs.Lawful.{Lawful, Leads}
 use Rattle.wast_parser.specs.Grammar.{Syntax, paren}

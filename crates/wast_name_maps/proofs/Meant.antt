@@ -27,7 +27,7 @@ use Rattle.wast_meaning.proofs.Settled.{left, right}
 use Rattle.wasm_layout.specs.AbstractModule.{Naming}
 use Rattle.wast_meant.specs.Binary.{bytes_of, naming_with, inner_with}
 use Rattle.wast_meaning.specs.Made.{is_made}
-use Rattle.wast_meant.specs.NamesMeant.{naming, named_from, named, inner_naming, inner_from, inner_named, space_of, imported_function, defined_function, bodies_in, imported_tag, tags_in, GivenName, identifier, given_name, opener_name, names_of_locals, names_of_labels}
+use Rattle.wast_meant.specs.NamesMeant.{named_from, named, inner_naming, inner_from, inner_named, space_of, imported_function, defined_function, bodies_in, imported_tag, tags_in, GivenName, identifier, given_name, opener_name, names_of_locals, names_of_labels}
 use Rattle.wast_meant.specs.NamesMeant as meant
 use Rattle.wast_name_maps.specs.Gathered.{name_if, bound_names, opened_name, label_names, type_groups, function_groups, nameless_groups, tag_groups, import_groups, defined_groups, field_groups}
 use Rattle.wast_name_maps.specs.Given.{given, identified, local_names, sig_names}

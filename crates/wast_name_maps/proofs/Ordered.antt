@@ -11,7 +11,7 @@ use Rattle.wasm_encoder_base.specs.Bytes.{counted, sized}
 use Rattle.wasm_encoder_base.specs.Leb.{uleb}
 use Rattle.wasm_encoder_base.specs.Lists.{Listed, listed, list_bytes}
 use Rattle.wasm_encoder_custom.specs.Custom.{subsection}
-use Rattle.wasm_encoder_custom.specs.Names.{naming_bytes, inner_naming_bytes, Space, InnerSpace, number_of, inner_number_of, NameSubsection, ModuleName, Names, InnerNames, name_subsection_bytes}
+use Rattle.wasm_encoder_custom.specs.Names.{naming_bytes, inner_naming_bytes, Space, InnerSpace, number_of, inner_number_of, Names, InnerNames, name_subsection_bytes}
 use Rattle.wasm_encoder_custom.specs.Names as binary
 use Rattle.wasm_layout.specs.AbstractModule.{Naming, InnerNaming, NameMaps}
 use Rattle.wasm_layout.specs.Layout.{naming, inner_naming, if_there, subsection_of, name_bytes}

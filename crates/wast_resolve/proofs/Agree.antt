@@ -1,32 +1,28 @@
 -- Where index spaces tell the same of each name, indices become the same numbers.
-use Rattle.std.proofs.Common.{◌≡◌, ℕ, zero, suc, ◌+◌, Bool, List, [], ◌∷◌, ◌++◌, length, map, Option, Some, None, refl, sym, ◌∙◌, ap, append-nil}
+use Rattle.std.proofs.Common.{◌≡◌, ℕ, zero, suc, ◌+◌, Bool, List, [], ◌∷◌, ◌++◌, map, Option, Some, None, refl, sym, ◌∙◌, ap}
 use Rattle.std.specs.Prelude.{option_map, option_and_then, unwrap_or, slice_get}
-use Rattle.std.specs.Option.{option_or}
-use Rattle.std.specs.List.{flat_map, position_from}
-use Rattle.std.proofs.lemmas.Option.{slice_get-map}
+use Rattle.std.specs.List.{flat_map}
 use Rattle.wasm_encoder_base.specs.Table.{Space, Labels, Locals, Functions, Types, Tables, Memories, Globals, Tags, Datas, Elems, Fields}
 use Rattle.wast_grammar.specs.Tokens.{Name}
 use Rattle.wast_grammar.specs.Spelling.{same_name}
 use Rattle.wast_parser.specs.Identifiers.{Named, Reference, ByNumber, ByName}
-use Rattle.wast_names.specs.Position.{bears}
-use Rattle.wast_names.specs.Walk.{reached}
 use Rattle.wast_names.specs.Space as names
 use Rattle.wast_names.proofs.Walk.{reached_map}
 use Rattle.wast_names.proofs.Positions.{first_so}
-use Rattle.wast_signatures.specs.TypeTree.{Local, Sig, InnerType, FuncType, StructType, ArrayType, ContType, TypeItem, TypeUse}
+use Rattle.wast_signatures.specs.TypeTree.{Sig, InnerType, FuncType, StructType, ArrayType, ContType, TypeItem, TypeUse}
 use Rattle.wast_core_instr.specs.InstructionTree.{Instruction}
 use Rattle.wast_field_syntax.specs.FieldTree.{Function, Field}
-use Rattle.wast_meaning.specs.Spaces.{denotes, listed}
-use Rattle.wast_meaning.specs.Implied.{no_sig, func_sig, written_types, implied, implied_sigs, sig_at}
+use Rattle.wast_meaning.specs.Spaces.{listed}
+use Rattle.wast_meaning.specs.Implied.{no_sig, func_sig, written_types, implied, sig_at}
 use Rattle.wast_meaning.specs.Scope.{Scope, scope_of, scope_at, with_locals, labels_or, locals_or, label_space, members, params_of, params_of_index, locals_of}
-use Rattle.wast_meaning.specs.Changed.{Change, Changes, field_changed}
+use Rattle.wast_meaning.specs.Changed.{field_changed}
 use Rattle.wast_meaning.specs.Numbered.{numbering, numberings, numbered}
 use Rattle.wast_spaces.specs.declared.spaces.Spaces.{Spaces}
 use Rattle.wast_spaces.specs.Views.{spaces_of}
 use Rattle.wast_numbered.proofs.Unnamed.{nameless_params}
 use Rattle.wast_spaces.specs.Params.{inner_count, param_count}
 use Rattle.wast_numbered.specs.Params.{implied_count, param_counts}
-use Rattle.wast_numbered.specs.Place.{so_many, nameless, sig_with, fields_in, joined, scope_with, here, by_place, numberings_by}
+use Rattle.wast_numbered.specs.Place.{sig_with, joined, scope_with, here, by_place, numberings_by}
 use Rattle.wast_resolve.specs.Known.{Tells}
 
 -- SPACES that tell the same of each name

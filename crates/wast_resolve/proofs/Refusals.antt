@@ -3,7 +3,7 @@ use Rattle.std.proofs.Common.{◌≡◌, ℕ, List, Result, Ok, Err, inl, inr, s
 use Rattle.wast_grammar.specs.Tokens.{Name}
 use Rattle.wast_parser.specs.Problem.{Problem}
 use Rattle.wast_names.specs.Walk.{first_unmet}
-use Rattle.wast_names.specs.Demand.{Demand, is_met, Tells, Refuses, Answers}
+use Rattle.wast_names.specs.Demand.{Demand, is_met, Tells, Answers}
 
 -- Of demands only the first that isn't met counts.
 pub answers_first : {T : Type 0} (r : Result T Problem) (ds es : List (Demand Name ℕ)) → first_unmet is_met ds ≡ first_unmet is_met es → Answers r ds → Answers r es

@@ -1,7 +1,6 @@
 -- What contracts see of the function types of a module.
-use Rattle.std.specs.Prelude.{◌≡◌, ℕ, Bool, List, ◌++◌, map, slice_get, Option, Some, None, option_map, option_and_then, Result, OnOk}
+use Rattle.std.specs.Prelude.{◌≡◌, ℕ, Bool, List, ◌++◌, map, slice_get, Option, option_map, option_and_then, Result, OnOk}
 use Rattle.wast_grammar.specs.Tokens.{Name}
-use Rattle.wast_parser.specs.Identifiers.{Named}
 use Rattle.wast_signatures.specs.TypeTree.{Sig, TypeItem}
 use Rattle.wast_meaning.specs.Implied.{func_sig}
 use Rattle.wast_scopes.specs.Numbered.{Look, NumberedSig, numbered_sig}

@@ -4,7 +4,7 @@ use Rattle.std.specs.Prelude.{ℕ, ◌<◌, ◌^◌, List, length, All}
 use Rattle.std.specs.List.{AllByRecursion}
 use Rattle.wasm_encoder_base.specs.Instr.{Instr, counts_fit}
 use Rattle.wasm_encoder_base.specs.Types.{CompositeType, Function, Struct, Array}
-use Rattle.wasm_encoder_code.specs.Body.{Body, body_bytes}
+use Rattle.wasm_encoder_code.specs.Body.{body_bytes}
 use Rattle.wasm_encoder_code.specs.Locals.{LocalsFit}
 use Rattle.wasm_encoder_items.specs.Imports.{Imports, One, OfModule, OfType, Export}
 use Rattle.wasm_encoder_items.specs.Segments.{Table, EachOfTable, Global, EachOfGlobal, ElementSegment, ActiveFunctions, PassiveFunctions, ActiveTableFunctions, DeclaredFunctions, ActiveExpressions, PassiveExpressions, ActiveTableExpressions, DeclaredExpressions, EachOfElements, DataSegment, ActiveData, PassiveData, EachOfData}

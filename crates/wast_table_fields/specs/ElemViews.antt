@@ -1,5 +1,5 @@
 -- What the grammar sees of the code's tables and element segments.
-use Rattle.std.specs.Prelude.{ℕ, List, map, option_map}
+use Rattle.std.specs.Prelude.{ℕ, map, option_map}
 use Rattle.wast_field_syntax.specs.Tokens.{Name}
 use Rattle.wast_field_syntax.specs.Identifiers.{identifier_tree, index_tree}
 use Rattle.wast_value_types.specs.ValueViews.{ref_tree, table_tree}

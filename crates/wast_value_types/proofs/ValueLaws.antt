@@ -1,21 +1,20 @@
 -- The laws of the syntax of types: each mirrors its production.
-use Rattle.std.proofs.Common.{◌≡◌, true, false, List, [], ◌∷◌, Some, None, refl, ℕ, inl, inr}
+use Rattle.std.proofs.Common.{◌≡◌, true, false, List, [], ◌∷◌, Some, None, refl, inl, inr}
 use Rattle.std.specs.Prelude.{◌-◌, ◌^◌, codes}
 use Rattle.wasm_encoder_base.specs.Types.{FuncHeap}
 use Rattle.wast_words.specs.Tokens.{SignificantToken, Id, Word}
-use Rattle.wast_words.specs.Look.{this_word, this_group, join, ask}
-use Rattle.wast_words.specs.Grammar.{word, group}
+use Rattle.wast_words.specs.Look.{this_group, join, ask}
+use Rattle.wast_words.specs.Grammar.{group}
 use Rattle.wast_words.specs.Integers.{unsigned}
 use Rattle.wast_words.specs.Identifiers.{Reference, ByName, index}
-use Rattle.wast_words.proofs.GrammarLaws.{Lawful, Leads, word_laws, among_laws, seen_laws, only_laws, seq_laws, maybe_laws, either_laws, paren_laws, group_laws}
+use Rattle.wast_words.proofs.GrammarLaws.{Lawful, Leads, seen_laws, only_laws, seq_laws, maybe_laws, either_laws, group_laws}
 use Rattle.wast_words.proofs.Unread.{unread}
-use Rattle.wast_words.proofs.LeadLaws.{word_leads, paren_leads, seen_leads, among_leads, either_leads, group_leads}
+use Rattle.wast_words.proofs.LeadLaws.{seen_leads, either_leads, group_leads}
 use Rattle.wast_words.proofs.IdentifierLaws.{index_laws, index_leads}
 use Rattle.wast_words.proofs.IntegerLaws.{number_laws}
-use Rattle.wast_words.specs.WordSyntax.{keywords, keyword, optional}
+use Rattle.wast_words.specs.WordSyntax.{keywords, keyword}
 use Rattle.wast_words.proofs.WordLaws.{keyword_laws, optional_laws, keyword_leads}
 use Rattle.wast_value_types.specs.ValueTree.{Abstract, Known, Packed, I8}
-use Rattle.wast_words.specs.WordSyntax.{keywords, keyword, optional, alone}
 use Rattle.wast_value_types.specs.ValueSyntax.{number_words, heap_words, short_words, packed_words, address_words, index_starts, heap_starts, ref_starts, val_starts, mut_starts, field_starts, page_starts, u32, u64, heap_type, as_ref, ref_body, ref_type, val_type, storage_type, field_type, shared_global, global_type, address_type, limits, table_type, power_of_two, page_size, memory_type}
 
 module _ {N P : Type 0} where

@@ -1,8 +1,8 @@
 -- The syntax of the types of values, heaps, tables, memories and globals (WebAssembly 3.0, 6.4).
-use Rattle.std.specs.Prelude.{ℕ, ◌-◌, ◌^◌, ◌==◌, zero, suc, Bool, true, false, if◌then◌else◌, List, [], ◌∷◌, map, Option, Some, None, is_some, unwrap_or, codes}
+use Rattle.std.specs.Prelude.{ℕ, ◌-◌, ◌^◌, ◌==◌, zero, suc, Bool, true, false, if◌then◌else◌, List, [], ◌∷◌, Option, Some, None, is_some, unwrap_or, codes}
 use Rattle.wasm_encoder_base.specs.Types.{FuncHeap, ExternHeap, AnyHeap, EqHeap, I31Heap, StructHeap, ArrayHeap, ExnHeap, NoFuncHeap, NoExternHeap, NoneHeap, NoExnHeap}
-use Rattle.wast_words.specs.Look.{Test, On, OneOf, Any, AnInteger, AnId, AWord, this_word, this_group, join}
-use Rattle.wast_words.specs.Grammar.{Syntax, among, word, seen, only, seq, maybe, either, paren, group}
+use Rattle.wast_words.specs.Look.{Test, On, Any, AnInteger, AnId, this_group, join}
+use Rattle.wast_words.specs.Grammar.{Syntax, seen, only, seq, maybe, either, group}
 use Rattle.wast_words.specs.Integers.{number_in, unsigned}
 use Rattle.wast_words.specs.Identifiers.{index}
 use Rattle.wast_words.specs.WordSyntax.{keywords, keyword, optional}

@@ -1,5 +1,5 @@
 -- What the parts of `assemble` answer is what the input deserves.
-use Rattle.std.proofs.Common.{ℕ, ◌≡◌, ◌<◌, ◌^◌, true, false, inl, inr, Some, None, List, Result, Ok, Err, length, refl, sym, ◌∙◌, ap, arith}
+use Rattle.std.proofs.Common.{ℕ, ◌≡◌, ◌<◌, ◌^◌, true, false, inl, inr, None, List, Result, Ok, Err, length, refl, sym, ◌∙◌, ap, arith}
 use Rattle.std.specs.Prelude.{MatchResult}
 use Rattle.std.specs.Str.{IsUtf8}
 use Rattle.wast_grammar.specs.Tokens.{Name}
@@ -21,7 +21,7 @@ use Rattle.wat.specs.declared.fault.Fault.TheVariants as faults
 use Rattle.wat.specs.Unspelled.{IsUnspelled}
 use Rattle.wat.specs.Headline.{Deserves}
 use Rattle.wat.specs.NoText.{IsNoText}
-use Rattle.wat.specs.Judged.{IsEncoded, IsJudged, IsAnswered, IsTold}
+use Rattle.wat.specs.Judged.{IsJudged, IsAnswered, IsTold}
 
 pub no_text : (bytes : List ℕ) (f : Fault) → IsNoText bytes f → Deserves bytes f
 no_text bytes faults.TooLong t = t

@@ -1,4 +1,4 @@
-use Rattle.std.proofs.Common.{◌≡◌, ◌<◌, map, length, slice_index_or, arith}
+use Rattle.std.proofs.Common.{◌≡◌, ◌<◌, length, slice_index_or, arith}
 use Rattle.wasm_layout.specs.IsModule.{IsU32}
 use Rattle.wast_parser.specs.Identifiers.{index_tree}
 use Rattle.wast_conversions.specs.Types.{number_of}

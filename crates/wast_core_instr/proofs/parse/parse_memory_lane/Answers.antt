@@ -1,4 +1,4 @@
-use Rattle.std.proofs.Common.{◌≡◌, ℕ, Some, sym, subst, ap, ◌∙◌}
+use Rattle.std.proofs.Common.{◌≡◌, Some, sym, subst, ap, ◌∙◌}
 use Rattle.wasm_encoder_base.specs.OperandSyntax.{MemLane}
 use Rattle.wast_typed_operands.specs.State.{ahead}
 use Rattle.wast_typed_operands.specs.Reading.{Refuses}

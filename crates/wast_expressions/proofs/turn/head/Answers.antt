@@ -1,6 +1,6 @@
 use Rattle.std.proofs.Common.{◌∷◌, ap, sym, ◌∙◌}
 use Rattle.wast_expressions.specs.Machine as machine
-use Rattle.wast_expressions.specs.Machine.{headed, state, open_group}
+use Rattle.wast_expressions.specs.Machine.{headed, state}
 use Rattle.wast_expressions.specs.Partial.{Partial}
 use Rattle.wast_expressions.specs.declared.stack.Level.TheVariants as levels
 use Rattle.wast_expressions.specs.Views.{here, kind_of, levels_tree, out_tree}
