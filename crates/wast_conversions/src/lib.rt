@@ -4,7 +4,8 @@
 //! covered, in which no form stands that has no bytes here. It answers the encoder's value, or the number, that the tree stands for:
 //! [`val_type`] the type of values of `(ref null 3)`, [`table_arg`] 0 where no table is written, [`instruction`] `i32.const -1` of
 //! `i32.const 0xffffffff`. What makes lists takes an allocator, and is refused only for want of memory, but for [`const_expr`] and
-//! [`push_instruction`]: they write instructions, and refuse a count in them past 4294967295 too.
+//! [`push_instruction`]: they write instructions, and refuse a count in them past 4294967295 too. [`push_encoded`] takes an
+//! instruction of the encoder, and [`as_u32`] a count, a place or an index of any size, and refuses one past 4294967295.
 //!
 //! An alignment becomes its logarithm. It can be encoded where it is a power of two below 65536.
 //!
