@@ -1,5 +1,5 @@
 -- Instructions of proposals that a text may have and that are refused as uncovered: mnemonic and what stands after it, no opcode.
-use Rattle.std.specs.Prelude.{ℕ, List, [], ◌∷◌, ◌++◌, codes, map}
+use Rattle.std.specs.Prelude.{ℕ, List, ◌∷◌, ◌++◌, codes, map}
 use Prim.Native.String.{String}
 use Rattle.wasm_encoder_base.specs.OperandSyntax.{OperandSyntax, Types, Tables, Memories, Globals, Tags, Fields}
 use Rattle.wasm_encoder_base.specs.OperandSyntax as syntax

@@ -1,5 +1,5 @@
 -- Custom sections, fields of producers and hints are told apart by their bytes.
-use Rattle.std.proofs.Common.{[], ◌++◌, refl, append_assoc}
+use Rattle.std.proofs.Common.{◌++◌, refl}
 use Rattle.wasm_encoder_base.specs.Unique.{Unique, Injective, Any}
 use Rattle.wasm_encoder_base.proofs.UniqueBytes.{unique_list, unique_name, unique_sized}
 use Rattle.wasm_encoder_base.proofs.UniqueLeb.{unique_uleb}

@@ -1,7 +1,6 @@
 -- The laws that the crate's law functions prove: what is added to a section is told apart by its bytes, whatever follows.
-use Rattle.std.specs.Prelude.{ℕ, List}
 use Rattle.std.specs.List.{AllByRecursion}
-use Rattle.wasm_encoder_base.specs.Unique.{Unique, Injective, Any}
+use Rattle.wasm_encoder_base.specs.Unique.{Unique, Any}
 use Rattle.wasm_encoder_custom.specs.BranchHints.{function_hints_bytes}
 use Rattle.wasm_encoder_custom.specs.CoreDump.{Frame, IsValue, value_bytes, named_bytes, instance_bytes, frame_bytes}
 use Rattle.wasm_encoder_custom.specs.Custom.{custom_bytes}

@@ -1,8 +1,8 @@
 -- What the encoder's instructions are: an opcode of the table and its operands (WebAssembly 3.0, 5.4).
-use Rattle.std.specs.Prelude.{◌<◌, ◌^◌, [], ◌∷◌, length, map, ℕ, List, codes}
+use Rattle.std.specs.Prelude.{◌<◌, ◌^◌, [], ◌∷◌, map, ℕ, List, codes}
 use Rattle.wasm_encoder_base.specs.Ieee.{ieee32_bits, ieee64_bits}
 use Rattle.wasm_encoder_base.specs.Leb.{uleb}
-use Rattle.wasm_encoder_base.specs.Instr.{Instr, Operands, NoOperands, Index, Indirect, LabelTable, Block, TryTable, ValTypes, I32, I64, F32, F64, Memory, Fence, counts_fit}
+use Rattle.wasm_encoder_base.specs.Instr.{Instr, NoOperands, Index, Indirect, LabelTable, Block, TryTable, ValTypes, I32, I64, F32, F64, Memory, Fence, counts_fit}
 use Rattle.wasm_encoder_base.specs.Views.{val_view}
 use Rattle.wasm_encoder_instr.specs.Block.{block_view}
 use Rattle.wasm_encoder_instr.specs.Catch.{catch_view}

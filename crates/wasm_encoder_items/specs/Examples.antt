@@ -1,7 +1,7 @@
 -- Items of sections and their bytes, by hand.
 use Rattle.std.specs.Prelude.{◌≡◌, codes, true, false, [], ◌∷◌, Some, None}
 use Rattle.wasm_encoder_base.specs.Types.{I32Type, Abstract, FuncHeap, ExternHeap, Function}
-use Rattle.wasm_encoder_items.specs.EntityTypes.{FunctionEntity, GlobalEntity, limits_bytes, entity_bytes}
+use Rattle.wasm_encoder_items.specs.EntityTypes.{FunctionEntity, GlobalEntity, limits_bytes}
 use Rattle.wasm_encoder_items.specs.Imports.{One, OfModule, OfType, imports_bytes, MemoryExport, export_bytes}
 use Rattle.wasm_encoder_items.specs.Segments.{ended, ActiveTableFunctions, ActiveExpressions, ActiveTableExpressions, element_bytes, ActiveData, data_bytes, WithInit, table_item, global_item}
 use Rattle.wasm_encoder_items.specs.TypeEntries.{TypeGroup, entry_bytes}

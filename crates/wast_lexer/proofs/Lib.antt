@@ -10,8 +10,8 @@ pub mod TilingLaws
 pub mod Searches
 pub mod CommentSteps
 pub mod WordSteps
+pub mod StringSteps
 pub mod Clean
-pub mod ByteTable
 pub mod Cuts
 pub mod Ends
 pub mod TokenTextLaws

@@ -28,7 +28,7 @@ skip_front p [] [] all stops = refl
 skip_front p [] (c ∷ r) all stops = rw stops refl
 skip_front p (c ∷ w) r all stops = let both = and_true (p c) (list_all p w) all in rw both.0 (skip_front p w r both.1 stops)
 
-front_of : (w r : List ℕ) → front (w ++ r) r ≡ w
+pub front_of : (w r : List ℕ) → front (w ++ r) r ≡ w
 front_of w r = let n : length (w ++ r) - length r ≡ length w = omega (arith, length-append w r) in rw n (take-append_seam w r)
 
 mark_is : (c : ℕ) → is_mark c ≡ true → (is_space c ≡ false) × (is_open c ≡ false) × (is_close c ≡ false) × (is_semicolon c ≡ false)
@@ -80,7 +80,7 @@ word_begins allow opened k (c ∷ w) rest r some follow kind clean =
     ∙ ap (word_token allow opened (c ∷ (w ++ rest))) (word_complete r rest follow)
     ∙ word_token_of allow opened k (c ∷ w) rest kind clean
 
-plain_marked : (opened : Bool) (w : List ℕ) (k : TokenKind) → false ≡ (opened && starts is_at w) → plain_kind w ≡ k → kind_of opened w ≡ Some k
+pub plain_marked : (opened : Bool) (w : List ℕ) (k : TokenKind) → false ≡ (opened && starts is_at w) → plain_kind w ≡ k → kind_of opened w ≡ Some k
 plain_marked opened w k m e = rw (← m) (ap (λ (i : TokenKind). let o : Option TokenKind = Some i in o) e)
 
 number_begins : (allow opened : Bool) (k : NumberKind) (w rest : List ℕ) → IsNumber k w → w ≢ [] → starts goes_on rest ≡ false → false ≡ (opened && starts is_at w) → next allow opened (w ++ rest) ≡ Some (number_token k, rest)

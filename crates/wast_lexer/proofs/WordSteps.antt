@@ -49,7 +49,7 @@ module _ (text : List ℕ) (start : Option (List ℕ)) (at to : ℕ) (so : start
   part_string q end r e rest = part_quote q ∙ ap word_behind e ∙ ap (after_word None) rest
 
 -- a word, and what the scan makes of it
-front_range : (text : List ℕ) (at end : ℕ) → at ≤ end → end ≤ length text → front (drop at text) (drop end text) ≡ slice_range text at end
+pub front_range : (text : List ℕ) (at end : ℕ) → at ≤ end → end ≤ length text → front (drop at text) (drop end text) ≡ slice_range text at end
 front_range text at end low high = ap (λ n. take n (drop at text)) (omega (arith, length-drop at text, length-drop end text))
 
 pub word_at : (allow opened : Bool) (text : List ℕ) (at end : ℕ) → at < length text → goes_on (get_or text at 0) ≡ true → at ≤ end → end ≤ length text → after_word None (drop at text) ≡ Some (drop end text)

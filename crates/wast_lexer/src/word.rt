@@ -24,10 +24,51 @@ pub(crate) fn scan_word(
     requires begins { goes_on (slice_index text.now at) ≡ true }
     ensures { FindsToken result text.now at (next allow opened (drop at text.now)) }
 {
+    if text[at] == b'"' {
+        return scan_string(text, at, allow, opened);
+    }
     let name = name_end(text, at);
     if at < name && !is_quote_at(text, name) {
         return scan_name(text, at, name, allow, opened);
     }
+    scan_parts(text, at, allow, opened)
+}
+
+/// A word that begins with a string.
+fn scan_string(
+    text: &[u8],
+    at: usize,
+    allow: bool,
+    opened: bool,
+) -> Result<(TokenKind, usize), LexError>
+    requires inside { at < length text.now }
+    requires quote { slice_index text.now at ≡ 34 }
+    ensures { FindsToken result text.now at (next allow opened (drop at text.now)) }
+{
+    let end = match string_end(text, at + 1) {
+        Ok(end) => end,
+        Err(error) => return Err(error),
+    };
+    if goes_on_at(text, end) {
+        return scan_parts(text, at, allow, opened);
+    }
+    if !may_stand(&text[at..end], allow) {
+        return Err(LexError::ConfusingUnicode);
+    }
+    Ok((TokenKind::String, end))
+}
+
+/// A word of several parts.
+fn scan_parts(
+    text: &[u8],
+    at: usize,
+    allow: bool,
+    opened: bool,
+) -> Result<(TokenKind, usize), LexError>
+    requires inside { at < length text.now }
+    requires begins { goes_on (slice_index text.now at) ≡ true }
+    ensures { FindsToken result text.now at (next allow opened (drop at text.now)) }
+{
     let end = match word_end(text, at) {
         Ok(end) => end,
         Err(error) => return Err(error),
@@ -204,6 +245,13 @@ pub(crate) fn is_quote_at(text: &[u8], at: usize) -> bool
     ensures within { IsTrue result → at < length text.now }
 {
     at < text.len() && text[at] == b'"'
+}
+
+fn goes_on_at(text: &[u8], at: usize) -> bool
+    requires { at ≤ length text.now }
+    ensures { result ≡ starts goes_on (drop at text.now) }
+{
+    at < text.len() && goes_on(text[at])
 }
 
 pub(crate) fn goes_on(byte: u8) -> bool

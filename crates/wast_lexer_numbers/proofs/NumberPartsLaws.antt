@@ -9,11 +9,9 @@ use Rattle.wast_lexer_numbers.specs.declared.kind.SignToken.{SignToken}
 use Rattle.wast_lexer_numbers.specs.declared.kind.FloatKind.TheVariants.{Normal}
 use Rattle.wast_lexer_numbers.specs.declared.kind.NumberKind.{NumberKind}
 use Rattle.wast_lexer_numbers.specs.declared.kind.NumberKind.TheVariants.{Float}
-use Rattle.wast_lexer_numbers.specs.declared.parts.Float.{Float as FloatParts}
 use Rattle.wast_lexer_numbers.specs.declared.parts.Float.TheVariants as parts
-use Rattle.wast_lexer_numbers.specs.Numbers.{Digits, IsMagnitude, IsNumber, inf, nan, nan_prefix, sign_text, base_text}
-use Rattle.wast_lexer_numbers.specs.NumberParts.{IsFloatOf, text_now}
-use Rattle.wast_lexer_numbers.specs.FloatSteps.{IsValOf, is_point_first, is_ascii}
+use Rattle.wast_lexer_numbers.specs.Numbers.{Digits, IsNumber, inf, nan, nan_prefix, sign_text, base_text}
+use Rattle.wast_lexer_numbers.specs.FloatSteps.{is_point_first, is_ascii}
 use Rattle.wast_lexer_numbers.specs.NumberScan.{after, prefixed, sign_of, unsigned, is_all, ends_power, ends_fraction, float_if, magnitude, nan_if, based, payload, body}
 use Rattle.std.specs.Str.{IsUtf8, IsCharBoundary}
 use Rattle.std.proofs.lemmas.Str.{IsCharBoundary-after_ascii}

@@ -12,7 +12,7 @@ use Rattle.wast_grammar.specs.Grammar.{one_of}
 use Rattle.wast_grammar.proofs.Looks.{some_one}
 use Rattle.wast_grammar.proofs.SignificantLaws.{lparen_kind}
 use Rattle.wast_parser_core.specs.Kinds.{is_rparen}
-use Rattle.wast_parser_core.specs.State.{State, ahead, IsNext, past, front}
+use Rattle.wast_parser_core.specs.State.{State, ahead, IsNext, past}
 
 -- BEHIND IT
 past_token : (k : TokenKind) (w : List ℕ) (p : ℕ) (ts : List TextToken) → is_trivia k ≡ false → past (token_of k w p ++ ts) ≡ ts

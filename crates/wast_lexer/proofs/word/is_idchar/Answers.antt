@@ -1,6 +1,6 @@
 use Rattle.std.proofs.Common.{◌∙◌, ap, arith, false, ◌≡◌, ◌+◌}
 use Rattle.wast_lexer.specs.Kinds.{is_idchar}
-use Rattle.wast_lexer.proofs.ByteTable.{upto_is}
+use Rattle.wast_lexer_strings.proofs.ByteTable.{upto_is}
 use Rattle.wast_lexer.proofs.word.is_idchar.Goals as goal
 
 pub returns : goal.returns

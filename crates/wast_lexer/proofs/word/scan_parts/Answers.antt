@@ -1,7 +1,7 @@
 use Rattle.std.proofs.Common.{sym, ◌∙◌, ap, drop}
 use Rattle.std.specs.Prelude.{option_map}
 use Rattle.wast_lexer.proofs.WordSteps.{word_fails, word_moves, word_dirty, word_clean}
-use Rattle.wast_lexer.proofs.word.scan_word.Goals as goal
+use Rattle.wast_lexer.proofs.word.scan_parts.Goals as goal
 
 pub returns-in-Err : goal.returns-in-Err
 returns-in-Err c = word_fails c.args.allow c.args.opened c.args.text.now c.args.at c.requires.inside c.requires.begins c.in-Err.ensures
