@@ -1,5 +1,5 @@
 //! Lists in parts.
-ghost use Rattle.std.specs.Prelude.{◌≡◌, ◌++◌, IfOk, OnOk};
+ghost use Rattle.std.specs.Prelude.{◌≡◌, ◌++◌, IfOk, OnOk, vec_len};
 ghost use Rattle.std.specs.List.{flat_map};
 
 use crate::group::Grouped;
@@ -18,12 +18,27 @@ pub fn join<N: Drop, T: Drop>(
 ) -> Result<Vec<T>, AllocError>
     ensures { IfOk result (λ all. all.items ≡ flat_map (λ g. g.value.items.items) groups.items) }
 {
+    if groups.len() == 1 {
+        return Ok(only(alloc, groups));
+    }
     let mut all = Vec::new(alloc);
     for group in groups {
         append(&mut all, group.value.items)?;
     }
     all.shrink_to_fit();
     Ok(all)
+}
+
+/// The items of the only group.
+fn only<N: Drop, T: Drop>(alloc: Global, groups: Vec<Grouped<N, Several<T>>>) -> Vec<T>
+    requires { vec_len groups ≡ 1 }
+    ensures { result.items ≡ flat_map (λ g. g.value.items.items) groups.items }
+{
+    let mut groups = groups;
+    match groups.pop() {
+        Some(group) => group.value.items,
+        None => Vec::new(alloc),
+    }
 }
 
 /// Adds items at the end.
