@@ -36,7 +36,11 @@ fn only<N: Drop, T: Drop>(alloc: Global, groups: Vec<Grouped<N, Several<T>>>) ->
 {
     let mut groups = groups;
     match groups.pop() {
-        Some(group) => group.value.items,
+        Some(group) => {
+            let mut items = group.value.items;
+            items.shrink_to_fit();
+            items
+        }
         None => Vec::new(alloc),
     }
 }
