@@ -59,6 +59,10 @@ impl<'a> Body for StructType<'a> {
     ghost plain = { refl };
 
     ghost ended = { refl };
+
+    fn expected_behind(&self) -> &'static str {
+        "expected `(field` or `)`"
+    }
 }
 
 /// The type of an array's elements (6.4.6), and whether they may be written.

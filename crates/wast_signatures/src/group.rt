@@ -2,12 +2,15 @@
 ghost use Rattle.std.specs.Prelude.{◌≡◌, ℕ, List, [], ◌∷◌, Option, Some, false, option_map, refl};
 ghost use Rattle.wast_value_types.specs.Significant.{TextToken};
 ghost use Rattle.wast_value_types.specs.Look.{any_end, ask, this_group};
-ghost use Rattle.wast_value_types.specs.Grammar.{Syntax, group, led};
+ghost use Rattle.wast_value_types.specs.Grammar.{Syntax, group};
 ghost use Rattle.wast_value_types.specs.State.{ahead, Keeps};
 ghost use Rattle.wast_value_types.specs.Reading.{Asks, Gives};
 
 use std::marker::PhantomData;
-use wast_value_types::{Cursor, Error, Item, Keyword, KeywordName, Meaning, Parse, Parser, Peek};
+use wast_value_types::{
+    Cursor, Error, Item, Keyword, KeywordName, LParen, Meaning, Parse, Parser, Peek, RParen,
+};
+use wast_words::required;
 
 /// What may stand in a group behind its word: some tokens spell one, it goes on no further where the group ends, and it
 /// registers no annotation.
@@ -15,6 +18,11 @@ pub trait Body: Meaning {
     /// Some tokens spell one.
     fn spelled()
         ensures { (a : Self.Tree) × (us : List TextToken) × Self.syntax.spells a us };
+
+    /// What is said where neither more of this one nor the end of its group is read.
+    fn expected_behind(&self) -> &'static str {
+        "expected `)`"
+    }
 
     ghost plain: { Self.registers ≡ [] };
 
@@ -42,9 +50,12 @@ impl<N: KeywordName, T: Body> Meaning for Grouped<N, T> {
 
 impl<'a, N: KeywordName, T: Parse<'a> + Body> Parse<'a> for Grouped<N, T> {
     fn parse(parser: &mut Parser<'a>) -> Result<Self, Error> {
-        let led: Led<N, T> = parser.parens_of()?;
+        LParen::parse(parser)?;
+        Keyword::<N>::parse(parser)?;
+        let value: T = plain(parser)?;
+        required::<RParen>(parser, value.expected_behind())?;
         Ok(Grouped {
-            value: led.value,
+            value,
             of: PhantomData,
         })
     }
@@ -80,36 +91,6 @@ pub fn value_of<N: Drop, T>(group: Option<Grouped<N, T>>) -> Option<T>
     match group {
         Some(group) => Some(group.value),
         None => None,
-    }
-}
-
-/// What stands between the parentheses of a group.
-#[derive(Drop)]
-struct Led<N, T> {
-    value: T,
-    of: PhantomData<N>,
-}
-
-impl<N: KeywordName, T: Body> Meaning for Led<N, T> {
-    ghost Tree = { T.Tree };
-
-    ghost tree = { λ g. T.tree g.value };
-
-    ghost syntax = { led N.word T.syntax };
-
-    fn lawful() {
-        T::lawful();
-    }
-}
-
-impl<'a, N: KeywordName, T: Parse<'a> + Body> Parse<'a> for Led<N, T> {
-    fn parse(parser: &mut Parser<'a>) -> Result<Self, Error> {
-        Keyword::<N>::parse(parser)?;
-        let value = plain(parser)?;
-        Ok(Led {
-            value,
-            of: PhantomData,
-        })
     }
 }
 

@@ -86,6 +86,14 @@ impl<'a> Body for FunctionType<'a> {
     ghost plain = { refl };
 
     ghost ended = { refl };
+
+    fn expected_behind(&self) -> &'static str {
+        if self.results.is_empty() {
+            "expected `(param`, `(result` or `)`"
+        } else {
+            "expected `(result` or `)`"
+        }
+    }
 }
 
 /// A signature that is written without identifiers and names.
@@ -185,6 +193,14 @@ impl<'a> Body for Several<Param<'a>> {
     ghost plain = { refl };
 
     ghost ended = { refl };
+
+    fn expected_behind(&self) -> &'static str {
+        match self.items.first() {
+            None => "expected an identifier, a value type or `)`",
+            Some((None, None, _)) => "expected a value type or `)`",
+            Some(_) => "expected `)`",
+        }
+    }
 }
 
 /// One parameter with a name and no identifier, or any number without either.
@@ -269,4 +285,8 @@ impl<'a> Body for Several<ValType<'a>> {
     ghost plain = { refl };
 
     ghost ended = { refl };
+
+    fn expected_behind(&self) -> &'static str {
+        "expected a value type or `)`"
+    }
 }

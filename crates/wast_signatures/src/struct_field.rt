@@ -58,6 +58,14 @@ impl<'a> Body for Several<StructField<'a>> {
     ghost plain = { refl };
 
     ghost ended = { refl };
+
+    fn expected_behind(&self) -> &'static str {
+        match self.items.first() {
+            None => "expected an identifier, a field type or `)`",
+            Some(StructField { id: None, .. }) => "expected a field type or `)`",
+            Some(_) => "expected `)`",
+        }
+    }
 }
 
 /// A field with an identifier, alone.
