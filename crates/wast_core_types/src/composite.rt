@@ -19,7 +19,7 @@ ghost use Rattle.wast_core_types.specs.Depths.{closed, opened, within};
 use crate::keyword;
 use std::alloc::AllocError;
 use wast_parser::{
-    Error, Index, Keyword, KeywordName, LParen, Meaning, Parse, Parser, RParen, list_of,
+    Error, Index, Keyword, KeywordName, LParen, Meaning, Parse, Parser, RParen, list_of, required,
 };
 use wast_signatures::{Body, FunctionType, Grouped, Several, StructField, join_groups as join};
 use wast_value_types::keyword::Shared;
@@ -169,7 +169,10 @@ impl<'a> Parse<'a> for InnerTypeKind<'a> {
             let group: Grouped<keyword::Array, ArrayType> = parser.parse()?;
             Ok(InnerTypeKind::Array(group.value))
         } else {
-            let group: Grouped<keyword::Cont, ContType> = parser.parse()?;
+            let group: Grouped<keyword::Cont, ContType> = required(
+                parser,
+                "expected `(func`, `(struct`, `(array` or `(cont`",
+            )?;
             Ok(InnerTypeKind::Cont(group.value))
         }
     }

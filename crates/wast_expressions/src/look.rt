@@ -44,6 +44,18 @@ impl<I: Operation> Peek for Word<I> {
     }
 }
 
+/// The word that leads the first arm of an `if`.
+#[derive(Drop)]
+pub(crate) struct Then;
+
+impl KeywordName for Then {
+    ghost word = { codes "then" };
+
+    fn text() -> &'static str {
+        "then"
+    }
+}
+
 /// The word that leads the second arm of an `if`.
 #[derive(Drop)]
 pub(crate) struct Else;

@@ -7,7 +7,7 @@ ghost use Rattle.wast_parser.specs.Reading.{Gives, Refuses};
 ghost use Rattle.wast_parser.specs.Cursors.{stands, Follows};
 ghost use Rattle.wast_expressions.specs.Views.{Passes, arm_word};
 
-use wast_parser::{Cursor, Error, Parser, Span};
+use wast_parser::{Cursor, Error, Keyword, KeywordName, LParen, Parser, Span, required};
 
 /// Takes a parenthesis that opens; answers where it stands.
 pub(crate) fn open(parser: &mut Parser<'_>) -> Result<Span, Error>
@@ -33,15 +33,19 @@ pub(crate) fn close(parser: &mut Parser<'_>) -> Result<Span, Error>
     }
 }
 
-/// Takes a parenthesis that opens, and this word behind it; answers where the word stands.
-pub(crate) fn open_word(parser: &mut Parser<'_>, text: &str) -> Result<Span, Error>
-    ensures read { Gives (λ s. s) result parser.new (arm_word text.now (ahead parser.old)) }
+/// Takes a parenthesis that opens, and the word `N` behind it; answers where the word stands. The messages tell what is expected
+/// where no parenthesis opens, and where another word stands.
+pub(crate) fn open_word<N: KeywordName>(
+    parser: &mut Parser<'_>,
+    group: &str,
+    word: &str,
+) -> Result<Span, Error>
+    ensures read { Gives (λ s. s) result parser.new (arm_word N.word (ahead parser.old)) }
     ensures keeps { Keeps parser.old parser.new }
 {
-    match open(parser) {
-        Ok(_) => parser.word(text),
-        Err(e) => Err(e),
-    }
+    required::<LParen>(parser, group)?;
+    let word = required::<Keyword<N>>(parser, word)?;
+    Ok(word.span)
 }
 
 fn take_open<'b, 'a>(cursor: Cursor<'b, 'a>) -> Result<((), Cursor<'b, 'a>), Error>

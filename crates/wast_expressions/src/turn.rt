@@ -10,7 +10,7 @@ ghost use Rattle.wast_expressions.specs.declared.stack.Level.TheVariants as leve
 ghost use Rattle.wast_expressions.specs.Views.{here, kind_of, level_tree, levels_tree, out_tree, Turns};
 
 use crate::hint::hint;
-use crate::look::{Else, peek_group, peek_led};
+use crate::look::{Else, Then, peek_group, peek_led};
 use crate::operation::{
     GroupKind, MadeKind, Operation, ParseOperation, make, parse_head, parse_operation,
 };
@@ -257,7 +257,11 @@ fn then_arm<'a, I: ParseOperation<'a>>(
     let Some(hint) = joined(outer, inner) else {
         return Err(parser.error("expected one branch hint"));
     };
-    match open_word(parser, "then") {
+    match open_word::<Then>(
+        parser,
+        "expected a folded instruction or `(then`",
+        "expected an instruction or `then`",
+    ) {
         Ok(_) => match work.push(hint, instr) {
             Ok(()) => arm(Level::AfterThen, work),
             Err(e) => Err(e),
@@ -311,7 +315,7 @@ fn else_arm<'a, I: ParseOperation<'a>>(
     ensures gives { Turns result (else_turn I.syntax I.heads I.made (levels_tree I.tree work.old.stack) (out_tree I.tree work.old.out) (ahead parser.old)) (here I.tree work.new (ahead parser.new)) }
     ensures keeps { Keeps parser.old parser.new }
 {
-    match open_word(parser, "else") {
+    match open_word::<Else>(parser, "expected `(else`", "expected `else`") {
         Ok(span) => {
             let instr = make(parser, MadeKind::Else, span);
             match work.push(None, instr) {

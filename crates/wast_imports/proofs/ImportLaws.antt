@@ -2,7 +2,7 @@
 use Rattle.std.proofs.Common.{ℕ, true, List, [], Option, Some, None, refl, codes}
 use Rattle.wast_signatures.specs.Look.{join}
 use Rattle.wast_signatures.specs.Lawful.{Lawful}
-use Rattle.wast_signatures.specs.Grammar.{Syntax, among, next, seq, wide}
+use Rattle.wast_signatures.specs.Grammar.{Syntax, among, maybe, next, seq, wide}
 use Rattle.wast_signatures.specs.Productions.{name}
 use Rattle.wast_signatures.proofs.GrammarLaws.{among_laws, word_laws, nothing_laws, next_laws, seq_laws, seen_laws, maybe_laws, many_laws, either_laws, group_laws, paren_laws, bound_laws}
 use Rattle.wast_signatures.proofs.IntegerLaws.{name_laws}
@@ -74,8 +74,11 @@ module _ {N P : Type 0} where
   pub member_name_laws : Lawful (member_name {N = N} {P = P})
   member_name_laws = group_laws (codes "item") _ name_laws refl
 
-  first_member_laws : Lawful (first_member {N = N} {P = P})
-  first_member_laws = group_laws (codes "item") _ (seq_laws _ _ name_laws (maybe_laws item_starts _ item_laws refl refl refl) refl) refl
+  pub first_parts_laws : Lawful (seq {N = N} {P = P} name (maybe item_starts item))
+  first_parts_laws = seq_laws _ _ name_laws (maybe_laws item_starts _ item_laws refl refl refl) refl
+
+  pub first_member_laws : Lawful (first_member {N = N} {P = P})
+  first_member_laws = group_laws (codes "item") _ first_parts_laws refl
 
   rest_laws : (first : List ℕ × Option (Item N P)) → Lawful (wide rest_starts true rest_stops (with_rest first))
   rest_laws (n, Some i) = bound_laws _ _ _ (seen_laws _ _ (many_laws member_starts _ member_laws refl refl refl refl refl)) refl refl

@@ -4,7 +4,7 @@ use Rattle.std.proofs.lemmas.Str.{is_utf8-from_IsUtf8, IsUtf8-nil}
 use Rattle.wast_signatures.specs.Tokens.{SignificantToken, Literal, Open, Close, Word, Integer, Text}
 use Rattle.wast_signatures.specs.Look.{join}
 use Rattle.wast_signatures.specs.Lawful.{Leads}
-use Rattle.wast_signatures.specs.Grammar.{Syntax, among, seq}
+use Rattle.wast_signatures.specs.Grammar.{Syntax, among, maybe, seq}
 use Rattle.wast_signatures.specs.Productions.{name}
 use Rattle.wast_signatures.proofs.LeadLaws.{among_leads, seen_leads, next_leads, paren_leads, group_leads}
 use Rattle.wast_signatures.proofs.IntegerLaws.{name_laws}
@@ -13,8 +13,8 @@ use Rattle.wast_value_types.specs.ValueSyntax.{as_limits, as_table, as_memory, a
 use Rattle.wast_signatures.specs.TypeSyntax.{type_use, as_use}
 use Rattle.wast_exports.specs.Exports.{ExportKind, Func, Table, Memory, Global, Tag, export_word, export_kinds, kind_starts}
 use Rattle.wast_imports.specs.ImportTree.{OfFunc, OfTable, OfMemory, OfGlobal, OfTag}
-use Rattle.wast_imports.specs.ImportSyntax.{item_starts, member_starts, head, extern_type, extern_starts, extern_stops, as_item, item_body, item, member, member_name}
-use Rattle.wast_imports.proofs.ImportLaws.{item_parts_laws, item_body_laws, named_laws}
+use Rattle.wast_imports.specs.ImportSyntax.{item_starts, member_starts, head, extern_type, extern_starts, extern_stops, as_item, item_body, item, member, member_name, first_member}
+use Rattle.wast_imports.proofs.ImportLaws.{item_parts_laws, item_body_laws, named_laws, first_parts_laws}
 
 abbrev zero_literal : Literal
 zero_literal = record { minus = false; size = 0 }
@@ -79,6 +79,9 @@ module _ {N P : Type 0} where
   named_spelled : P → Spelled (seq name item)
   named_spelled p = let s = item_spelled p in (([], s.0), Text [] p ∷ s.1, (Text [] p ∷ [], s.1, refl, empty_name p, s.2))
 
+  first_spelled : P → Spelled (seq name (maybe item_starts item))
+  first_spelled p = (([], None), Text [] p ∷ [], (Text [] p ∷ [], [], refl, empty_name p, refl))
+
   -- WHERE THEY BEGIN
   pub item_leads : P → Leads (item {N = N} {P = P}).spells item_starts
   item_leads p =
@@ -91,3 +94,6 @@ module _ {N P : Type 0} where
 
   pub member_name_leads : P → Leads (member_name {N = N} {P = P}).spells member_starts
   member_name_leads p = group_leads (codes "item") name name_laws [] (Text [] p ∷ []) (empty_name p)
+
+  pub first_member_leads : P → Leads (first_member {N = N} {P = P}).spells member_starts
+  first_member_leads p = let s = first_spelled p in group_leads (codes "item") (seq name (maybe item_starts item)) first_parts_laws s.0 s.1 s.2

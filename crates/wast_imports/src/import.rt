@@ -7,7 +7,7 @@ ghost use Rattle.wast_signatures.specs.Lawful.{Lawful};
 ghost use Rattle.wast_signatures.specs.State.{ahead, Keeps};
 ghost use Rattle.wast_signatures.specs.Reading.{Gives};
 ghost use Rattle.wast_imports.specs.ImportTree as spec;
-ghost use Rattle.wast_imports.specs.ImportSyntax.{first_member, with_rest, import_group, import_items, imports};
+ghost use Rattle.wast_imports.specs.ImportSyntax.{with_rest, import_group, import_items, imports};
 ghost use Rattle.wast_imports.specs.ImportViews.{item_tree, from_of, items_tree, imports_tree, sigs_of, unique_sigs_of, with_unique_sig};
 ghost use Rattle.wast_imports.specs.declared.import.ImportItems.TheVariants as items;
 
@@ -17,6 +17,7 @@ use std::alloc::{AllocError, Global};
 use std::borrow::CowStr;
 use std::mem::replace;
 use wast_signatures::{Error, LParen, Meaning, Parse, Parser, RParen, Span, list_of};
+use wast_words::required;
 
 /// What is imported from a module (6.6, imports).
 ///
@@ -77,6 +78,13 @@ pub struct ImportGroup1Item<'a> {
 #[derive(Drop)]
 pub struct ImportGroup2Item<'a> {
     pub name: CowStr<'a, Global>,
+}
+
+/// The first member of a group, which says of what it is where each of them does.
+#[derive(Drop)]
+pub(crate) struct FirstItem<'a> {
+    pub(crate) name: CowStr<'a, Global>,
+    pub(crate) sig: Option<ItemSig<'a>>,
 }
 
 impl<'a> Imports<'a> {
@@ -199,26 +207,12 @@ fn parse_group<'a>(
     ensures from { IfOk result (λ i. from_of i ≡ cow_str_bytes «module».entry) }
     ensures keeps { Keeps parser.old parser.new }
 {
-    let (name, sig) = parse_first(parser)?;
+    let first: Member<FirstItem<'a>> = required(parser, "expected a string or `(item`")?;
+    let FirstItem { name, sig } = first.item;
     match sig {
         Some(sig) => parse_members(parser, module, ImportGroup1Item { name, sig }),
         None => parse_names(parser, module, ImportGroup2Item { name }),
     }
-}
-
-/// Reads the first member of a group.
-fn parse_first<'a>(
-    parser: &mut Parser<'a>,
-) -> Result<(CowStr<'a, Global>, Option<ItemSig<'a>>), Error>
-    ensures read { Gives (λ m. (cow_str_bytes m.0, option_map item_tree m.1)) result parser.new (first_member.reads (ahead parser.old)) }
-    ensures keeps { Keeps parser.old parser.new }
-{
-    LParen::parse(parser)?;
-    parser.word("item")?;
-    let name = parser.name()?;
-    let sig = Option::parse(parser)?;
-    RParen::parse(parser)?;
-    Ok((name, sig))
 }
 
 /// Reads the members behind the first, each with its item.

@@ -1,5 +1,6 @@
 //! Members of groups of imports.
-ghost use Rattle.std.specs.Prelude.{◌≡◌, ℕ, List, [], ◌∷◌, IfOk, map, false, refl};
+ghost use Rattle.std.specs.Prelude.{◌≡◌, ℕ, List, [], ◌∷◌, Option, IfOk, map, option_map, false, refl};
+ghost use Rattle.std.specs.Cow.{cow_str_bytes};
 ghost use Rattle.wast_signatures.specs.Tokens.{Name};
 ghost use Rattle.wast_signatures.specs.Look.{ask};
 ghost use Rattle.wast_signatures.specs.Lawful.{Lawful, Leads};
@@ -7,10 +8,10 @@ ghost use Rattle.wast_signatures.specs.State.{ahead};
 ghost use Rattle.wast_signatures.specs.Reading.{Asks};
 ghost use Rattle.wast_signatures.specs.Cursors.{stands};
 ghost use Rattle.wast_imports.specs.ImportTree as spec;
-ghost use Rattle.wast_imports.specs.ImportSyntax.{member_starts, member, member_name};
-ghost use Rattle.wast_imports.specs.ImportViews.{member_tree, member_name_tree};
+ghost use Rattle.wast_imports.specs.ImportSyntax.{member_starts, member, member_name, first_member};
+ghost use Rattle.wast_imports.specs.ImportViews.{item_tree, member_tree, member_name_tree};
 
-use crate::import::{ImportGroup1Item, ImportGroup2Item};
+use crate::import::{FirstItem, ImportGroup1Item, ImportGroup2Item};
 use crate::item::ItemSig;
 use std::alloc::{AllocError, Global};
 use wast_signatures::{Cursor, Error, Item, LParen, Meaning, Parse, Parser, Peek, RParen};
@@ -116,6 +117,51 @@ impl<'a> Peek for Member<ImportGroup2Item<'a>> {
 
 impl<'a> Item for Member<ImportGroup2Item<'a>> {
     ghost inside = { refl };
+}
+
+impl<'a> Meaning for Member<FirstItem<'a>> {
+    ghost Tree = { List ℕ × Option (spec.Item Name ℕ) };
+
+    ghost tree = { λ m. (cow_str_bytes m.item.name, option_map item_tree m.item.sig) };
+
+    ghost syntax = { first_member };
+
+    fn lawful()
+        ensures { Lawful (first_member {N = Name} {P = ℕ}) }
+    {}
+}
+
+impl<'a> Parse<'a> for Member<FirstItem<'a>> {
+    fn parse(parser: &mut Parser<'a>) -> Result<Self, Error> {
+        LParen::parse(parser)?;
+        parser.word("item")?;
+        let name = parser.name()?;
+        let sig = Option::parse(parser)?;
+        RParen::parse(parser)?;
+        Ok(Member {
+            item: FirstItem { name, sig },
+        })
+    }
+}
+
+impl<'a> Peek for Member<FirstItem<'a>> {
+    ghost plain = { refl };
+
+    ghost sure = { refl };
+
+    fn leads()
+        ensures { Leads (first_member {N = Name} {P = ℕ}).spells member_starts }
+    {}
+
+    fn peek(cursor: Cursor<'_, '_>) -> Result<bool, Error>
+        ensures { Asks result (stands cursor.entry).source (ask member_starts (ahead (stands cursor.entry))) }
+    {
+        cursor.peek_group("item")
+    }
+
+    fn display() -> &'static str {
+        "the first item of a group"
+    }
 }
 
 /// The first, and then the others.

@@ -14,7 +14,7 @@ use wast_exports::keyword;
 use wast_field_syntax::keyword::Offset;
 use wast_field_syntax::{
     DataVal, Error, Expression, Head, Id, Index, InstructionGroup, LParen, Meaning, NameAnnotation,
-    Parse, Parser, RParen, Span, UseOf, full_list, or_begins, parse_use,
+    Parse, Parser, RParen, Span, UseOf, full_list, or_begins, parse_use, required,
 };
 use wast_value_types::Group;
 
@@ -99,7 +99,7 @@ impl<'a> Parse<'a> for Data<'a> {
         let span = parser.word("data")?;
         let head = Head::parse(parser)?;
         let (kind, data) = parse_segment(parser)?;
-        RParen::parse(parser)?;
+        required::<RParen>(parser, "expected a string or `)`")?;
         Ok(Data {
             span,
             id: head.id,

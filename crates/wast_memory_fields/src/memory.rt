@@ -184,6 +184,6 @@ fn parse_data<'a>(parser: &mut Parser<'a>) -> Result<Vec<DataVal<'a>>, Error>
     required::<LParen>(parser, "expected a number of pages or `(data`")?;
     parser.word("data")?;
     let data = full_list(parser)?;
-    RParen::parse(parser)?;
+    required::<RParen>(parser, "expected a string or `)`")?;
     Ok(data)
 }

@@ -15,7 +15,7 @@ use wast_exports::keyword::{Func, Table};
 use wast_field_syntax::keyword::{Declare, Offset};
 use wast_field_syntax::{
     Error, Expression, Head, Id, Index, Keyword, LParen, Meaning, NameAnnotation, Parse, Parser,
-    RParen, Span, full_list, or_begins, parse_use,
+    RParen, Span, full_list, or_begins, parse_use, required,
 };
 use wast_value_types::RefType;
 
@@ -96,6 +96,16 @@ pub enum ElemPayload<'a> {
     },
 }
 
+impl ElemPayload<'_> {
+    /// What is said where neither one more of them nor the end of their group is read.
+    pub(crate) fn expected_behind(&self) -> &'static str {
+        match self {
+            ElemPayload::Indices(_) => "expected an index or `)`",
+            ElemPayload::Exprs { .. } => "expected a folded instruction, `(item` or `)`",
+        }
+    }
+}
+
 impl<'a> Meaning for Elem<'a> {
     ghost Tree = { spec.Elem Name ℕ };
 
@@ -114,7 +124,7 @@ impl<'a> Parse<'a> for Elem<'a> {
         let span = parser.word("elem")?;
         let head = Head::parse(parser)?;
         let (kind, payload) = parse_segment(parser)?;
-        RParen::parse(parser)?;
+        required::<RParen>(parser, payload.expected_behind())?;
         Ok(Elem {
             span,
             id: head.id,

@@ -223,7 +223,7 @@ fn parse_filled<'a>(parser: &mut Parser<'a>, is_64: bool) -> Result<TableKind<'a
     parser.word("elem")?;
     let ty = elem.clone(parser.alloc())?;
     let payload = parse_payload(parser, ty)?;
-    RParen::parse(parser)?;
+    required::<RParen>(parser, payload.expected_behind())?;
     Ok(TableKind::Inline {
         is_64,
         elem,
