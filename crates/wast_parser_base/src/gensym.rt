@@ -73,7 +73,9 @@ impl Gensym {
         Ok(())
     }
 
-    /// The same, answering what the slot has then.
+    /// Puts the next identifier into a slot that has none, and answers what the slot has then; a full one stays, and no name is made.
+    ///
+    /// Answers [`Exhausted`] exactly where the slot has none and 4294967295 names were made; no name is made then.
     pub fn fill<'a, 's>(
         &mut self,
         span: Span,

@@ -1,12 +1,12 @@
 //! Annotations that are registered by name; the groups of all others are passed.
-ghost use Rattle.std.specs.Prelude.{◌&&◌, ◌^◌, ◌≡◌, ◌≢◌, ◌+◌, ◌-◌, ◌<◌, ◌≤◌, ◌++◌, ℕ, List, [], ◌∷◌, IfOk, IfErr, OnOk, length, take, drop, map, true};
+ghost use Rattle.std.specs.Prelude.{◌&&◌, ◌^◌, ◌≡◌, ◌≢◌, ◌+◌, ◌-◌, ◌<◌, ◌≤◌, ◌++◌, ℕ, List, [], ◌∷◌, IfErr, OnOk, length, take, drop, map, true};
 ghost use Rattle.wast_lexer.specs.Lexeme.{lexeme_of};
 ghost use Rattle.wast_lexer.specs.TokenText.{IsOf, text_of};
 ghost use Rattle.wast_lexer.specs.declared.token.TokenKind.TheVariants as kinds;
 ghost use Rattle.wast_grammar.specs.Spelling.{any_is, same_text};
 ghost use Rattle.wast_grammar.specs.Tokens.{marked_value};
 ghost use Rattle.wast_grammar.specs.Significant.{begins_unknown, is_lparen};
-ghost use Rattle.wast_parser_core.specs.State.{State, ahead, knowing, also, slack, Moves, KeepsWith};
+ghost use Rattle.wast_parser_core.specs.State.{ahead, knowing, also, slack, Moves, KeepsWith};
 ghost use Rattle.wast_parser_core.specs.Reading.{out_of_memory, Gives};
 
 use crate::kind::{is_annotation, is_lparen};

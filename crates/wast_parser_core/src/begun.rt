@@ -29,6 +29,7 @@ impl<'a> Parser<'a> {
     pub fn begun(&mut self, prefix: &str) -> Result<(&'a [u8], Span), Error>
         ensures read { Gives (λ x. (x.0.now, x.1)) result self.new ((begun prefix.now (λ w. Some w)).reads (ahead self.old)) }
         ensures keeps { Keeps self.old self.new }
+        ensures stays { OnErr result (self.new ≡ self.old) }
         ensures exact { OnErr result ((begun prefix.now (λ w. Some w)).reads (ahead self.old) ≡ None) }
     {
         if let Some((token, after)) = self.next()?
@@ -46,6 +47,7 @@ impl<'a> Parser<'a> {
     pub fn float(&mut self) -> Result<(&'a str, Span), Error>
         ensures read { Gives (λ x. (x.0.now, x.1)) result self.new (float.reads (ahead self.old)) }
         ensures keeps { Keeps self.old self.new }
+        ensures stays { OnErr result (self.new ≡ self.old) }
         ensures exact { OnErr result (float.reads (ahead self.old) ≡ None) }
     {
         match self.next()? {

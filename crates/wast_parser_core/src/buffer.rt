@@ -1,5 +1,5 @@
 //! A text and its tokens.
-ghost use Rattle.std.specs.Prelude.{◌≡◌, ◌+◌, ◌<◌, ◌^◌, ℕ, length, false, IfSome, IfOk, IfErr, MatchOption, option_map, slice_get, true};
+ghost use Rattle.std.specs.Prelude.{◌≡◌, ◌+◌, ◌<◌, ◌^◌, ℕ, length, false, IfSome, IfOk, IfErr, MatchOption, option_map, slice_get};
 ghost use Rattle.std.specs.List.{All};
 ghost use Rattle.wast_lexer.specs.Groups.{parens, IsGroupAt};
 ghost use Rattle.wast_lexer.specs.Source.{source, allows};

@@ -1,5 +1,5 @@
 //! Identifiers and indices.
-ghost use Rattle.std.specs.Prelude.{◌≡◌, ℕ, List, [], ◌∷◌, Option, false, refl};
+ghost use Rattle.std.specs.Prelude.{ℕ, [], ◌∷◌, false, refl};
 ghost use Rattle.wast_grammar.specs.Tokens.{Name};
 ghost use Rattle.wast_grammar.specs.Look.{ask, On, AnInteger, AnId, Any, this_group};
 ghost use Rattle.wast_grammar.specs.Lawful.{Lawful, Leads};

@@ -1,5 +1,5 @@
 //! Integers of so many bits.
-ghost use Rattle.std.specs.Prelude.{◌≡◌, ◌≤◌, ◌-◌, ◌*◌, ◌^◌, ◌<◌, ℕ, ℤ, pos, neg_ℤ, ◌≤ℤ◌, ◌<ℤ◌, Bool, true, Option, Some, None, refl};
+ghost use Rattle.std.specs.Prelude.{◌≡◌, ◌≤◌, ◌-◌, ◌*◌, ◌^◌, ◌<◌, ℕ, ℤ, pos, neg_ℤ, ◌≤ℤ◌, ◌<ℤ◌, true, Option, Some, None, refl};
 ghost use Rattle.wast_grammar.specs.Tokens.{Literal};
 ghost use Rattle.wast_grammar.specs.Grammar.{seen};
 ghost use Rattle.wast_parser_core.specs.State.{ahead, Keeps};

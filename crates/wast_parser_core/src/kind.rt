@@ -18,24 +18,28 @@ pub fn is_trivia(kind: TokenKind) -> bool
     )
 }
 
+/// Whether a token is a parenthesis that opens.
 pub fn is_lparen(kind: TokenKind) -> bool
     ensures { result ≡ is_lparen kind }
 {
     matches!(kind, TokenKind::LParen)
 }
 
+/// Whether a token is a parenthesis that closes.
 pub fn is_rparen(kind: TokenKind) -> bool
     ensures { result ≡ is_rparen kind }
 {
     matches!(kind, TokenKind::RParen)
 }
 
+/// Whether a token is a word.
 pub fn is_keyword(kind: TokenKind) -> bool
     ensures { result ≡ is_keyword kind }
 {
     matches!(kind, TokenKind::Keyword)
 }
 
+/// Whether a token is the name of an annotation.
 pub fn is_annotation(kind: TokenKind) -> bool
     ensures same { result ≡ is_annotation kind }
     ensures is { result ≡ true → kind ≡ kinds.Annotation }
@@ -43,6 +47,7 @@ pub fn is_annotation(kind: TokenKind) -> bool
     matches!(kind, TokenKind::Annotation)
 }
 
+/// Whether a token is an identifier.
 pub fn is_id(kind: TokenKind) -> bool
     ensures same { result ≡ is_identifier kind }
     ensures is { result ≡ true → kind ≡ kinds.Id }
@@ -50,6 +55,7 @@ pub fn is_id(kind: TokenKind) -> bool
     matches!(kind, TokenKind::Id)
 }
 
+/// Whether a token is a string.
 pub fn is_string(kind: TokenKind) -> bool
     ensures same { result ≡ is_string kind }
     ensures is { result ≡ true → kind ≡ kinds.String }

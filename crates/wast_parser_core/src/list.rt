@@ -1,5 +1,5 @@
 //! Lists.
-ghost use Rattle.std.specs.Prelude.{◌≡◌, map};
+ghost use Rattle.std.specs.Prelude.{map};
 ghost use Rattle.wast_grammar.specs.Grammar.{many};
 ghost use Rattle.wast_parser_core.specs.State.{ahead, Keeps};
 ghost use Rattle.wast_parser_core.specs.Reading.{Gives};

@@ -1,9 +1,9 @@
 //! Literals of integers.
-ghost use Rattle.std.specs.Prelude.{◌≡◌, ◌<◌, ◌^◌, Bool, Option, Some, None, SomeIff, if◌then◌else◌};
+ghost use Rattle.std.specs.Prelude.{◌≡◌, ◌<◌, ◌^◌, Option, Some, None, SomeIff, if◌then◌else◌};
 ghost use Rattle.wast_lexer.specs.Strings.{hex_value};
 ghost use Rattle.wast_grammar.specs.Tokens.{number};
 ghost use Rattle.wast_grammar.specs.Laws.{says_minus};
-ghost use Rattle.wast_parser_core.specs.Literals.{literal_of, said, is_within, at_most};
+ghost use Rattle.wast_parser_core.specs.Literals.{literal_of, said, is_within};
 
 use wast_lexer::{Integer, SignToken};
 

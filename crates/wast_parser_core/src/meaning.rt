@@ -1,10 +1,10 @@
 //! What can be read, looked for, and repeated.
-ghost use Rattle.std.specs.Prelude.{◌≡◌, ◌||◌, ℕ, Bool, List, [], Some, true, false};
+ghost use Rattle.std.specs.Prelude.{◌≡◌, ◌||◌, ℕ, List, [], Some, true, false};
 ghost use Rattle.wast_grammar.specs.Tokens.{Name};
 ghost use Rattle.wast_grammar.specs.Look.{ask, apart, faults, any_end};
 ghost use Rattle.wast_grammar.specs.Grammar.{Syntax};
 ghost use Rattle.wast_grammar.specs.Lawful.{Lawful, Leads};
-ghost use Rattle.wast_parser_core.specs.State.{State, ahead, knowing, KeepsWith, past};
+ghost use Rattle.wast_parser_core.specs.State.{ahead, knowing, KeepsWith, past};
 ghost use Rattle.wast_parser_core.specs.Reading.{Gives, Asks};
 ghost use Rattle.wast_parser_core.specs.Cursors.{stands};
 

@@ -1,5 +1,5 @@
 //! The annotation that gives a name.
-ghost use Rattle.std.specs.Prelude.{◌≡◌, ℕ, List, [], ◌∷◌, Option, codes, option_map};
+ghost use Rattle.std.specs.Prelude.{ℕ, List, [], ◌∷◌, Option, codes, option_map};
 ghost use Rattle.std.specs.Cow.{cow_str_bytes};
 ghost use Rattle.wast_grammar.specs.Tokens.{Name};
 ghost use Rattle.wast_grammar.specs.Look.{this_annotation};

@@ -31,13 +31,15 @@ impl<'a, T: Parse<'a> + Item> Parse<'a> for Option<T> {
     }
 }
 
-/// Reads one where one begins, and takes its tokens; refused elsewhere with this message, at the next token, and where one that
-/// begins isn't read, where no token can be read, or for want of memory. Asks for something of which no spelling is nothing.
+/// Reads one where one begins, and takes its tokens. Refused elsewhere with this message, at the next token, which isn't taken, and
+/// where one that begins isn't read, where no token can be read, or for want of memory. Asks for something of which no spelling is
+/// nothing.
 pub fn required<'a, T: Parse<'a> + Peek>(parser: &mut Parser<'a>, message: &str) -> Result<T, Error>
     requires { T.syntax.empty ≡ false }
     ensures read { Gives T.tree result parser.new (T.syntax.reads (ahead parser.old)) }
     ensures keeps { Keeps parser.old parser.new }
     ensures told { ask T.syntax.starts (ahead parser.old) ≡ Some false → IfErr result (SaysAt message.now (place_ahead parser.old)) }
+    ensures stays { ask T.syntax.starts (ahead parser.old) ≡ Some false → parser.new ≡ parser.old }
     ensures missing { ask T.syntax.starts (ahead parser.old) ≡ Some false → IfOk result (λ _. ⊥) }
 {
     T::lawful();

@@ -1,5 +1,5 @@
 //! Parentheses by themselves.
-ghost use Rattle.std.specs.Prelude.{◌≡◌, ℕ, [], ◌∷◌, false, refl};
+ghost use Rattle.std.specs.Prelude.{ℕ, [], ◌∷◌, false, refl};
 ghost use Rattle.wast_grammar.specs.Spelling.{that_open, that_close};
 ghost use Rattle.wast_grammar.specs.Look.{On, AClose, Any, Opening};
 ghost use Rattle.wast_grammar.specs.Grammar.{token};

@@ -1,7 +1,6 @@
 //! A parser: the tokens of a text, and how many of them are taken.
-ghost use Rattle.std.specs.Prelude.{◌≡◌, ◌≢◌, ◌≤◌, ◌<◌, ◌^◌, ◌+◌, ◌⊎◌, ℕ, [], ◌∷◌, Some, None, Ok, IfOk, IfErr, IfSome, OnErr, OnOk, length, true, option_map, slice_get, Err};
+ghost use Rattle.std.specs.Prelude.{◌≡◌, ◌≢◌, ◌≤◌, ◌<◌, ◌^◌, ◌+◌, ◌⊎◌, ℕ, [], Some, None, Ok, IfOk, IfErr, IfSome, OnErr, OnOk, true, option_map, slice_get, Err};
 ghost use Rattle.wast_lexer.specs.TokenText.{IsOf};
-ghost use Rattle.wast_parser_base.specs.Problem.{Said};
 ghost use Rattle.wast_parser_core.specs.State.{State, start, ahead, knowing, past, Moves, KeepsWith, place_ahead, place_behind, stop, standing};
 ghost use Rattle.wast_parser_core.specs.Standing.{is_outside};
 ghost use Rattle.wast_parser_core.specs.declared.cursor.Cursor.{Cursor};

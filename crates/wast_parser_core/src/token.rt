@@ -1,5 +1,5 @@
 //! Single tokens.
-ghost use Rattle.std.specs.Prelude.{◌≡◌, ◌++◌, [], None, OnErr, Some, MatchResult, true, codes};
+ghost use Rattle.std.specs.Prelude.{◌≡◌, ◌++◌, None, OnErr, Some, MatchResult, codes};
 ghost use Rattle.std.specs.Cow.{cow_str_bytes};
 ghost use Rattle.wast_lexer.specs.declared.token.TokenKind.TheVariants as kinds;
 ghost use Rattle.wast_lexer.specs.NumberParts.{IsIntegerOf};
@@ -27,6 +27,7 @@ impl<'a> Parser<'a> {
     pub fn word(&mut self, text: &str) -> Result<Span, Error>
         ensures read { Gives (λ s. s) result self.new ((word text.now).reads (ahead self.old)) }
         ensures keeps { Keeps self.old self.new }
+        ensures stays { OnErr result (self.new ≡ self.old) }
         ensures exact { OnErr result ((word text.now).reads (ahead self.old) ≡ None) }
     {
         match self.next()? {
@@ -55,6 +56,7 @@ impl<'a> Parser<'a> {
     pub fn id(&mut self) -> Result<(CowStr<'a, Global>, Span), Error>
         ensures read { Gives (λ x. (as_read (cow_str_bytes x.0), x.1)) result self.new (id.reads (ahead self.old)) }
         ensures keeps { Keeps self.old self.new }
+        ensures stays { OnErr result (self.new ≡ self.old) }
     {
         match self.next()? {
             Some((token, after)) if is_id(token.kind) => match token.id(self.alloc(), self.text()) {
@@ -72,6 +74,7 @@ impl<'a> Parser<'a> {
     pub fn mark(&mut self, text: &str) -> Result<Span, Error>
         ensures read { Gives (λ s. s) result self.new ((mark text.now).reads (ahead self.old)) }
         ensures keeps { Keeps self.old self.new }
+        ensures stays { OnErr result (self.new ≡ self.old) }
         ensures exact { OnErr result ((mark text.now).reads (ahead self.old) ≡ None) }
     {
         match self.next()? {
@@ -92,6 +95,7 @@ impl<'a> Parser<'a> {
     pub fn literal(&mut self, most: u64, least: Option<u64>) -> Result<((bool, u64), Span), Error>
         ensures read { Gives (λ x. (literal_from x.0, x.1)) result self.new ((ranged most least).reads (ahead self.old)) }
         ensures keeps { Keeps self.old self.new }
+        ensures stays { OnErr result (self.new ≡ self.old) }
         ensures exact { OnErr result ((ranged most least).reads (ahead self.old) ≡ None) }
     {
         match self.next()? {
@@ -114,6 +118,7 @@ impl<'a> Parser<'a> {
     pub fn string(&mut self) -> Result<Bytes<'a>, Error>
         ensures read { Gives (λ b. b) result self.new (string.reads (ahead self.old)) }
         ensures keeps { Keeps self.old self.new }
+        ensures stays { OnErr result (self.new ≡ self.old) }
     {
         match self.next()? {
             Some((token, after)) if is_string(token.kind) => {
@@ -130,6 +135,7 @@ impl<'a> Parser<'a> {
     pub fn name(&mut self) -> Result<CowStr<'a, Global>, Error>
         ensures read { Gives cow_str_bytes result self.new (name.reads (ahead self.old)) }
         ensures keeps { Keeps self.old self.new }
+        ensures stays { OnErr result (self.new ≡ self.old) }
     {
         match self.next()? {
             Some((token, after)) if is_string(token.kind) => match self.text_of(token)? {

@@ -1,5 +1,5 @@
 //! Words that have values.
-ghost use Rattle.std.specs.Prelude.{◌≡◌, ℕ, List, [], ◌∷◌, map, option_map, false, true};
+ghost use Rattle.std.specs.Prelude.{◌≡◌, ℕ, List, [], ◌∷◌, map, option_map, false, true, None, OnErr};
 ghost use Rattle.wast_grammar.specs.Spelling.{find_but, find_by};
 ghost use Rattle.wast_grammar.specs.Look.{ask, On, AWord, OneOf};
 ghost use Rattle.wast_grammar.specs.Grammar.{among};
@@ -62,11 +62,13 @@ pub fn find_among<T: Spelled>(values: &[T], text: &[u8]) -> Option<T>
 }
 
 impl<'a> Parser<'a> {
-    /// Takes a word of a set; answers its value, and where it stands. Refused where no word of the set comes next, and the
-    /// parser stays then; `expected` is for the message.
+    /// Takes a word of a set; answers its value, and where it stands. Refused only where no word of the set comes next; the
+    /// parser stays then. `expected` is for the message.
     pub fn among<T: WordSet>(&mut self, expected: &str) -> Result<(T, Span), Error>
         ensures read { Gives (λ m. (T.entry m.0, m.1)) result self.new ((among T.word T.entries T.but).reads (ahead self.old)) }
         ensures keeps { Keeps self.old self.new }
+        ensures stays { OnErr result (self.new ≡ self.old) }
+        ensures exact { OnErr result ((among T.word T.entries T.but).reads (ahead self.old) ≡ None) }
     {
         if let Some((token, after)) = self.next()?
             && is_keyword(token.kind)
