@@ -1,5 +1,5 @@
 //! The productions of custom fields.
-ghost use Rattle.std.specs.Prelude.{◌≡◌, ℕ, List, [], ◌∷◌, refl, codes, false};
+ghost use Rattle.std.specs.Prelude.{ℕ, [], ◌∷◌, refl, codes, false};
 ghost use Rattle.wast_grammar.specs.Tokens.{Name};
 ghost use Rattle.wast_parser.specs.Look.{ask, this_annotation};
 ghost use Rattle.wast_parser.specs.Lawful.{Lawful, Leads};
@@ -7,14 +7,17 @@ ghost use Rattle.wast_parser.specs.State.{ahead};
 ghost use Rattle.wast_parser.specs.Reading.{Asks};
 ghost use Rattle.wast_parser.specs.Cursors.{stands};
 ghost use Rattle.wast_customs.specs.CustomTree as spec;
-ghost use Rattle.wast_customs.specs.CustomSyntax.{raw_body, raw_section, custom, custom_starts};
+ghost use Rattle.wast_customs.specs.CustomSyntax.{raw_section, custom, custom_starts};
 ghost use Rattle.wast_customs.specs.CustomViews.{raw_tree, custom_tree};
 
 use crate::custom::{Custom, RawCustomSection};
 use crate::dylink::Dylink0;
 use crate::place::CustomPlace;
 use crate::producers::Producers;
-use wast_parser::{Cursor, Error, Item, LParen, Meaning, Parse, Parser, Peek, RParen, list_of};
+use wasm_encoder_base::Bytes;
+use wast_parser::{
+    Cursor, Error, Item, LParen, Meaning, Parse, Parser, Peek, RParen, list_of, required,
+};
 
 impl<'a> Meaning for Custom<'a> {
     ghost Tree = { spec.Custom ℕ };
@@ -97,14 +100,23 @@ impl<'a> Parse<'a> for RawCustomSection<'a> {
         let span = parser.mark("custom")?;
         let name = parser.name()?;
         let place: Option<CustomPlace> = Option::parse(parser)?;
-        let bytes = list_of(parser)?;
-        RParen::parse(parser)?;
+        let bytes: Vec<Bytes<'a>> = list_of(parser)?;
+        required::<RParen>(parser, expected_behind(&place, &bytes))?;
         Ok(RawCustomSection {
             span,
             name,
             place: place.unwrap_or(CustomPlace::AfterLast),
             bytes,
         })
+    }
+}
+
+/// What is said where such a field doesn't go on behind this place and these strings.
+fn expected_behind(place: &Option<CustomPlace>, strings: &[Bytes<'_>]) -> &'static str {
+    if place.is_none() && strings.is_empty() {
+        "expected `(before`, `(after`, a string or `)`"
+    } else {
+        "expected a string or `)`"
     }
 }
 

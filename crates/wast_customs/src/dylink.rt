@@ -27,11 +27,13 @@ pub enum Dylink0Subsection<'a> {
         table_size: u32,
         table_align: u32,
     },
+    /// The names of libraries that have to be there.
     Needed(Vec<CowStr<'a, Global>>),
     /// Names and flags.
     ExportInfo(Vec<(CowStr<'a, Global>, u32)>),
     /// Names of modules and of imports, and flags.
     ImportInfo(Vec<(CowStr<'a, Global>, CowStr<'a, Global>, u32)>),
+    /// Where libraries are looked for.
     RuntimePath(Vec<CowStr<'a, Global>>),
 }
 

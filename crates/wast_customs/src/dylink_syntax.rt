@@ -1,5 +1,5 @@
 //! The production of `dylink.0`.
-ghost use Rattle.std.specs.Prelude.{◌≡◌, ◌++◌, ℕ, List, [], ◌∷◌, map, refl, codes, false, OnOk, IfOk, option_map, option_to_list};
+ghost use Rattle.std.specs.Prelude.{◌≡◌, ◌++◌, ℕ, List, [], ◌∷◌, map, refl, codes, OnOk, IfOk, option_map, option_to_list};
 ghost use Rattle.wast_grammar.specs.Tokens.{Name};
 ghost use Rattle.wast_parser.specs.Look.{ask, this_annotation};
 ghost use Rattle.wast_parser.specs.Lawful.{Lawful, Leads};
@@ -13,7 +13,7 @@ ghost use Rattle.wast_customs.specs.CustomViews.{subsection_tree, dylink_tree};
 
 use crate::dylink::{Dylink0, Dylink0Subsection};
 use std::alloc::{AllocError, Global};
-use wast_parser::{Cursor, Error, LParen, Meaning, Parse, Parser, Peek, RParen, list_of};
+use wast_parser::{Cursor, Error, LParen, Meaning, Parse, Parser, Peek, RParen, list_of, required};
 
 impl<'a> Meaning for Dylink0<'a> {
     ghost Tree = { spec.Dylink ℕ };
@@ -32,7 +32,7 @@ impl<'a> Parse<'a> for Dylink0<'a> {
         LParen::parse(parser)?;
         let span = parser.mark("dylink.0")?;
         let subsections = parse_subsections(parser)?;
-        RParen::parse(parser)?;
+        required::<RParen>(parser, "expected a group of dylink.0 or `)`")?;
         Ok(Dylink0 { span, subsections })
     }
 }

@@ -1,5 +1,5 @@
 //! Flags of symbols.
-ghost use Rattle.std.specs.Prelude.{◌≡◌, ℕ, List, map, refl, false};
+ghost use Rattle.std.specs.Prelude.{◌≡◌, ℕ, map, refl, false};
 ghost use Rattle.wast_parser.specs.State.{ahead, Keeps};
 ghost use Rattle.wast_parser.specs.Reading.{Gives};
 ghost use Rattle.wast_customs.specs.DylinkSyntax as words;

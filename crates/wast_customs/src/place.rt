@@ -1,10 +1,10 @@
 //! Where a custom section stands among the others.
-ghost use Rattle.std.specs.Prelude.{◌≡◌, ℕ, List, [], ◌∷◌, refl, true, false, map, codes};
+ghost use Rattle.std.specs.Prelude.{refl};
 ghost use Rattle.wast_parser.specs.State.{ahead, Keeps};
 ghost use Rattle.wast_parser.specs.Reading.{Gives};
 ghost use Rattle.wast_customs.specs.CustomTree as spec;
 ghost use Rattle.wast_customs.specs.CustomSyntax as syntax;
-ghost use Rattle.wast_customs.specs.CustomSyntax.{anchor, anchors, anchor_word, sides, side_word, place_on, place_body, custom_place};
+ghost use Rattle.wast_customs.specs.CustomSyntax.{anchor, anchors, anchor_word, sides, side_word, place_on, custom_place};
 ghost use Rattle.wast_customs.specs.CustomViews.{anchor_view, side_view, place_tree};
 
 use crate::keyword;

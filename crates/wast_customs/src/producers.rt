@@ -1,5 +1,5 @@
 //! What producers say of themselves.
-ghost use Rattle.std.specs.Prelude.{◌≡◌, ℕ, List, [], ◌∷◌, refl, codes, false};
+ghost use Rattle.std.specs.Prelude.{ℕ, [], ◌∷◌, refl, codes};
 ghost use Rattle.wast_grammar.specs.Tokens.{Name};
 ghost use Rattle.wast_parser.specs.Look.{ask, this_annotation};
 ghost use Rattle.wast_parser.specs.Lawful.{Lawful, Leads};
@@ -7,7 +7,7 @@ ghost use Rattle.wast_parser.specs.State.{ahead};
 ghost use Rattle.wast_parser.specs.Reading.{Asks};
 ghost use Rattle.wast_parser.specs.Cursors.{stands};
 ghost use Rattle.wast_customs.specs.CustomTree as spec;
-ghost use Rattle.wast_customs.specs.CustomSyntax.{producer_word, producer_kinds, producer_starts, producer_body, producer, producers_body, producers};
+ghost use Rattle.wast_customs.specs.CustomSyntax.{producer_word, producer_kinds, producer_starts, producer, producers};
 ghost use Rattle.wast_customs.specs.CustomViews.{kind_view, producer_tree, producers_tree};
 
 use std::alloc::Global;
@@ -15,7 +15,7 @@ use std::borrow::CowStr;
 use wast_lexer::Span;
 use wast_parser::{
     Cursor, Error, Item, LParen, Meaning, Parse, Parser, Peek, RParen, Spelled, WordSet,
-    find_among, list_of,
+    find_among, list_of, required,
 };
 
 /// What producers say of themselves: `(@producers (language "C" "23") ..)`, in the order in which it is written.
@@ -95,7 +95,10 @@ impl<'a> Parse<'a> for Producers<'a> {
         LParen::parse(parser)?;
         let span = parser.mark("producers")?;
         let fields = list_of(parser)?;
-        RParen::parse(parser)?;
+        required::<RParen>(
+            parser,
+            "expected `(language`, `(sdk`, `(processed-by` or `)`",
+        )?;
         Ok(Producers { span, fields })
     }
 }

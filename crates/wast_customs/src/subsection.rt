@@ -1,14 +1,14 @@
 //! The groups of `dylink.0`.
-ghost use Rattle.std.specs.Prelude.{◌≡◌, ℕ, List, [], ◌∷◌, Option, map, refl, codes, false, option_map, unwrap_or};
+ghost use Rattle.std.specs.Prelude.{◌≡◌, ℕ, Option, refl, option_map, unwrap_or};
 ghost use Rattle.wast_grammar.specs.Tokens.{Name};
-ghost use Rattle.wast_parser.specs.Look.{ask, this_group};
+ghost use Rattle.wast_parser.specs.Look.{ask};
 ghost use Rattle.wast_parser.specs.Lawful.{Lawful, Leads};
 ghost use Rattle.wast_parser.specs.State.{ahead, Keeps};
 ghost use Rattle.wast_parser.specs.Reading.{Asks, Gives};
 ghost use Rattle.wast_parser.specs.Cursors.{stands};
 ghost use Rattle.wast_customs.specs.CustomTree as spec;
 ghost use Rattle.wast_customs.specs.DylinkSyntax as words;
-ghost use Rattle.wast_customs.specs.DylinkSyntax.{group_word, group_kinds, group_starts, extent_body, extent, within, group_body, dylink_group};
+ghost use Rattle.wast_customs.specs.DylinkSyntax.{group_word, group_kinds, group_starts, extent, within, dylink_group};
 ghost use Rattle.wast_customs.specs.CustomViews.{group_view, subsection_tree};
 
 use crate::dylink::Dylink0Subsection;
@@ -17,7 +17,7 @@ use crate::keyword;
 use std::marker::PhantomData;
 use wast_parser::{
     Cursor, Error, Item, Keyword, KeywordName, LParen, Meaning, Parse, Parser, Peek, RParen,
-    Spelled, WordSet, find_among, list_of,
+    Spelled, WordSet, find_among, list_of, required,
 };
 
 /// What a group speaks of.
@@ -70,6 +70,21 @@ impl Spelled for GroupKind {
     }
 }
 
+impl Dylink0Subsection<'_> {
+    /// What is said where a group doesn't go on behind this.
+    fn expected_behind(&self) -> &'static str {
+        match self {
+            Dylink0Subsection::MemInfo { .. } => "expected `)`",
+            Dylink0Subsection::Needed(_) | Dylink0Subsection::RuntimePath(_) => {
+                "expected a string or `)`"
+            }
+            Dylink0Subsection::ExportInfo(_) | Dylink0Subsection::ImportInfo(_) => {
+                "expected a flag or `)`"
+            }
+        }
+    }
+}
+
 /// A group in parentheses.
 impl<'a> Meaning for Dylink0Subsection<'a> {
     ghost Tree = { spec.Subsection };
@@ -88,7 +103,7 @@ impl<'a> Parse<'a> for Dylink0Subsection<'a> {
         LParen::parse(parser)?;
         let (kind, _) = parser.among("expected a group of dylink.0")?;
         let value = parse_within(parser, kind)?;
-        RParen::parse(parser)?;
+        required::<RParen>(parser, value.expected_behind())?;
         Ok(value)
     }
 }

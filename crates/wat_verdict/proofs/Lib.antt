@@ -5,6 +5,7 @@ pub mod Free
 pub mod OneSpelling
 pub mod Placed
 pub mod Spaced
+pub mod SpacedTexts
 pub mod Stops
 pub mod Told
 pub mod Unmet

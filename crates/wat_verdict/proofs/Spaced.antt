@@ -23,6 +23,7 @@ use Rattle.wat_verdict.specs.Registered.{registered}
 use Rattle.wat_verdict.specs.Spells.{Spells}
 use Rattle.wat_verdict.specs.Verdict.{Condition, TooLong, NotUtf8, Misspelled, NotWellFormed, Unmet, Uncovered, Fails, Accepts, Assembles, IsBinary}
 use Rattle.wat_verdict.specs.Spaced.{text_of, Spaced, CommentsAside}
+use Rattle.wat_verdict.proofs.SpacedTexts.{spaced_long, spaced_utf8}
 
 -- WHAT IS SHOWN: white space and comments leave no trace
 abbrev AreTrivia : List Lexeme → Type 0
@@ -529,8 +530,25 @@ module _ (text other : List ℕ) (short : length other < 2 ^ 32) (utf8 : IsUtf8 
   assembles_too : (binary : List ℕ) → Assembles text binary → Assembles other binary
   assembles_too binary a = (a.0, accepts_too a.0 a.1, binary_too a.0 binary a.2)
 
+-- THE COMMENT of a text: what stands before it and behind it, and that it is one
+record Parted (text : List ℕ) (before : List Lexeme) (comment : Lexeme) (after : List Lexeme) : Type 0 where
+  whole : text ≡ text_of before ++ (comment.text ++ text_of after)
+  lexeme : IsLexeme false comment.kind comment.text
+  follow : MayFollow comment.kind comment.text (text_of after)
+
+parted : (opened : Bool) (from : ℕ) (text : List ℕ) (before : List Lexeme) (comment : Lexeme) (after : List Lexeme) → Tiles false opened from text (before ++ comment ∷ after) → Parted text before comment after
+parted opened from text [] comment after t =
+    let rest = tiled_text (ends is_open comment.text) (from + length comment.text) t.0 after t.4 in
+    record { whole = t.2 ∙ ap (λ r. comment.text ++ r) rest; lexeme = t.3.lexeme; follow = subst (MayFollow comment.kind comment.text) rest t.3.follow }
+parted opened from text (l ∷ before) comment after t =
+    let p = parted (ends is_open l.text) (from + length l.text) t.0 before comment after t.4 in
+    record { whole = t.2 ∙ ap (λ r. l.text ++ r) p.whole ∙ joined l.text (text_of before) (comment.text ++ text_of after); lexeme = p.lexeme; follow = p.follow }
+
 pub comments_aside : CommentsAside
-comments_aside text other short shorter utf8 utf8_too s =
+comments_aside text other short utf8 s =
+    let p = parted false 0 text s.before s.comment s.after s.tiled in
+    let shorter : length other < 2 ^ 32 = subst (λ n. n < 2 ^ 32) (ap length p.whole ∙ sym (ap length s.spaced ∙ spaced_long (text_of s.before) s.comment.text (text_of s.after))) short in
+    let utf8_too : IsUtf8 other = subst IsUtf8 (sym s.spaced) (spaced_utf8 (text_of s.before) s.comment.text (text_of s.after) s.comment.kind s.is_comment p.lexeme p.follow (subst IsUtf8 p.whole utf8)) in
     let b = both registered text other s in
     let forth : (t : Module Name ℕ) → Spells text t → Spells other t = (λ t h. record { tokens = h.tokens; significant = one_way registered text other b.here b.there b.tiles_here b.tiles_there b.same h.tokens h.significant; spelled = h.spelled }) in
     let back : (t : Module Name ℕ) → Spells other t → Spells text t = (λ t h. record { tokens = h.tokens; significant = one_way registered other text b.there b.here b.tiles_there b.tiles_here (sym b.same) h.tokens h.significant; spelled = h.spelled }) in

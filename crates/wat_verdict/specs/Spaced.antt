@@ -28,4 +28,4 @@ pub record OneVerdictOfBoth (text other : List ℕ) : Type 0 where
   pub assembled : (binary : List ℕ) → Assembles text binary ↔ Assembles other binary
 
 abbrev pub CommentsAside : Type 0
-CommentsAside = (text other : List ℕ) → length text < 2 ^ 32 → length other < 2 ^ 32 → IsUtf8 text → IsUtf8 other → Spaced text other → OneVerdictOfBoth text other
+CommentsAside = (text other : List ℕ) → length text < 2 ^ 32 → IsUtf8 text → Spaced text other → OneVerdictOfBoth text other
