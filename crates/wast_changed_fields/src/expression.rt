@@ -12,12 +12,13 @@ use wast_changed::{ByChange, Changing, Rewriting, TryEach, try_turn_list};
 use wast_core_instr::{Expression, Instruction};
 
 /// An expression (6.5, expressions) whose instructions are rewritten alike wherever they stand; the hints stay. Fails only for want of
-/// memory.
+/// memory; of the instructions nothing is promised then.
 pub fn change_expression<'a, C: Changing<'a>>(
     change: &C,
     expression: &mut Expression<'a>,
 ) -> Result<(), AllocError>
     ensures changed { OnOk result (expression_tree expression.new ≡ expr_changed (everywhere (C.change change.now)) (expression_tree expression.old)) }
+    ensures hints { (expression_tree expression.new).hints ≡ (expression_tree expression.old).hints }
     ensures spans { expression.new.instr_spans ≡ expression.old.instr_spans }
 {
     change_instructions(change, &mut expression.instrs)

@@ -56,7 +56,7 @@ pub fn change_field<'a, R: Rewriting<'a>>(
     }
 }
 
-/// Fields, each by the same rewriting. Fails only for want of memory; some fields may be changed then.
+/// Fields, each by the same rewriting. Fails only for want of memory; of the fields nothing is promised then.
 pub fn change_fields<'a, R: Rewriting<'a>>(
     alloc: Global,
     rewriting: &R,

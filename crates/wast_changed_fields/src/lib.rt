@@ -3,7 +3,7 @@
 //!
 //! [`change_field`] rewrites a field in its place as a [`wast_changed::Rewriting`] says: outside of expressions by what becomes of an index,
 //! in constant expressions and bodies by what it does with those. [`change_fields`] does so with each of a list, and [`change_expression`]
-//! with each instruction of an expression alike. Want of memory is the only refusal, and what was given may be changed in part then.
+//! with each instruction of an expression alike. Want of memory is the only refusal, and of what was given nothing is promised then.
 //!
 //! # What has to be believed
 //!

@@ -1,6 +1,6 @@
 -- What encoding a tree answers, by what it is resolved to.
-use Rattle.std.proofs.Common.{◌≡◌, ◌⊎◌, ℕ, false, inl, inr, List, [], map, codes, Option, Some, None, refl, sym, ap, ◌∙◌, subst}
-use Rattle.std.specs.Prelude.{Result, Ok, Err, MatchResult, IfOk, IfErr, OnOk}
+use Rattle.std.proofs.Common.{◌≡◌, ◌⊎◌, ℕ, false, true, inl, inr, List, [], map, codes, Option, Some, None, refl, sym, ap, ◌∙◌, subst}
+use Rattle.std.specs.Prelude.{Result, Ok, Err, MatchResult, IfOk, IfErr}
 use Rattle.std.specs.List.{flat_map}
 use Rattle.std.proofs.lemmas.Bool.{false≢true}
 use Rattle.wasm_encoder_base.specs.EncodeError.{EncodeError}
@@ -26,7 +26,7 @@ use Rattle.wasm_layout.specs.Lays.{Fits, Lays, Reads}
 use Rattle.wast_meant.specs.Meaning.{meant}
 use Rattle.wast_meant.specs.NamesMeant.{given_name}
 use Rattle.wast_meant.specs.Plain.{IsPlain}
-use Rattle.wast_resolve.specs.Whole.{counter_after, resolved_by, content_by, module_by, module_demands_by, IsRefused}
+use Rattle.wast_resolve.specs.Whole.{counter_after, resolved_by, content_by, is_pieces, module_by, module_demands_by, IsRefused}
 use Rattle.wast_binary.specs.Can.{CanEncode}
 use Rattle.wast_encode.specs.Encoded.{form_in, StandsFor, IsBinaryOf, Deserves, LeavesFor, CountsFor, IsRefusedFor}
 use Rattle.wast_encode.specs.Faults.{as_fault}
@@ -156,10 +156,6 @@ module _ {A E : Type 0} (P : A → Type 0) (Q : E → Type 0) where
   err_of S so (Ok x) h = tt
   err_of S so (Err e) h = so e h
 
-pub anyway : {A E C : Type 0} (r : Result A E) → C → OnOk r C
-anyway (Ok x) h = h
-anyway (Err e) h = tt
-
 pub match_of : {A E : Type 0} (P S : A → Type 0) (Q R : E → Type 0) → ((x : A) → P x → S x) → ((e : E) → Q e → R e) → (r : Result A E) → MatchResult r P Q → MatchResult r S R
 match_of P S Q R so to (Ok x) h = so x h
 match_of P S Q R so to (Err e) h = to e h
@@ -187,3 +183,11 @@ module _ (t : Module Name ℕ) where
 pub unlaid : (m : AbstractModule (List ℕ)) (e : EncodeError) → (e ≡ errors.TooLarge → ¬ (Fits m)) → (fault : EncodeFault) → fault ≡ as_fault e → IsUnlaid m fault
 unlaid m errors.Memory large fault is = subst (IsUnlaid m) (sym is) tt
 unlaid m errors.TooLarge large fault is = subst (IsUnlaid m) (sym is) (large refl)
+
+-- pieces are resolved to themselves
+pub pieces_stay : (counter : ℕ) (t : Module Name ℕ) → is_pieces t.content ≡ true → module_by counter t ≡ t
+pieces_stay counter t e = ap (λ content. record { place = t.place; id = t.id; given = t.given; content = content; refusal = t.refusal }) (stay t.content e)
+  where
+    stay : (content : Content Name ℕ) → is_pieces content ≡ true → content_by counter content ≡ content
+    stay (Fields fs) e = absurd (cc)
+    stay (Pieces pieces) e = refl

@@ -19,7 +19,7 @@ use Rattle.wast_meant.specs.Meaning.{Meaning}
 use Rattle.wast_meant.specs.Binary.{in_bytes}
 use Rattle.wast_meant.specs.Plain.{IsPlain}
 use Rattle.wast_resolve.specs.Whole.{module_demands_by, IsRefused}
-pub use Rattle.wast_resolve.specs.Whole.{IsCalledAlike, counter_after, module_by}
+pub use Rattle.wast_resolve.specs.Whole.{IsCalledAlike, counter_after, is_pieces, module_by}
 use Rattle.wast_encode.specs.declared.fault.EncodeFault.{EncodeFault}
 use Rattle.wast_encode.specs.declared.fault.EncodeFault.TheVariants as faults
 

@@ -1,5 +1,5 @@
 //! How modules are encoded.
-ghost use Rattle.std.specs.Prelude.{◌≡◌, ◌+◌, ◌<◌, ◌≤◌, ◌^◌, [], None, Some, false, length, map, option_map, IfErr, IfOk, OnOk, MatchResult};
+ghost use Rattle.std.specs.Prelude.{◌≡◌, ◌+◌, ◌<◌, ◌≤◌, ◌^◌, [], None, Some, false, true, length, map, option_map, IfErr, IfOk, IsOk, OnOk, MatchResult};
 ghost use Rattle.std.specs.List.{flat_map};
 ghost use Rattle.wast_grammar.specs.Spelling.{same_name};
 ghost use Rattle.wast_parser.specs.Problem.{Problem, is_memory};
@@ -11,7 +11,7 @@ ghost use Rattle.wast_names.specs.Demand.{is_met};
 ghost use Rattle.wast_names.specs.Walk.{first_unmet};
 ghost use Rattle.wast_meaning.specs.Modules.{content_fields, module_breaches};
 ghost use Rattle.wast_meaning.specs.Made.{is_made};
-ghost use Rattle.wast_resolve.specs.Whole.{IsCalledAlike, counter_after, module_by, module_demands_by};
+ghost use Rattle.wast_resolve.specs.Whole.{IsCalledAlike, counter_after, is_pieces, module_by, module_demands_by};
 ghost use Rattle.wasm_layout.specs.Lays.{Lays};
 ghost use Rattle.wast_binary.specs.Can.{CanEncode};
 ghost use Rattle.wast_encode.specs.Encoded.{CountsFor, Deserves, IsBinaryOf, IsRefusedFor, LeavesFor};
@@ -53,7 +53,7 @@ impl EncodeOptions {
     /// gives the same answer, where memory is found. `gensym` has come as far as its fields take names. A module whose names weren't
     /// resolved, for a demand that isn't met or for want of memory, keeps why, and each later call is refused by a copy of that, or for
     /// want of memory for the copy; its fields may be gone, and `gensym` has come as far, or for want of memory no further. Its place and
-    /// its names stay.
+    /// its names stay. Of the pieces of a binary nothing is resolved, and a refusal leaves them as they are.
     pub fn encode_module(
         &self,
         alloc: Global,
@@ -68,6 +68,7 @@ impl EncodeOptions {
         ensures left { (module_tree «module».old).refusal ≡ None → IfErr result (LeavesFor gensym.old (module_tree «module».old) (module_tree «module».new)) }
         ensures refused { (why : Problem) → (module_tree «module».old).refusal ≡ Some why → IfErr result (IsRefusedFor why) }
         ensures kept { (why : Problem) → (module_tree «module».old).refusal ≡ Some why → module_tree «module».new ≡ module_tree «module».old }
+        ensures pieces { (module_tree «module».old).refusal ≡ None → is_pieces (module_tree «module».old).content ≡ true → module_tree «module».new ≡ module_tree «module».old }
         ensures called { IsCalledAlike (module_tree «module».old) (module_tree «module».new) }
         ensures counted { OnOk result (gensym.new ≡ counter_after gensym.old (content_fields (module_tree «module».old).content)) }
         ensures reached { IfErr result (CountsFor gensym.old (module_tree «module».old) gensym.new) }
@@ -100,6 +101,7 @@ fn resolve_names(
     ensures resolved { OnOk result (((module_tree «module».old).refusal ≡ None) × (module_tree «module».new ≡ module_by gensym.old (module_tree «module».old))) }
     ensures fault { IfErr result (IsUnresolved gensym.old (module_tree «module».old) (module_tree «module».new)) }
     ensures kept { (why : Problem) → (module_tree «module».old).refusal ≡ Some why → module_tree «module».new ≡ module_tree «module».old }
+    ensures pieces { (module_tree «module».old).refusal ≡ None → is_pieces (module_tree «module».old).content ≡ true → IsOk result }
     ensures called { IsCalledAlike (module_tree «module».old) (module_tree «module».new) }
     ensures counted { OnOk result (gensym.new ≡ counter_after gensym.old (content_fields (module_tree «module».old).content)) }
     ensures reached { IfErr result (CountsFor gensym.old (module_tree «module».old) gensym.new) }

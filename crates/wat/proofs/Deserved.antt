@@ -4,10 +4,8 @@ use Rattle.std.specs.Prelude.{MatchResult}
 use Rattle.std.specs.Str.{IsUtf8}
 use Rattle.wast_grammar.specs.Tokens.{Name}
 use Rattle.wast_parser.specs.Problem.{Problem, is_memory}
-use Rattle.wast_parser.specs.Significant.{TextToken}
 use Rattle.wast_names.specs.Demand.{Tells}
 use Rattle.wast_field_syntax.specs.FieldTree.{Content, Fields, Pieces, Module}
-use Rattle.wast_core.specs.ModuleSyntax.{wat}
 use Rattle.wasm_layout.specs.AbstractModule.{AbstractModule}
 use Rattle.wast_meant.specs.Means as worths
 use Rattle.wast_encode.specs.Encoded.{StandsFor, IsBinaryOf}
@@ -23,18 +21,6 @@ use Rattle.wat.specs.Headline.{Deserves}
 use Rattle.wat.specs.NoText.{IsNoText}
 use Rattle.wat.specs.Judged.{IsJudged, IsAnswered, IsTold}
 
-pub no_text : (bytes : List ℕ) (f : Fault) → IsNoText bytes f → Deserves bytes f
-no_text bytes faults.TooLong t = t
-no_text bytes (faults.NotUtf8 offset) t = t
-no_text bytes (faults.Spelling error) t = absurd t
-no_text bytes faults.Memory t = tt
-no_text bytes faults.Read t = t
-no_text bytes (faults.NotWellFormed span) t = absurd t
-no_text bytes (faults.Unmet error) t = absurd t
-no_text bytes (faults.Uncovered span form) t = absurd t
-no_text bytes faults.TooLarge t = absurd t
-no_text bytes (faults.Write written) t = t
-
 not_utf8_of : (m n : ℕ) → NotUtf8 m ≡ NotUtf8 n → m ≡ n
 not_utf8_of m n e = cc
 
@@ -49,13 +35,6 @@ told_not_utf8 bytes (faults.Unmet error) n t h = absurd t
 told_not_utf8 bytes (faults.Uncovered span form) n t h = absurd t
 told_not_utf8 bytes faults.TooLarge n t h = absurd t
 told_not_utf8 bytes (faults.Write written) n t h = absurd t
-
--- A TREE THAT A TEXT SPELLS is none that was refused
-pub unrefused : (tree : Module Name ℕ) (ts : List TextToken) → wat.spells tree ts → tree.refusal ≡ None
-unrefused tree ts s = elim s [
-  | inl m ↦ sym (ap (λ (x : Module Name ℕ). x.refusal) m.4.1)
-  | inr m ↦ sym (ap (λ (x : Module Name ℕ). x.refusal) m.1)
-]
 
 module _ (bytes : List ℕ) (short : length bytes < 2 ^ 32) (utf8 : IsUtf8 bytes) where
   module _ (tree : Module Name ℕ) (s : Spells bytes tree) where

@@ -44,12 +44,6 @@ module _ {A : Type 0} (r : Reader Name ℕ A) (ts : List TextToken) where
   read_more a rest p e n =
       inr (ap (λ o. o >>= λ y. if at (NotEnd ∷ []) y.1 then None else Some y) e ∙ ap (λ b. if b then None else Some (a, rest)) (goes_on rest ∙ ap not n))
 
-  pub none_read : (p : Problem) → Refuses p (r ts) → Refuses p (ended r ts)
-  none_read p m = elim m [
-    | inl e ↦ inl e
-    | inr e ↦ inr (ap (λ o. o >>= λ y. if at (NotEnd ∷ []) y.1 then None else Some y) e)
-  ]
-
 -- what the answer of reading all of a text says of it
 module _ (source : Source) (is : IsTable false source.text source.tokens source.fault) where
   pub told : (answer : Result Wat Problem) → IfOk answer (λ w. ReadsAll (alone wat).reads registered source (wat_tree w)) → IfErr answer (λ e. (e ≡ out_of_memory) ⊎ ReadsNotAll (alone wat).reads registered source) → MatchResult answer (λ w. Spells source.text (wat_tree w)) (λ error. IsUnspelled source.text error)

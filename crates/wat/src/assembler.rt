@@ -1,12 +1,12 @@
 //! From the bytes of a text to the bytes of a binary.
 
-ghost use Rattle.std.specs.Prelude.{◌≡◌, ◌↔◌, ◌+◌, ◌<◌, ◌≤◌, ◌^◌, ℕ, IsTrue, false, length, None, Some, Err, MatchResult, IfErr, IfOk, OnOk};
+ghost use Rattle.std.specs.Prelude.{◌≡◌, ◌↔◌, ◌+◌, ◌<◌, ◌≤◌, ◌^◌, ℕ, IsTrue, false, true, length, None, Some, Err, MatchResult, IfErr, IfOk, OnOk};
 ghost use Rattle.std.specs.Str.{IsUtf8};
 ghost use Rattle.wast_parser.specs.Problem.{Problem, is_memory};
 ghost use Rattle.wast_parser.specs.Table.{IsTable};
 ghost use Rattle.wast_meaning.specs.Modules.{content_fields};
 ghost use Rattle.wast_encode.specs.Encoded as encoded;
-ghost use Rattle.wast_encode.specs.Encoded.{CountsFor, IsCalledAlike, IsRefusedFor, LeavesFor, counter_after, module_by};
+ghost use Rattle.wast_encode.specs.Encoded.{CountsFor, IsCalledAlike, IsRefusedFor, LeavesFor, counter_after, is_pieces, module_by};
 ghost use Rattle.wat_verdict.specs.Verdict.{Assembles, Fails, TooLong, NotUtf8, tree_breach};
 ghost use Rattle.wat.specs.Headline.{Deserves};
 ghost use Rattle.wat.specs.NoText.{IsNoText};
@@ -63,6 +63,7 @@ pub fn encode_wat(
     ensures left { (wat_tree wat.old).refusal ≡ None → IfErr result (LeavesFor gensym.old (wat_tree wat.old) (wat_tree wat.new)) }
     ensures refused { (why : Problem) → (wat_tree wat.old).refusal ≡ Some why → IfErr result (IsRefusedFor why) }
     ensures kept { (why : Problem) → (wat_tree wat.old).refusal ≡ Some why → wat_tree wat.new ≡ wat_tree wat.old }
+    ensures pieces { (wat_tree wat.old).refusal ≡ None → is_pieces (wat_tree wat.old).content ≡ true → wat_tree wat.new ≡ wat_tree wat.old }
     ensures called { IsCalledAlike (wat_tree wat.old) (wat_tree wat.new) }
     ensures counted { OnOk result (gensym.new ≡ counter_after gensym.old (content_fields (wat_tree wat.old).content)) }
     ensures reached { IfErr result (CountsFor gensym.old (wat_tree wat.old) gensym.new) }

@@ -1,5 +1,5 @@
 //! From a text to its tree.
-ghost use Rattle.std.specs.Prelude.{◌≡◌, ℕ, List, false, MatchResult};
+ghost use Rattle.std.specs.Prelude.{ℕ, false, MatchResult};
 ghost use Rattle.wast_grammar.specs.Tokens.{Name};
 ghost use Rattle.wast_parser.specs.Table.{IsTable};
 ghost use Rattle.wast_parser.specs.Lawful.{Lawful};

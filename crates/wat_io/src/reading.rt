@@ -1,6 +1,6 @@
 //! From a reader to a list of bytes.
 
-ghost use Rattle.std.specs.Prelude.{◌≡◌, ◌<◌, ◌≤◌, ◌++◌, ℕ, List, [], length, take, vec_len, IfOk, IfSome, MatchBool, OnOk};
+ghost use Rattle.std.specs.Prelude.{◌≡◌, ◌<◌, ◌≤◌, ◌++◌, ℕ, List, [], length, take, vec_len, IfOk, IfSome, MatchBool, OnErr, OnOk};
 ghost use Rattle.std.specs.Io.KnownBytes.{Consumes, IsAtEnd};
 ghost use Rattle.wat_io.specs.Counted.{after_reading};
 
@@ -21,7 +21,8 @@ pub enum ReadFault {
 }
 
 /// Reads until 0 bytes come or there are `bound`. Where that goes well, what is read stands in `input`, which is empty at first.
-/// Refused where a call of the reader fails, which is counted, and where no memory is found; `input` may hold some of it then.
+/// Refused where a call of the reader fails, which is counted, and where no memory is found; `input` holds the first of what was read
+/// then.
 pub fn read_within<R: Read>(
     alloc: Global,
     input: &mut Vec<u8>,
@@ -30,7 +31,7 @@ pub fn read_within<R: Read>(
 ) -> Result<(), ReadFault>
     requires { input.old.items ≡ [] }
     ensures given { (given : List ℕ) × Consumes (R.remaining reader.old.inner) (R.remaining reader.new.inner) given
-        × (length given ≤ bound) × OnOk result (input.new.items ≡ given) }
+        × (length given ≤ bound) × OnOk result (input.new.items ≡ given) × (rest : List ℕ) × (given ≡ input.new.items ++ rest) }
     ensures whole { OnOk result (IfSome (R.remaining reader.old.inner) (λ bytes. input.new.items ≡ take bound bytes)) }
     ensures failures { reader.new.failures ≡ after_reading reader.old.failures result }
 {
@@ -57,6 +58,7 @@ fn read_piece<R: Read>(
     requires { 0 < length piece.old }
     ensures given { (given : List ℕ) × Consumes (R.remaining reader.old.inner) (R.remaining reader.new.inner) given
         × (length given ≤ length piece.old) × OnOk result (input.new.items ≡ input.old.items ++ given) }
+    ensures stays { OnErr result (input.new.items ≡ input.old.items) }
     ensures more { IfOk result (λ more. MatchBool more (vec_len input.old < vec_len input.new)
         (IsAtEnd (R.remaining reader.new.inner))) }
     ensures failures { reader.new.failures ≡ after_reading reader.old.failures result }

@@ -1,4 +1,4 @@
-use Rattle.std.proofs.Common.{◌≤◌, ◌++◌, length, sym, subst, ap, ◌∙◌, arith, refl, Bool, ◌≡◌, ℕ, Err}
+use Rattle.std.proofs.Common.{append-nil, [], ◌≤◌, ◌++◌, length, sym, subst, ap, ◌∙◌, arith, refl, Bool, ◌≡◌, ℕ, Err}
 use Rattle.std.specs.Io.KnownBytes.{Consumes}
 use Rattle.std.proofs.KnownBytes.{Consumes-nil, Consumes-trans}
 use Rattle.wat_io.proofs.KnownBytes.{whole_at_bound, whole_after_last, consumed_more, within_more}
@@ -42,7 +42,7 @@ returns-in-Ok-false-clause-given g c =
     let fits : length (c.loop-input.input.items ++ given.0) ≤ c.args.bound =
     within_more c.loop-input.input.items given.0 c.as_mut_slice.result.now c.min-room.result c.args.bound (omega (arith, c.loop-input.input.ok.0))
     (omega (arith, c.loop-input.input.ok.0)) given.2 in
-    (_, Consumes-trans _ _ _ _ _ before.consumed given.1, fits, given.3)
+    (_, Consumes-trans _ _ _ _ _ before.consumed given.1, fits, given.3, [], sym given.3 ∙ sym (append-nil _))
 
 pub returns-in-Ok-false-clause-whole : goal.returns-in-Ok-false-clause-whole
 returns-in-Ok-false-clause-whole g c =
@@ -60,13 +60,18 @@ returns-in-Err-clause-given g c =
     let fits : length (c.loop-input.input.items ++ given.0) ≤ c.args.bound =
     within_more c.loop-input.input.items given.0 c.as_mut_slice.result.now c.min-room.result c.args.bound (omega (arith, c.loop-input.input.ok.0))
     (omega (arith, c.loop-input.input.ok.0)) given.2 in
-    (_, Consumes-trans _ _ _ _ _ before.consumed given.1, fits, tt)
+    (_, Consumes-trans _ _ _ _ _ before.consumed given.1, fits, tt, given.0, ap (λ l. l ++ given.0) (sym c.in-Err.ensures.stays))
 
 pub returns-in-Err-clause-failures : goal.returns-in-Err-clause-failures
 returns-in-Err-clause-failures g c =
     let before = c.loop-input.invariant in
     same_failures c.args.reader.now.failures c.loop-input.reader.failures _ c.in-Err.fault
     c.in-Err.ensures.failures before.failures
+
+pub returns-clause-given : goal.returns-clause-given
+returns-clause-given g c =
+    let before = c.loop-input.invariant in
+    (c.loop-input.input.items, before.consumed, omega (arith, c.loop-input.input.ok.0, before.bounded), refl, [], sym (append-nil c.loop-input.input.items))
 
 pub returns-clause-whole : goal.returns-clause-whole
 returns-clause-whole g c =

@@ -8,7 +8,7 @@ use Rattle.wast_core.specs.ModuleViews.{content_tree, module_tree}
 use Rattle.wast_uncovered.specs.First.{placed}
 use Rattle.wast_encode.specs.Encoded.{naming}
 use Rattle.wast_encode.specs.Resolved.{ContentReady, IsEncoded, IsUnencoded}
-use Rattle.wast_encode.proofs.Encoded.{binary_of, fault_of, content_ready, unresolved_deserves, unresolved_leaves, resolved_counts, refused_again, ok_of, err_of}
+use Rattle.wast_encode.proofs.Encoded.{binary_of, fault_of, content_ready, unresolved_deserves, unresolved_leaves, resolved_counts, refused_again, pieces_stay, ok_of, err_of}
 use Rattle.wast_encode.proofs.options.EncodeOptions.encode_module.Goals as goal
 
 pub returns-in-Err-clause-fault : goal.returns-in-Err-clause-fault
@@ -48,3 +48,9 @@ returns-in-None-clause-fault c = λ none.
 
 pub returns-in-None-clause-reached : goal.returns-in-None-clause-reached
 returns-in-None-clause-reached c = err_of _ _ _ (λ f u. resolved_counts c.args.gensym.now (module_tree c.args.«module».now) (module_tree c.resolve_names.new.«module») f _ c.in-Ok.ensures.counted) c.encode_resolved.result c.encode_resolved.ensures
+
+pub returns-in-None-clause-pieces : goal.returns-in-None-clause-pieces
+returns-in-None-clause-pieces c = λ none are. c.in-Ok.ensures.resolved.1 ∙ pieces_stay c.args.gensym.now (module_tree c.args.«module».now) are
+
+pub returns-in-Some-clause-pieces : goal.returns-in-Some-clause-pieces
+returns-in-Some-clause-pieces c = λ none are. c.in-Ok.ensures.resolved.1 ∙ pieces_stay c.args.gensym.now (module_tree c.args.«module».now) are
