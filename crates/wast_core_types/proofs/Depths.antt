@@ -7,8 +7,8 @@ use Rattle.wast_parser.specs.Look.{ask}
 use Rattle.wast_parser.specs.Grammar.{one_of, word}
 use Rattle.wast_grammar.proofs.Looks.{bind_ok, some_one}
 use Rattle.wast_parser.proofs.GrammarLaws.{one_open, shrinks, word_laws}
-use Rattle.wast_signatures.specs.TypeTree.{CompType, InnerType}
-use Rattle.wast_signatures.specs.TypeSyntax.{shared_starts, comp_starts, comp_step, comp_type, as_shared, unshared}
+use Rattle.wast_signatures.specs.TypeTree.{CompType}
+use Rattle.wast_signatures.specs.TypeSyntax.{shared_starts, comp_starts, comp_step, comp_type, as_shared}
 use Rattle.wast_core_types.specs.Depths.{closed, within, opened}
 use Rattle.wast_core_types.proofs.TypeLaws.{comp_steps}
 use Rattle.wast_core_types.proofs.Turns.{fix_turn}
@@ -73,9 +73,6 @@ shared_unopened n ts a e = first (one_of that_open ts) refl e
     first : (o : Option (ℕ × Tokens)) → one_of that_open ts ≡ o → (o >>= then_word) ≡ None → within n ts ≡ None
     first None f h = rw (comp_turn ts, a, f) refl
     first (Some o) f h = second o f ((word shared).reads o.1) refl h
-
-abbrev plain : InnerType Name ℕ × Tokens → Option (Comp × Tokens)
-plain x = Some (unshared x.0, x.1)
 
 -- each group takes a token
 pub opened_shorter : (ts : Tokens) (x : Unit {0} × Tokens) → opened shared ts ≡ Some x → length x.1 < length ts

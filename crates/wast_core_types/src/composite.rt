@@ -1,12 +1,11 @@
 //! Composite types.
-ghost use Rattle.std.specs.Prelude.{◌≡◌, ℕ, List, [], ◌∷◌, map, IfOk, IfErr, Some, false, refl};
+ghost use Rattle.std.specs.Prelude.{◌≡◌, ℕ, List, map, IfOk, IfErr, Some, false, refl};
 ghost use Rattle.wast_grammar.specs.Tokens.{Name};
 ghost use Rattle.wast_parser.specs.Look.{ask, join};
-ghost use Rattle.wast_parser.specs.Lawful.{Lawful, Leads};
+ghost use Rattle.wast_parser.specs.Lawful.{Lawful};
 ghost use Rattle.wast_parser.specs.Significant.{TextToken};
 ghost use Rattle.wast_parser.specs.State.{ahead, Keeps};
-ghost use Rattle.wast_parser.specs.Reading.{Asks, Gives, Refuses};
-ghost use Rattle.wast_parser.specs.Cursors.{stands};
+ghost use Rattle.wast_parser.specs.Reading.{Gives, Refuses};
 ghost use Rattle.wast_parser.specs.Identifiers.{Reference, index, index_tree};
 ghost use Rattle.wast_value_types.specs.ValueTree as spec_value;
 ghost use Rattle.wast_value_types.specs.ValueSyntax.{field_type};

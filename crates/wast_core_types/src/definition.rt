@@ -1,22 +1,23 @@
 //! Type definitions.
-ghost use Rattle.std.specs.Prelude.{◌≡◌, ℕ, List, Bool, Option, [], ◌∷◌, map, option_map, refl};
+ghost use Rattle.std.specs.Prelude.{◌≡◌, ℕ, List, Option, option_map, refl};
 ghost use Rattle.wast_grammar.specs.Tokens.{Name};
 ghost use Rattle.wast_parser.specs.Look.{ask};
 ghost use Rattle.wast_parser.specs.Lawful.{Lawful, Leads};
 ghost use Rattle.wast_parser.specs.Significant.{TextToken};
-ghost use Rattle.wast_parser.specs.State.{ahead, Keeps};
-ghost use Rattle.wast_parser.specs.Reading.{Asks, Gives};
+ghost use Rattle.wast_parser.specs.State.{ahead};
+ghost use Rattle.wast_parser.specs.Reading.{Asks};
 ghost use Rattle.wast_parser.specs.Cursors.{stands};
 ghost use Rattle.wast_parser.specs.Identifiers.{Reference, index_tree};
 ghost use Rattle.wast_signatures.specs.TypeTree as spec;
-ghost use Rattle.wast_signatures.specs.TypeSyntax.{type_starts, index_of, described, sub_type, type_def, type_body, type_item, rec_body, rec_group, as_definition};
+ghost use Rattle.wast_signatures.specs.TypeSyntax.{type_starts, described, sub_type, type_def, type_body, type_item, rec_group, as_definition};
 ghost use Rattle.wast_core_types.specs.TypeViews.{comp_tree, definition_tree, item_tree, rec_tree};
 
 use crate::composite::{CompositeType, InnerTypeKind};
 use crate::keyword;
 use wast_lexer::Span;
 use wast_parser::{
-    Cursor, Error, Id, Index, Item, Keyword, Meaning, NameAnnotation, Parse, Parser, Peek, list_of,
+    Cursor, Error, Id, Index, Item, Keyword, LParen, Meaning, NameAnnotation, Parse, Parser, Peek,
+    RParen, list_of, required,
 };
 use wast_signatures::{Body, Grouped, value_of};
 
@@ -313,35 +314,10 @@ impl<'a> Meaning for Rec<'a> {
 
 impl<'a> Parse<'a> for Rec<'a> {
     fn parse(parser: &mut Parser<'a>) -> Result<Self, Error> {
-        let body: RecBody = parser.parens_of()?;
-        Ok(body.group)
-    }
-}
-
-/// What stands between the parentheses of such a group.
-#[derive(Drop)]
-struct RecBody<'a> {
-    group: Rec<'a>,
-}
-
-impl<'a> Meaning for RecBody<'a> {
-    ghost Tree = { spec.Rec Name ℕ };
-
-    ghost tree = { λ b. rec_tree b.group };
-
-    ghost syntax = { rec_body };
-
-    fn lawful()
-        ensures { Lawful (rec_body {N = Name} {P = ℕ}) }
-    {}
-}
-
-impl<'a> Parse<'a> for RecBody<'a> {
-    fn parse(parser: &mut Parser<'a>) -> Result<Self, Error> {
+        LParen::parse(parser)?;
         let span = parser.word("rec")?;
         let types = list_of(parser)?;
-        Ok(RecBody {
-            group: Rec { span, types },
-        })
+        required::<RParen>(parser, "expected `(type` or `)`")?;
+        Ok(Rec { span, types })
     }
 }

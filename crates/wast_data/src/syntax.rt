@@ -1,5 +1,5 @@
 //! The productions of values of data segments.
-ghost use Rattle.std.specs.Prelude.{◌≡◌, ◌*◌, ℕ, List, length, map, refl};
+ghost use Rattle.std.specs.Prelude.{◌≡◌, ◌*◌, ℕ, List, length, refl};
 ghost use Rattle.std.specs.List.{flat_map};
 ghost use Rattle.wast_grammar.specs.Tokens.{Name};
 ghost use Rattle.wast_parser.specs.Look.{ask};
@@ -19,7 +19,7 @@ use crate::value::DataVal;
 use wasm_encoder_base::Bytes;
 use wast_parser::{
     Cursor, Error, Item, LParen, Meaning, Parse, Parser, Peek, RParen, Spelled, WordSet,
-    find_among, list_of,
+    find_among, list_of, required,
 };
 use wast_vector_operands::{FloatLit, V128Const};
 
@@ -95,6 +95,19 @@ const TYPES: [NumberType; 7] = [
     NumberType::V128,
 ];
 
+impl NumberType {
+    /// What is said where numbers of this type don't go on.
+    fn expected_behind(self) -> &'static str {
+        match self {
+            NumberType::I8 | NumberType::I16 | NumberType::I32 | NumberType::I64 => {
+                "expected an integer or `)`"
+            }
+            NumberType::F32 | NumberType::F64 => "expected a number or `)`",
+            NumberType::V128 => "expected a shape or `)`",
+        }
+    }
+}
+
 impl WordSet for NumberType {
     ghost Entry = { words.NumberType };
 
@@ -137,7 +150,7 @@ fn parse_numbers<'a>(parser: &mut Parser<'a>) -> Result<DataVal<'a>, Error>
     LParen::parse(parser)?;
     let (ty, _) = parser.among("expected a type of numbers")?;
     let value = parse_numbers_of(parser, ty)?;
-    RParen::parse(parser)?;
+    required::<RParen>(parser, ty.expected_behind())?;
     Ok(value)
 }
 

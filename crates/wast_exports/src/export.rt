@@ -1,7 +1,7 @@
 //! Exports.
-ghost use Rattle.std.specs.Prelude.{◌≡◌, ℕ, List, [], ◌∷◌, refl, codes, false};
+ghost use Rattle.std.specs.Prelude.{◌≡◌, ℕ, refl};
 ghost use Rattle.wast_grammar.specs.Tokens.{Name};
-ghost use Rattle.wast_parser.specs.Lawful.{Lawful, Leads};
+ghost use Rattle.wast_parser.specs.Lawful.{Lawful};
 ghost use Rattle.wast_parser.specs.State.{ahead, Keeps};
 ghost use Rattle.wast_parser.specs.Reading.{Gives};
 ghost use Rattle.wast_parser.specs.Identifiers.{index_tree};
@@ -15,7 +15,7 @@ use std::borrow::CowStr;
 use wast_lexer::Span;
 use wast_parser::{
     Cursor, Error, Index, Keyword, LParen, Meaning, Parse, Parser, Peek, RParen, Spelled, WordSet,
-    find_among,
+    find_among, required,
 };
 
 /// An export: `(export "name" (func $f))` (6.6, exports).
@@ -144,7 +144,10 @@ fn parse_exported<'a>(parser: &mut Parser<'a>) -> Result<(ExportKind, Index<'a>)
     ensures read { Gives (λ e. (kind_view e.0, index_tree e.1)) result parser.new (exported.reads (ahead parser.old)) }
     ensures keeps { Keeps parser.old parser.new }
 {
-    LParen::parse(parser)?;
+    required::<LParen>(
+        parser,
+        "expected `(func`, `(table`, `(memory`, `(global` or `(tag`",
+    )?;
     let kind = ExportKind::parse(parser)?;
     let item = Index::parse(parser)?;
     RParen::parse(parser)?;

@@ -1,12 +1,12 @@
 //! Exports and imports that stand inline in the field that they are of.
-ghost use Rattle.std.specs.Prelude.{◌≡◌, ℕ, List, [], ◌∷◌, refl, codes, false};
+ghost use Rattle.std.specs.Prelude.{ℕ, List, refl};
 ghost use Rattle.wast_grammar.specs.Tokens.{Name};
 ghost use Rattle.wast_parser.specs.Look.{ask};
 ghost use Rattle.wast_parser.specs.Lawful.{Lawful, Leads};
 ghost use Rattle.wast_parser.specs.State.{ahead};
 ghost use Rattle.wast_parser.specs.Reading.{Asks};
 ghost use Rattle.wast_parser.specs.Cursors.{stands};
-ghost use Rattle.wast_exports.specs.Exports.{export_starts, import_starts, export_name_body, export_name, inline_export, inline_import_body, inline_import};
+ghost use Rattle.wast_exports.specs.Exports.{export_starts, import_starts, export_name, inline_export, inline_import};
 ghost use Rattle.wast_exports.specs.ExportViews.{export_name_tree, inline_export_tree, inline_import_tree};
 
 use std::alloc::Global;

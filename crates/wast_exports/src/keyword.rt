@@ -1,5 +1,5 @@
 //! Words of the grammar that stand for themselves.
-ghost use Rattle.std.specs.Prelude.{◌≡◌, codes};
+ghost use Rattle.std.specs.Prelude.{codes};
 
 use wast_parser::KeywordName;
 

@@ -1,5 +1,5 @@
 //! The words of the syntax of fields that define something, and of segments.
-ghost use Rattle.std.specs.Prelude.{◌≡◌, codes};
+ghost use Rattle.std.specs.Prelude.{codes};
 
 use wast_parser::KeywordName;
 

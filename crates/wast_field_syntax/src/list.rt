@@ -1,12 +1,13 @@
 //! Lists that are kept.
-ghost use Rattle.std.specs.Prelude.{◌≡◌, map};
+ghost use Rattle.std.specs.Prelude.{map};
 ghost use Rattle.wast_parser.specs.Grammar.{many};
 ghost use Rattle.wast_parser.specs.State.{ahead, Keeps};
 ghost use Rattle.wast_parser.specs.Reading.{Gives};
 
 use wast_parser::{Error, Item, Parse, Parser, list_of};
 
-/// As many as there are, one after the other, in no more memory than they take.
+/// Reads as many as there are, one after the other, into no more memory than they take. Refused where one that begins isn't read, where no
+/// token can be read, or for want of memory.
 pub fn full_list<'a, T: Parse<'a> + Item>(parser: &mut Parser<'a>) -> Result<Vec<T>, Error>
     ensures read { Gives (λ v. map T.tree v.items) result parser.new ((many T.syntax.starts T.syntax).reads (ahead parser.old)) }
     ensures keeps { Keeps parser.old parser.new }

@@ -11,7 +11,8 @@ ghost use Rattle.wast_field_syntax.specs.DefinitionSyntax.{plain_starts, lone_in
 use wast_mnemonics::Word;
 use wast_parser::{Cursor, Error, Meaning, Parser, Peek};
 
-/// What another look found here, or else whether one begins here: what both ask, joined.
+/// What another look found here, or else whether one begins here: what both ask, joined. Refused where that look was, or this one is;
+/// neither may ask for what the other takes for a fault.
 pub fn or_begins<T: Peek>(found: Result<bool, Error>, parser: &Parser<'_>) -> Result<bool, Error>
     ensures { (tests : List Test) → apart (faults (join tests T.syntax.starts)) (join tests T.syntax.starts) ≡ true → Asks found parser.now.source (ask tests (ahead parser.now)) → Asks result parser.now.source (ask (join tests T.syntax.starts) (ahead parser.now)) }
 {

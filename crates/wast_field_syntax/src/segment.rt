@@ -1,5 +1,5 @@
 //! The tables and memories of segments.
-ghost use Rattle.std.specs.Prelude.{◌≡◌, ℕ, List, ◌∷◌, option_map, refl};
+ghost use Rattle.std.specs.Prelude.{ℕ, ◌∷◌, option_map, refl};
 ghost use Rattle.wast_grammar.specs.Tokens.{Name};
 ghost use Rattle.wast_parser.specs.Look.{ask, this_group};
 ghost use Rattle.wast_parser.specs.Grammar.{maybe};
@@ -77,7 +77,8 @@ impl<'a, N: KeywordName> Peek for UseOf<'a, N> {
     }
 }
 
-/// Reads the table or the memory of a segment where one is written.
+/// Reads the table or the memory of a segment where one is written. Refused where one that begins isn't read, where no token can be read,
+/// or for want of memory.
 pub fn parse_use<'a, N: KeywordName>(parser: &mut Parser<'a>) -> Result<Option<Index<'a>>, Error>
     ensures read { Gives (option_map index_tree) result parser.new ((maybe (this_group N.word ∷ int_starts) (use_of N.word)).reads (ahead parser.old)) }
     ensures keeps { Keeps parser.old parser.new }

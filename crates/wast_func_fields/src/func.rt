@@ -1,5 +1,5 @@
 //! Functions.
-ghost use Rattle.std.specs.Prelude.{◌≡◌, ℕ, List};
+ghost use Rattle.std.specs.Prelude.{◌≡◌, ℕ};
 ghost use Rattle.wast_field_syntax.specs.Tokens.{Name};
 ghost use Rattle.wast_field_syntax.specs.Grammar.{seen, seq};
 ghost use Rattle.wast_field_syntax.specs.Lawful.{Lawful};
@@ -15,9 +15,9 @@ ghost use Rattle.wast_func_fields.specs.FuncViews.{func_type_tree, defined_func,
 use crate::local::Local;
 use wast_field_syntax::{
     Error, Expression, Id, InlineExport, InlineImport, LParen, Meaning, NameAnnotation, Parse,
-    Parser, RParen, Span,
+    Parser, RParen, Span, required,
 };
-use wast_imports::Head;
+use wast_imports::{Head, expected_behind_use};
 use wast_signatures::{FunctionType, TypeUse};
 use wast_value_types::keyword::Exact;
 use wast_value_types::{Group, group_of};
@@ -113,7 +113,7 @@ impl<'a> Parse<'a> for Func<'a> {
         let head = Head::parse(parser)?;
         let exports = InlineExport::parse(parser)?;
         let (kind, ty) = parse_defined(parser)?;
-        RParen::parse(parser)?;
+        required::<RParen>(parser, expected_behind(&kind, &ty))?;
         Ok(Func {
             span,
             id: head.id,
@@ -122,6 +122,15 @@ impl<'a> Parse<'a> for Func<'a> {
             kind,
             ty,
         })
+    }
+}
+
+/// What is said where a function of this kind and type doesn't go on.
+fn expected_behind(kind: &FuncKind<'_>, ty: &TypeUse<'_, FunctionType<'_>>) -> &'static str {
+    match kind {
+        FuncKind::Inline { .. } => "expected an instruction or `)`",
+        FuncKind::Import { is_exact: true, .. } => "expected `)`",
+        FuncKind::Import { .. } => expected_behind_use(ty),
     }
 }
 

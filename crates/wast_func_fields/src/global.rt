@@ -1,5 +1,5 @@
 //! Globals.
-ghost use Rattle.std.specs.Prelude.{◌≡◌, ℕ, List};
+ghost use Rattle.std.specs.Prelude.{◌≡◌, ℕ};
 ghost use Rattle.wast_field_syntax.specs.Tokens.{Name};
 ghost use Rattle.wast_field_syntax.specs.Lawful.{Lawful};
 ghost use Rattle.wast_field_syntax.specs.State.{ahead, Keeps};
@@ -10,7 +10,7 @@ ghost use Rattle.wast_func_fields.specs.FuncViews.{defined_global, global_defini
 
 use wast_field_syntax::{
     Error, Expression, Id, InlineExport, InlineImport, LParen, Meaning, NameAnnotation, Parse,
-    Parser, RParen, Span,
+    Parser, RParen, Span, required,
 };
 use wast_imports::Head;
 use wast_value_types::GlobalType;
@@ -80,6 +80,16 @@ pub enum GlobalKind<'a> {
     Inline(Expression<'a>),
 }
 
+impl GlobalKind<'_> {
+    /// What is said where a global of this kind doesn't go on.
+    fn expected_behind(&self) -> &'static str {
+        match self {
+            GlobalKind::Import(_) => "expected `)`",
+            GlobalKind::Inline(_) => "expected an instruction or `)`",
+        }
+    }
+}
+
 impl<'a> Meaning for Global<'a> {
     ghost Tree = { spec.Definition Name ℕ };
 
@@ -99,7 +109,7 @@ impl<'a> Parse<'a> for Global<'a> {
         let head = Head::parse(parser)?;
         let exports = InlineExport::parse(parser)?;
         let (ty, kind) = parse_defined(parser)?;
-        RParen::parse(parser)?;
+        required::<RParen>(parser, kind.expected_behind())?;
         Ok(Global {
             span,
             id: head.id,

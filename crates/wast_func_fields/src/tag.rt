@@ -1,5 +1,5 @@
 //! Tags.
-ghost use Rattle.std.specs.Prelude.{◌≡◌, ℕ, List};
+ghost use Rattle.std.specs.Prelude.{◌≡◌, ℕ};
 ghost use Rattle.wast_field_syntax.specs.Tokens.{Name};
 ghost use Rattle.wast_field_syntax.specs.Lawful.{Lawful};
 ghost use Rattle.wast_field_syntax.specs.State.{ahead, Keeps};
@@ -10,9 +10,9 @@ ghost use Rattle.wast_func_fields.specs.FuncViews.{defined_tag, tag_definition};
 
 use wast_field_syntax::{
     Error, Id, InlineExport, InlineImport, LParen, Meaning, NameAnnotation, Parse, Parser, RParen,
-    Span,
+    Span, required,
 };
-use wast_imports::{Head, TagType};
+use wast_imports::{Head, TagType, expected_behind_use};
 
 /// A tag (6.6, tags): `(tag $t (param i32))`.
 ///
@@ -97,7 +97,8 @@ impl<'a> Parse<'a> for Tag<'a> {
         let head = Head::parse(parser)?;
         let exports = InlineExport::parse(parser)?;
         let (kind, ty) = parse_defined(parser)?;
-        RParen::parse(parser)?;
+        let TagType::Exception(signature) = &ty;
+        required::<RParen>(parser, expected_behind_use(signature))?;
         Ok(Tag {
             span,
             id: head.id,

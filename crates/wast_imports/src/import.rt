@@ -1,5 +1,5 @@
 //! Imports.
-ghost use Rattle.std.specs.Prelude.{◌≡◌, ◌<◌, ℕ, List, length, IfOk, map, Option, Some, None, option_map};
+ghost use Rattle.std.specs.Prelude.{◌≡◌, ◌<◌, ℕ, length, IfOk, map, Option, Some, None};
 ghost use Rattle.std.specs.Cow.{cow_str_bytes};
 ghost use Rattle.std.specs.List.{slice_get};
 ghost use Rattle.wast_signatures.specs.Tokens.{Name};

@@ -1,5 +1,5 @@
 //! External types, and items.
-ghost use Rattle.std.specs.Prelude.{◌≡◌, ℕ, List, [], ◌∷◌, Option, false, refl};
+ghost use Rattle.std.specs.Prelude.{ℕ, [], Option, refl};
 ghost use Rattle.wast_signatures.specs.Tokens.{Name};
 ghost use Rattle.wast_signatures.specs.Look.{ask};
 ghost use Rattle.wast_signatures.specs.Grammar.{among};
@@ -19,11 +19,12 @@ ghost use Rattle.wast_imports.specs.ImportViews.{tag_tree, extern_tree, item_tre
 use crate::head::Head;
 use wast_exports::ExportKind;
 use wast_signatures::{
-    Cursor, Error, FunctionType, Id, Item, LParen, Meaning, NameAnnotation, Parse, Parser, Peek,
-    RParen, Span, TypeUse,
+    Body, Cursor, Error, FunctionType, Id, Item, LParen, Meaning, NameAnnotation, Parse, Parser,
+    Peek, RParen, Span, TypeUse,
 };
 use wast_value_types::keyword::Exact;
 use wast_value_types::{GlobalType, Group, MemoryType, TableType};
+use wast_words::required;
 
 /// What is imported or exported (6.4.13), with what it is called: `(func $f (param i32))`.
 #[derive(Drop)]
@@ -52,6 +53,31 @@ pub enum ItemKind<'a> {
 #[derive(Drop)]
 pub enum TagType<'a> {
     Exception(TypeUse<'a, FunctionType<'a>>),
+}
+
+impl ItemKind<'_> {
+    /// What is said where the group of an item of this type doesn't go on.
+    fn expected_behind(&self) -> &'static str {
+        match self {
+            ItemKind::Func(ty) => expected_behind_use(ty),
+            ItemKind::Tag(TagType::Exception(ty)) => expected_behind_use(ty),
+            ItemKind::FuncExact(_)
+            | ItemKind::Table(_)
+            | ItemKind::Memory(_)
+            | ItemKind::Global(_) => "expected `)`",
+        }
+    }
+}
+
+/// What is said where a group that ends with this use of a type doesn't go on.
+pub fn expected_behind_use(ty: &TypeUse<'_, FunctionType<'_>>) -> &'static str {
+    match &ty.inline {
+        Some(signature) => signature.expected_behind(),
+        None => match &ty.index {
+            Some(_) => "expected `(param`, `(result` or `)`",
+            None => "expected `(type`, `(param`, `(result` or `)`",
+        },
+    }
 }
 
 impl<'a> Meaning for TagType<'a> {
@@ -87,11 +113,14 @@ impl<'a> Meaning for ItemSig<'a> {
 
 impl<'a> Parse<'a> for ItemSig<'a> {
     fn parse(parser: &mut Parser<'a>) -> Result<Self, Error> {
-        LParen::parse(parser)?;
+        required::<LParen>(
+            parser,
+            "expected `(func`, `(table`, `(memory`, `(global` or `(tag`",
+        )?;
         let (word, span) = parse_word(parser)?;
         let head = Head::parse(parser)?;
         let kind = parse_kind(parser, word)?;
-        RParen::parse(parser)?;
+        required::<RParen>(parser, kind.expected_behind())?;
         Ok(ItemSig {
             span,
             id: head.id,
@@ -130,10 +159,13 @@ pub(crate) fn parse_bare<'a>(parser: &mut Parser<'a>) -> Result<ItemSig<'a>, Err
     ensures read { Gives item_tree result parser.new (bare_item.reads (ahead parser.old)) }
     ensures keeps { Keeps parser.old parser.new }
 {
-    LParen::parse(parser)?;
+    required::<LParen>(
+        parser,
+        "expected `(item`, `(func`, `(table`, `(memory`, `(global` or `(tag`",
+    )?;
     let (word, span) = parse_word(parser)?;
     let kind = parse_kind(parser, word)?;
-    RParen::parse(parser)?;
+    required::<RParen>(parser, kind.expected_behind())?;
     Ok(ItemSig {
         span,
         id: None,
@@ -184,6 +216,6 @@ fn parse_exact<'a>(parser: &mut Parser<'a>) -> Result<TypeUse<'a, FunctionType<'
     LParen::parse(parser)?;
     parser.word("exact")?;
     let ty = TypeUse::parse(parser)?;
-    RParen::parse(parser)?;
+    required::<RParen>(parser, expected_behind_use(&ty))?;
     Ok(ty)
 }

@@ -1,5 +1,5 @@
 //! Members of groups of imports.
-ghost use Rattle.std.specs.Prelude.{◌≡◌, ℕ, List, [], ◌∷◌, Option, IfOk, map, option_map, false, refl};
+ghost use Rattle.std.specs.Prelude.{◌≡◌, ℕ, List, ◌∷◌, Option, IfOk, map, option_map, refl};
 ghost use Rattle.std.specs.Cow.{cow_str_bytes};
 ghost use Rattle.wast_signatures.specs.Tokens.{Name};
 ghost use Rattle.wast_signatures.specs.Look.{ask};

@@ -1,5 +1,5 @@
 //! Element segments.
-ghost use Rattle.std.specs.Prelude.{◌≡◌, ℕ, List};
+ghost use Rattle.std.specs.Prelude.{◌≡◌, ℕ};
 ghost use Rattle.wast_field_syntax.specs.Tokens.{Name};
 ghost use Rattle.wast_field_syntax.specs.Look.{ask};
 ghost use Rattle.wast_field_syntax.specs.Grammar.{either, seen};
@@ -7,7 +7,9 @@ ghost use Rattle.wast_field_syntax.specs.Lawful.{Lawful};
 ghost use Rattle.wast_field_syntax.specs.State.{ahead, Keeps};
 ghost use Rattle.wast_field_syntax.specs.Reading.{Asks, Gives};
 ghost use Rattle.wast_field_syntax.specs.FieldTree as spec;
+ghost use Rattle.wast_field_syntax.specs.DefinitionSyntax.{elem_offset};
 ghost use Rattle.wast_field_syntax.specs.ElemSyntax.{list_starts, indices, elem_list, active, segment, elem};
+ghost use Rattle.wast_field_syntax.specs.ExpressionViews.{expression_tree};
 ghost use Rattle.wast_table_fields.specs.ElemViews.{elements_tree, mode_tree, elem_tree};
 
 use crate::element::{parse_elements, parse_led_or_plain};
@@ -158,9 +160,29 @@ fn parse_active<'a>(parser: &mut Parser<'a>) -> Result<(ElemKind<'a>, ElemPayloa
     ensures keeps { Keeps parser.old parser.new }
 {
     let table = parse_use::<Table>(parser)?;
-    let offset = parse_led_or_plain::<Offset>(parser)?;
+    let offset = parse_offset(parser, expected_at(&table))?;
     let payload = parse_copied(parser)?;
     Ok((ElemKind::Active { table, offset }, payload))
+}
+
+/// What is said where no offset is read behind this table.
+fn expected_at(table: &Option<Index<'_>>) -> &'static str {
+    match table {
+        Some(_) => "expected an offset",
+        None => "expected elements, `declare`, a table or an offset",
+    }
+}
+
+/// Reads the offset of a segment. Refused with this message where a token comes next that is no parenthesis, or none.
+fn parse_offset<'a>(parser: &mut Parser<'a>, message: &str) -> Result<Expression<'a>, Error>
+    ensures read { Gives expression_tree result parser.new (elem_offset.reads (ahead parser.old)) }
+    ensures keeps { Keeps parser.old parser.new }
+{
+    match parser.peek::<LParen>() {
+        Ok(true) => parse_led_or_plain::<Offset>(parser),
+        Ok(false) => Err(parser.error(message)),
+        Err(e) => Err(e),
+    }
 }
 
 /// Reads the elements of such a segment, which may be indices by themselves.

@@ -1,5 +1,5 @@
 //! Expressions in element segments and tables.
-ghost use Rattle.std.specs.Prelude.{◌≡◌, map};
+ghost use Rattle.std.specs.Prelude.{map};
 ghost use Rattle.wast_field_syntax.specs.Look.{ask};
 ghost use Rattle.wast_field_syntax.specs.Grammar.{many};
 ghost use Rattle.wast_field_syntax.specs.State.{ahead, Keeps};

@@ -1,5 +1,5 @@
 //! Tables.
-ghost use Rattle.std.specs.Prelude.{◌≡◌, ℕ, List, false, true, codes, Some, None, option_map};
+ghost use Rattle.std.specs.Prelude.{◌≡◌, ℕ, false, true, codes, Some, None, option_map};
 ghost use Rattle.wast_field_syntax.specs.Tokens.{Name};
 ghost use Rattle.wast_field_syntax.specs.Grammar.{seen, led, seq};
 ghost use Rattle.wast_field_syntax.specs.Lawful.{Lawful};
@@ -96,6 +96,16 @@ pub enum TableKind<'a> {
     },
 }
 
+impl TableKind<'_> {
+    /// What is said where a table of this kind doesn't go on.
+    fn expected_behind(&self) -> &'static str {
+        match self {
+            TableKind::Normal { .. } => "expected an instruction or `)`",
+            TableKind::Import { .. } | TableKind::Inline { .. } => "expected `)`",
+        }
+    }
+}
+
 impl<'a> Meaning for Table<'a> {
     ghost Tree = { spec.Definition Name ℕ };
 
@@ -115,7 +125,7 @@ impl<'a> Parse<'a> for Table<'a> {
         let head = Head::parse(parser)?;
         let exports = InlineExport::parse(parser)?;
         let kind = parse_defined(parser)?;
-        RParen::parse(parser)?;
+        required::<RParen>(parser, kind.expected_behind())?;
         Ok(Table {
             span,
             id: head.id,
