@@ -14,6 +14,7 @@ pub struct Page {
 }
 
 impl Page {
+    /// A page on which nothing is printed yet.
     pub fn new(rt: HostRuntime) -> Self {
         Page {
             rt,
@@ -21,6 +22,7 @@ impl Page {
         }
     }
 
+    /// The memory of the program.
     pub fn alloc(&self) -> Global {
         self.rt.alloc()
     }

@@ -1,6 +1,5 @@
 //! The start section (WebAssembly 3.0, 5.5.11) and the data count section (5.5.15).
 
-ghost use Rattle.std.specs.Prelude.{◌≡◌};
 ghost use Rattle.wasm_encoder_base.specs.Bytes.{sized};
 ghost use Rattle.wasm_encoder_base.specs.Encodes.{Encodes};
 ghost use Rattle.wasm_encoder_base.specs.Leb.{uleb};
@@ -39,6 +38,7 @@ impl Section for StartSection {
 /// The data count section: how many data segments there are, for those who read the code before them.
 #[derive(Clone, Copy, Debug)]
 pub struct DataCountSection {
+    /// The number of data segments.
     pub count: u32,
 }
 

@@ -1,9 +1,9 @@
 //! Whether all that is in fields can be numbered by 32 bits: items, and inside of them parameters, locals, fields of structures and
 //! instructions.
-ghost use Rattle.std.specs.Prelude.{◌≡◌, ◌+◌, ◌≤◌, true, length, map, IfSome};
+ghost use Rattle.std.specs.Prelude.{◌≡◌, ◌+◌, ◌≤◌, true, map, IfSome};
 ghost use Rattle.wast_signatures.specs.SignatureViews.{use_tree};
 ghost use Rattle.wast_core_types.specs.TypeViews.{item_tree as type_tree, inner_tree};
-ghost use Rattle.wast_imports.specs.ImportViews.{item_tree, items_tree, member_tree, extern_tree, tag_tree};
+ghost use Rattle.wast_imports.specs.ImportViews.{items_tree, member_tree, extern_tree};
 ghost use Rattle.wast_module_fields.specs.FuncViews.{func_definition, tag_definition};
 ghost use Rattle.wast_module_fields.specs.ModuleFieldViews.{field_tree};
 ghost use Rattle.wast_binary.specs.Weight.{total, inner_weight, type_weight, use_weight, extern_weight, import_weight, defined_weight, weight, AreFew};

@@ -1,8 +1,7 @@
 //! What stands in a module, stop by stop.
-ghost use Rattle.std.specs.Prelude.{◌≡◌, All};
+ghost use Rattle.std.specs.Prelude.{◌≡◌};
 ghost use Rattle.wasm_layout.specs.Layout.{pieces};
 ghost use Rattle.wast_meant.specs.CustomsMeant.{At, Of, customs_in, stops};
-ghost use Rattle.wast_customs.specs.CustomViews.{place_tree};
 ghost use Rattle.std.specs.List.{AllByRecursion, flat_map};
 ghost use Rattle.wast_binary.specs.Can.{CanEncode};
 ghost use Rattle.wast_binary.specs.Noted.{Covers};

@@ -3,7 +3,7 @@ use Rattle.std.proofs.Common.{◌≡◌, ℕ, zero, suc, ◌+◌, ◌-◌, ◌<�
 use Rattle.std.specs.Prelude.{slice_get, option_map, unwrap_or}
 use Rattle.std.specs.Option.{option_or}
 use Rattle.std.specs.List.{flat_map, find}
-use Rattle.std.proofs.lemmas.List.{drop_more, drop_all}
+use Rattle.std.proofs.lemmas.List.{drop_more}
 use Rattle.std.proofs.lemmas.List.Folds.{find-append}
 
 in_front : {X : Type 0} (xs ys : List X) (k : ℕ) → k < length xs → slice_get (xs ++ ys) k ≡ slice_get xs k
@@ -25,9 +25,6 @@ module _ {X Y T : Type 0} (view : X → Y) (writes : Y → List T) (xs : List X)
   module _ (i : ℕ) where
     here : (x : X) (ts : List T) → i < length xs → x ≡ get_or xs i x → ts ≡ writes (view x) → types_from i ≡ ts ++ types_from (i + 1)
     here x ts lt at same = ap (λ ys. flat_map writes (map view ys)) (drop_more xs i x lt ∙ ap (λ y. y ∷ drop (i + 1) xs) (sym at)) ∙ ap (λ l. l ++ types_from (i + 1)) (sym same)
-
-    ended : length xs ≤ i → types_from i ≡ []
-    ended end = ap (λ ys. flat_map writes (map view ys)) (drop_all i xs end)
 
     -- BY NUMBER
     pub number_here : (x : X) (ts : List T) (k : ℕ) (whole : Option T) → i < length xs → x ≡ get_or xs i x → ts ≡ writes (view x) → k < length ts → slice_get (types_from i) k ≡ whole → slice_get ts k ≡ whole

@@ -64,9 +64,6 @@ module _ {X Y Z : Type 0} (p : Z → Bool) (of : Y → List Z) (view : X → Y) 
   pub any_goes : (xs : List X) (i : ℕ) (x : X) → i < length xs → x ≡ get_or xs i x → false ≡ list_any p (of (view x)) → Any xs i → Any xs (i + 1)
   any_goes xs i x lt at none l = ap (λ b. b || any_left xs (i + 1)) none ∙ sym (one_here xs i x lt at) ∙ l
 
-  pub any_found : (xs : List X) (i : ℕ) (x : X) → i < length xs → x ≡ get_or xs i x → true ≡ list_any p (of (view x)) → Any xs i → true ≡ list_any p (flat_map of (map view xs))
-  any_found xs i x lt at one l = ap (λ b. b || any_left xs (i + 1)) one ∙ sym (one_here xs i x lt at) ∙ l
-
   pub any_ends : (xs : List X) (i : ℕ) → length xs ≤ i → Any xs i → false ≡ list_any p (flat_map of (map view xs))
   any_ends xs i end l = ap (λ ys. list_any p (flat_map of (map view ys))) (sym (drop_all i xs end)) ∙ l
 
@@ -84,9 +81,6 @@ module _ {X Y M : Type 0} (asks : M → List (Demand Name ℕ)) (of : Y → List
 
   pub all_goes : (xs : List X) (i : ℕ) (x : X) (whole : Bool) → i < length xs → x ≡ get_or xs i x → true ≡ are_kept (flat_map asks (of (view x))) → all_left xs i ≡ whole → all_left xs (i + 1) ≡ whole
   all_goes xs i x whole lt at kept l = ap (λ b. b && all_left xs (i + 1)) kept ∙ sym (all_here xs i x lt at) ∙ l
-
-  pub all_stops : (xs : List X) (i : ℕ) (x : X) (whole : Bool) → i < length xs → x ≡ get_or xs i x → false ≡ are_kept (flat_map asks (of (view x))) → all_left xs i ≡ whole → false ≡ whole
-  all_stops xs i x whole lt at broken l = ap (λ b. b && all_left xs (i + 1)) broken ∙ sym (all_here xs i x lt at) ∙ l
 
   pub all_ends : (xs : List X) (i : ℕ) (whole : Bool) → length xs ≤ i → all_left xs i ≡ whole → true ≡ whole
   all_ends xs i whole end l = ap (λ ys. are_kept (flat_map asks (flat_map of (map view ys)))) (sym (drop_all i xs end)) ∙ l

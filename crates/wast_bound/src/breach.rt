@@ -14,7 +14,7 @@ use crate::outside::{Holds, Outside};
 use crate::parts::is_field_bound;
 use wast_core::{Module, ModuleField, ModuleKind};
 use wast_parser::Span;
-use wast_well_formed::field_formed;
+use wast_well_formed::{field_formed, is_start};
 
 /// Where the keyword of the first field of a module stands that doesn't keep to what it must (3.4.13, 6.5, 6.6.1 and 6.6, modules), if
 /// there is one. The pieces of a binary breach nothing.
@@ -62,10 +62,4 @@ fn is_well_formed<K: Known>(known: K, started: bool, field: &ModuleField<'_>) ->
     ensures { result ≡ spec.field_formed same_name is_made (K.scope known) started (field_tree field.now) }
 {
     field_formed(field, started) && is_field_bound(known, field)
-}
-
-fn is_start(field: &ModuleField<'_>) -> bool
-    ensures { result ≡ is_start (field_tree field.now) }
-{
-    matches!(field, ModuleField::Start(_))
 }

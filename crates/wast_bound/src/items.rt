@@ -15,9 +15,9 @@ ghost use Rattle.wast_meaning.specs.Spaces.{bound_import, bound_imports, bound_t
 ghost use Rattle.wast_meaning.specs.Views.{space_view};
 ghost use Rattle.wast_bound.specs.Bound.{joins};
 
-use crate::made::is_borne;
 use wast_core::{ImportGroup1Item, ImportItems, ItemSig, ModuleField, ModuleKind, TypeItem};
 use wast_meaning::Space;
+use wast_names::is_borne;
 use wast_parser::Id;
 
 /// Whether an item of a space bears a name, among those of what a module holds.

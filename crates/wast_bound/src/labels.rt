@@ -14,10 +14,10 @@ ghost use Rattle.wast_bound.specs.Bound.{closed_before};
 ghost use Rattle.wast_bound.specs.Places.{among};
 
 use crate::known::Known;
-use crate::made::is_borne;
 use std::alloc::AllocError;
 use wast_core::Instruction;
 use wast_meaning::Space;
+use wast_names::is_borne;
 use wast_parser::{Id, Index};
 use wast_well_formed::Turn;
 

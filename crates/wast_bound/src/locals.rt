@@ -12,9 +12,9 @@ ghost use Rattle.wast_meaning.specs.Scope.{Scope, params_of};
 ghost use Rattle.wast_bound.specs.Places.{inside, locals_among};
 
 use crate::known::Known;
-use crate::made::is_borne;
 use wast_core::{FunctionType, Local, TypeUse};
 use wast_meaning::Space;
+use wast_names::is_borne;
 use wast_parser::{Id, Index};
 use wast_signatures::Param;
 

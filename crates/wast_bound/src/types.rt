@@ -13,9 +13,9 @@ ghost use Rattle.wast_meaning.specs.Modules.{content_fields};
 ghost use Rattle.wast_meaning.specs.Scope.{members, scope_of};
 ghost use Rattle.wast_bound.specs.Bound.{has, types};
 
-use crate::made::is_borne;
 use wast_core::{ModuleField, ModuleKind, TypeItem};
 use wast_core_types::InnerTypeKind;
+use wast_names::is_borne;
 use wast_parser::{Id, Index};
 use wast_signatures::StructField;
 

@@ -1,7 +1,7 @@
 -- The forms in trees that have no bytes here, in the order in which they stand: those of the proposals on stack switching, shared
--- types, custom descriptors and exact types, orderings other than sequential consistency, memory arguments that name an array, literals
--- of floating-point numbers, and each instruction that no opcode is listed of. A tree is covered where it has none. Each is
--- called by what it is, and in an instruction by the mnemonic.
+-- types, custom descriptors and exact types, orderings that are written with an access, and those of a fence other than sequential
+-- consistency, memory arguments that name an array, literals of floating-point numbers, and each instruction that no opcode is listed
+-- of. A tree is covered where it has none. Each is called by what it is, and in an instruction by the mnemonic.
 use Rattle.std.specs.Prelude.{ℕ, Bool, true, false, ◌||◌, is_some, List, [], ◌∷◌, ◌++◌, map, Option, Some, None, codes}
 use Rattle.std.specs.List.{flat_map}
 use Rattle.wast_value_types.specs.ValueTree.{HeapWord, Known, HeapType, Abstract, Concrete, Exact, RefType, ValType, Number, Ref, StorageType, Packed, Value, TableType, GlobalType}

@@ -1,11 +1,13 @@
 //! Indices.
-ghost use Rattle.std.specs.Prelude.{◌≡◌, ◌<◌, ◌^◌, option_map, option_copied, IfErr, IfOk, IsErrOf, OnOk};
+ghost use Rattle.std.specs.Prelude.{◌≡◌, ◌<◌, ◌^◌, option_map, IfErr, IfOk, IsErrOf, OnOk, All, map};
+ghost use Rattle.std.specs.List.{AllByRecursion};
 ghost use Rattle.wasm_layout.specs.IsModule.{IsU32};
 ghost use Rattle.wast_parser.specs.Identifiers.{index_tree};
 ghost use Rattle.wast_conversions.specs.Types.{number_of};
 ghost use Rattle.wast_conversions.specs.Operands.{optional_meant};
 ghost use Rattle.wast_conversions.specs.Resolved.{IsNumber, IfThere};
 
+use std::alloc::{AllocError, Global};
 use wasm_encoder_base::EncodeError;
 use wast_parser::Index;
 
@@ -31,6 +33,19 @@ pub fn optional_index(written: &Option<Index<'_>>) -> u32
         Some(written) => index(written),
         None => 0,
     }
+}
+
+/// The numbers that indices are, none of which is a name. Fails only for want of memory.
+pub fn all_indices(alloc: Global, indices: &[Index<'_>]) -> Result<Vec<u32>, AllocError>
+    requires { All IsNumber (map index_tree indices.now) }
+    ensures same { IfOk result (λ v. v.items ≡ map number_of (map index_tree indices.now)) }
+    ensures sound { OnOk result (AllByRecursion IsU32 (map number_of (map index_tree indices.now))) }
+{
+    let mut numbers = Vec::with_capacity(alloc, indices.len())?;
+    for number in indices {
+        numbers.push(index(number))?;
+    }
+    Ok(numbers)
 }
 
 /// The same number, which is a place, a count or an index, in 32 bits; too large where it doesn't fit in them.

@@ -5,8 +5,6 @@ ghost use Rattle.wasm_encoder_base.specs.Instr as binary;
 ghost use Rattle.wasm_encoder_base.specs.Instr.{in_range, IsCatch, IsInstr};
 ghost use Rattle.wasm_encoder_instr.specs.Catch.{catch_view};
 ghost use Rattle.wasm_encoder_instr.specs.Instruction.{instr_mnemonic, instr_view, can_encode_instr};
-ghost use Rattle.wasm_layout.specs.IsModule.{IsU32};
-ghost use Rattle.wast_parser.specs.Identifiers.{index_tree};
 ghost use Rattle.wast_value_types.specs.ValueViews.{val_tree};
 ghost use Rattle.wast_operands.specs.OperandViews.{label_table_tree};
 ghost use Rattle.wast_typed_operands.specs.TypedViews.{catch_tree, select_types_tree, try_table_tree};
@@ -18,13 +16,13 @@ ghost use Rattle.wast_core_instr.specs.WordViews.{instruction_word};
 ghost use Rattle.wast_conversions.specs.Types.{number_of, val_meant};
 ghost use Rattle.wast_conversions.specs.Operands.{block_meant, catch_meant, operands_meant, select_meant, OperandsAligned};
 ghost use Rattle.wast_conversions.specs.Instructions.{instr_meant};
-ghost use Rattle.wast_conversions.specs.Resolved.{IsNumber, ValResolved, CatchResolved, OperandsResolved, InstrResolved};
+ghost use Rattle.wast_conversions.specs.Resolved.{ValResolved, CatchResolved, OperandsResolved, InstrResolved};
 ghost use Rattle.wast_conversions.specs.Covered.{val_forms, operand_forms, instr_forms};
 ghost use Rattle.wast_conversions.specs.Rows.{row_of, Chosen, IsListed};
 
 use crate::bulk::bulk;
 use crate::gc::gc;
-use crate::indices::{index, optional_index};
+use crate::indices::{all_indices, index, optional_index};
 use crate::operands::{block_type, catch, mem_arg, memory_arg, table_arg};
 use crate::types::{type_index, val_type, val_types};
 use crate::vector_arg::vector_arg;
@@ -176,21 +174,8 @@ fn br_table(
     ensures operands { IfOk result (λ i. (instr_view i).operands ≡ binary.LabelTable (map number_of (label_table_tree table.now).0) (number_of (label_table_tree table.now).1)) }
     ensures sound { OnOk result (in_range (binary.LabelTable (map number_of (label_table_tree table.now).0) (number_of (label_table_tree table.now).1))) }
 {
-    let labels = indices(alloc, &table.labels)?;
+    let labels = all_indices(alloc, &table.labels)?;
     Ok(wasm_encoder_instr::Instruction::BrTable(Items::owned(labels), index(&table.default)))
-}
-
-/// The numbers that indices are. Fails only for want of memory.
-fn indices(alloc: Global, indices: &[Index<'_>]) -> Result<Vec<u32>, AllocError>
-    requires { All IsNumber (map index_tree indices.now) }
-    ensures same { IfOk result (λ v. v.items ≡ map number_of (map index_tree indices.now)) }
-    ensures sound { OnOk result (AllByRecursion IsU32 (map number_of (map index_tree indices.now))) }
-{
-    let mut numbers = Vec::with_capacity(alloc, indices.len())?;
-    for number in indices {
-        numbers.push(index(number))?;
-    }
-    Ok(numbers)
 }
 
 /// `try_table` (6.5, control instructions). Fails only for want of memory.

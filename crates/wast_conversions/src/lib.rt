@@ -40,7 +40,7 @@ mod vector_arg;
 
 pub use body::{push_encoded, push_instruction};
 pub use expression::const_expr;
-pub use indices::{as_u32, index, optional_index};
+pub use indices::{all_indices, as_u32, index, optional_index};
 pub use instructions::instruction;
 pub use items::{entity_type, export_kind, global_type, memory_type, table_type};
 pub use operands::{

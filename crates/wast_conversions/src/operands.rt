@@ -1,5 +1,5 @@
 //! Operands.
-ghost use Rattle.std.specs.Prelude.{◌≡◌, ◌<◌, [], map, option_map, unwrap_or};
+ghost use Rattle.std.specs.Prelude.{◌≡◌, ◌^◌, ◌<◌, [], map, option_map, unwrap_or};
 ghost use Rattle.std.specs.List.{flat_map, AllByRecursion};
 ghost use Rattle.std.specs.Int.{w128, cast_unsigned};
 ghost use Rattle.wasm_encoder_base.specs.Instr as binary;
@@ -10,12 +10,12 @@ ghost use Rattle.wasm_encoder_instr.specs.MemArg.{memory_view, mem_arg_view};
 ghost use Rattle.wasm_encoder_instr.specs.Ordering.{ordering_bytes};
 ghost use Rattle.wasm_layout.specs.IsModule.{IsU32, IsU64};
 ghost use Rattle.wast_parser.specs.Identifiers.{index_tree};
-ghost use Rattle.wast_signatures.specs.SignatureViews.{sig_tree, use_tree};
+ghost use Rattle.wast_signatures.specs.SignatureViews.{sig_tree};
 ghost use Rattle.wast_value_types.specs.ValueViews.{val_tree};
 ghost use Rattle.wast_vector_operands.specs.VectorViews.{vector_tree};
 ghost use Rattle.wast_operands.specs.OperandViews.{table_arg_tree, memory_arg_tree, mem_arg_tree, target_tree, ordering_tree};
 ghost use Rattle.wast_typed_operands.specs.TypedViews.{block_tree, catch_tree};
-ghost use Rattle.wast_conversions.specs.Types.{number_of, use_meant};
+ghost use Rattle.wast_conversions.specs.Types.{number_of};
 ghost use Rattle.wast_conversions.specs.Operands.{IsPower, logarithm, vector_meant, optional_meant, results_meant, inline_meant, block_meant, catch_meant, target_meant, mem_arg_meant, ordering_meant};
 ghost use Rattle.wast_conversions.specs.Resolved.{IsNumber, IfThere, ResultsResolved, ShortResolved, BlockResolved, CatchResolved, TargetResolved, MemArgResolved};
 ghost use Rattle.wast_conversions.specs.Covered.{val_forms, inline_forms, use_forms, vector_forms, target_forms, mem_arg_forms};
@@ -105,12 +105,13 @@ pub fn ordering(ordering: Ordering) -> wasm_encoder_instr::Ordering
 
 /// The encoder's memory argument that a memory argument (6.5, memory instructions) stands for: the number of its memory, its offset in
 /// bytes, and the logarithm of its alignment. It can be encoded where the alignment, in bytes, is a power of two below 65536.
-#[tactic(auto, using(crate::proofs::Empty::front, crate::proofs::Logarithms::logarithm_below))]
+#[tactic(auto, using(crate::proofs::Empty::front, crate::proofs::Logarithms::logarithm_below, crate::proofs::Logarithms::logarithm_exact))]
 pub fn mem_arg(arg: &MemArg<'_>) -> wasm_encoder_instr::MemArg
     requires resolved { MemArgResolved (mem_arg_tree arg.now) }
     requires covered { mem_arg_forms (mem_arg_tree arg.now) ≡ [] }
     ensures same { mem_arg_view result ≡ mem_arg_meant (mem_arg_tree arg.now) }
     ensures aligned { IsPower arg.now.align → result.align < 16 }
+    ensures power { IsPower arg.now.align → 2 ^ result.align ≡ arg.now.align }
     ensures sound { IsPower arg.now.align → IsMemArg (mem_arg_meant (mem_arg_tree arg.now)) }
 {
     wasm_encoder_instr::MemArg {

@@ -1,5 +1,5 @@
 //! The words of the syntax of modules, and those of fields.
-ghost use Rattle.std.specs.Prelude.{◌≡◌, codes};
+ghost use Rattle.std.specs.Prelude.{codes};
 
 pub use wast_module_fields::keyword::{Data, Declare, Elem, Item, Local, Offset, Rec, Start};
 use wast_parser::KeywordName;

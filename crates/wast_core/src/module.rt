@@ -1,5 +1,5 @@
 //! Modules.
-ghost use Rattle.std.specs.Prelude.{◌≡◌, ℕ, List, map, is_some, not};
+ghost use Rattle.std.specs.Prelude.{◌≡◌, ℕ, map, is_some, not};
 ghost use Rattle.wast_grammar.specs.Tokens.{Name};
 ghost use Rattle.wast_parser.specs.Lawful.{Lawful};
 ghost use Rattle.wast_parser.specs.State.{ahead, Keeps};

@@ -1,5 +1,5 @@
 //! Expressions of instructions.
-ghost use Rattle.std.specs.Prelude.{◌≡◌, ℕ, ◌+◌, ◌≤◌, List, [], ◌∷◌, None, IfOk, length};
+ghost use Rattle.std.specs.Prelude.{◌≡◌, ℕ, ◌+◌, ◌≤◌, [], ◌∷◌, None, IfOk, length};
 ghost use Rattle.wast_typed_operands.specs.Tokens.{Name};
 ghost use Rattle.wast_typed_operands.specs.Grammar.{seen};
 ghost use Rattle.wast_typed_operands.specs.Lawful.{Lawful};

@@ -1,5 +1,5 @@
 //! Instructions in the items of expressions.
-ghost use Rattle.std.specs.Prelude.{◌≡◌, ℕ, List, IfOk};
+ghost use Rattle.std.specs.Prelude.{◌≡◌, ℕ, IfOk};
 ghost use Rattle.wast_typed_operands.specs.Tokens.{Name};
 ghost use Rattle.wast_typed_operands.specs.Look.{ask};
 ghost use Rattle.wast_typed_operands.specs.Lawful.{LawfulBut};

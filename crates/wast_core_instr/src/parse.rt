@@ -1,5 +1,5 @@
 //! Instructions, each by its word.
-ghost use Rattle.std.specs.Prelude.{◌≡◌, ℕ, List, IfOk};
+ghost use Rattle.std.specs.Prelude.{◌≡◌, ℕ, IfOk};
 ghost use Rattle.wast_typed_operands.specs.Tokens.{Name};
 ghost use Rattle.wast_typed_operands.specs.Lawful.{Lawful};
 ghost use Rattle.wast_typed_operands.specs.State.{ahead, Keeps};

@@ -1,9 +1,7 @@
-pub mod AtStop
 pub mod Begin
 pub mod Counted
 pub mod Counts
 pub mod Errors
-pub mod InModule
 pub mod Meant
 pub mod Numbered
 pub mod Payloads

@@ -1,5 +1,5 @@
 //! Custom fields as custom sections (WebAssembly 3.0, 5.5.3, and the appendix on custom sections and annotations).
-ghost use Rattle.std.specs.Prelude.{◌≡◌, map, IfOk};
+ghost use Rattle.std.specs.Prelude.{◌≡◌, IfOk};
 ghost use Rattle.std.specs.List.{flat_map};
 ghost use Rattle.wasm_encoder_base.specs.Encodes.{Encodes};
 ghost use Rattle.wasm_encoder_custom.specs.Custom.{CustomFits};

@@ -25,7 +25,6 @@
 //!
 //! | File of `proofs/` | Says |
 //! |---|---|
-//! | `AtStop` | the section of hints is the one that the module meant has, and fits where its numbers are in range, and its section of code fits |
 //! | `Ready` | bodies of functions that are resolved and have no form without bytes can be encoded |
 #![tactic(auto)]
 

@@ -1,5 +1,4 @@
 //! Sections behind their numbers.
-ghost use Rattle.std.specs.Prelude.{◌≡◌};
 ghost use Rattle.wasm_encoder_base.specs.Encodes.{Encodes};
 ghost use Rattle.wasm_encoder.specs.Module.{numbered};
 ghost use Rattle.wast_custom_sections.specs.Parts.{AreCustom};

@@ -6,7 +6,7 @@ use Rattle.wast_parser.specs.Identifiers.{Named}
 use Rattle.wast_exports.specs.Exports.{ExportKind}
 use Rattle.wast_module_fields.specs.FieldTree.{Defined, Imported, Func, Table, TableOf, Memory, MemoryOf, Global, Tag, Definition, Field, TypeField, RecField, ImportField, Define, ExportField, StartField, ElemField, DataField, CustomField}
 use Rattle.wast_meaning.specs.Written.{alone, definition_out, export_of, field_of, field_out, has_any, has_segment, is_said, kind_of, name_or, segment_of, takes_name}
-use Rattle.wast_deinline.specs.Definitions.{is_definition, is_imported, parts_out}
+use Rattle.wast_deinline.specs.Definitions.{is_definition, parts_out}
 
 module _ {N P : Type 0} where
   -- what defines nothing stays, and takes no name
@@ -66,18 +66,6 @@ module _ {N P : Type 0} where
 
   pub takes_said : (d : Definition N P) → is_said d ≡ true → takes_name (Define d) ≡ not (is_some d.id)
   takes_said d h = ap (λ b. b && not (is_some d.id)) h
-
-  -- a field of what has no segment and isn't imported
-  pub defines : (p : P) (id : Option (Named N P)) (given : Option (List ℕ)) (d : Defined N P) → is_imported d ≡ false → has_segment d ≡ false
-      → Define (record { place = p; id = id; given = given; exports = []; defined = d }) ≡ field_of p id given d
-  defines p id given (Imported from name t) i s = absurd (cc)
-  defines p id given (Func f) i s = refl
-  defines p id given (Table t init) i s = refl
-  defines p id given (TableOf wide t es) i s = absurd (cc)
-  defines p id given (Memory t) i s = refl
-  defines p id given (MemoryOf wide page vs) i s = absurd (cc)
-  defines p id given (Global t init) i s = refl
-  defines p id given (Tag u) i s = refl
 
   -- what stands alone has no segment, and is the same field
   pub alone_segment : (d : Defined N P) → has_segment (alone d) ≡ false

@@ -1,5 +1,5 @@
 //! Definitions, whatever they define.
-ghost use Rattle.std.specs.Prelude.{◌≡◌, ℕ, List, false, [], IfErr, IfOk};
+ghost use Rattle.std.specs.Prelude.{◌≡◌, false, [], IfErr, IfOk};
 ghost use Rattle.wast_exports.specs.ExportViews.{inline_export_tree, inline_import_tree, kind_view};
 ghost use Rattle.wast_imports.specs.ImportViews.{extern_tree, head_tree};
 ghost use Rattle.wast_module_fields.specs.FieldTree.{Define, Imported};

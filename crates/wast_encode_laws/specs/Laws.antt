@@ -22,7 +22,8 @@ use Rattle.wast_encode_laws.specs.Formed.{FieldFormed}
 use Rattle.wast_encode_laws.specs.Orderings.{are_ordered}
 use Rattle.wast_encode_laws.specs.Ready.{FieldResolved}
 
--- Where fields keep to all demands on names, what they are resolved to has nothing inline, numbers for indices, and types for uses.
+-- Where fields keep to all demands on names, what they are resolved to has nothing inline, numbers for indices that are encoded, and types for
+-- uses.
 abbrev pub ReadyWhenResolved : Type 0
 ReadyWhenResolved = (fields : List (Field Name ℕ)) (naming : ℕ → Name) → first_unmet is_met (all_demands same_name naming fields) ≡ None
     → All FieldResolved (resolved same_name naming fields)
@@ -41,7 +42,7 @@ CoveredWhenResolved = (fields : List (Field Name ℕ)) (naming : ℕ → Name) �
 abbrev pub TreesOrdered : Type 0
 TreesOrdered = (fields : List ModuleField) → are_ordered (map field_tree fields) ≡ true
 
--- Where fields are well formed, each of these is, whatever names are taken for made, and one is the start at most.
+-- Where fields are well formed, each of these is, beside names, whatever names are taken for made, and one is the start at most.
 pub record FormedWhenResolved : Type 0 where
   pub formed : (fields : List (Field Name ℕ)) (is_made : Name → Bool) (naming : ℕ → Name) → breaches same_name is_made fields ≡ []
       → All FieldFormed (resolved same_name naming fields)

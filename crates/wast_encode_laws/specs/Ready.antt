@@ -1,5 +1,5 @@
--- Fields that are resolved: nothing stands inline, each index is a number, and each use of a type has its index, but for that of a
--- short block (WebAssembly 3.0, 6.1.3 and 6.6).
+-- Fields that are resolved: nothing stands inline, each index that is encoded is a number, and each use of a type has its index, but for that
+-- of a short block (WebAssembly 3.0, 6.1.3 and 6.6).
 use Rattle.std.specs.Prelude.{◌≡◌, [], All}
 use Rattle.wast_imports.specs.ImportTree.{ImportItems, Single, Group1, Group2}
 use Rattle.wast_module_fields.specs.FieldTree.{Expr, Function, Elements, Indices, Expressions, Defined, Imported, Func, Table, TableOf, Memory, MemoryOf, Global, Tag, ElemMode, PassiveElem, DeclaredElem, ActiveElem, DataMode, PassiveData, ActiveData, Field, TypeField, RecField, ImportField, Define, ExportField, StartField, ElemField, DataField, CustomField}

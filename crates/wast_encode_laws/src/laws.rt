@@ -2,8 +2,8 @@
 
 ghost use Rattle.wast_encode_laws.specs.Laws.{CoveredWhenResolved, FormedWhenResolved, FunctionsPlaced, MeantHintsFit, MeantNamesFit, ReadyWhenResolved, TreesOrdered, UncoveredAgain};
 
-/// Where fields keep to all demands on names, nothing stands inline in what they are resolved to, each index is a number, and each use that
-/// needs a type has one.
+/// Where fields keep to all demands on names, nothing stands inline in what they are resolved to, each index that is encoded is a number, and
+/// each use that needs a type has one.
 pub fn ready_when_resolved()
     ensures { ReadyWhenResolved }
 {}
@@ -25,7 +25,7 @@ pub fn trees_ordered()
     ensures { TreesOrdered }
 {}
 
-/// Where fields are well formed, each resolved field is, and one of them is the start at most.
+/// Where fields are well formed, each resolved field is, beside names, and one of them is the start at most.
 pub fn formed_when_resolved()
     ensures { FormedWhenResolved }
 {}

@@ -5,7 +5,7 @@
 //!
 //! | File of `specs/` | Says |
 //! |---|---|
-//! | `Ready` | fields in which nothing stands inline, indices are numbers, and uses have their types |
+//! | `Ready` | fields in which nothing stands inline, indices that are encoded are numbers, and uses have their types |
 //! | `Formed` | fields whose alignments, branch hints and constant expressions are well formed |
 //! | `Orderings` | what stands behind orderings of atomic instructions |
 //! | `Bounds` | how many functions, instructions and names there may be |

@@ -75,7 +75,7 @@ impl<'a> InPlace<Vec<ModuleField<'a>>> for Expands {
     }
 }
 
-/// The same in the fields' place; refused, some of them may be changed.
+/// The same in the fields' place; refused, nothing is promised of them.
 pub fn expand_in_place<'a>(
     alloc: Global,
     fields: &mut Vec<ModuleField<'a>>,

@@ -6,8 +6,10 @@ pub trait InPlace<T> {
     /// What else the work changes.
     type State;
 
+    /// What is answered where it is done.
     type Answer: Drop;
 
+    /// What is answered where it is refused.
     type Refusal: Drop;
 
     /// What may be given.

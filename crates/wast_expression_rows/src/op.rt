@@ -1,5 +1,5 @@
 //! A small set of instructions without operands.
-ghost use Rattle.std.specs.Prelude.{◌≡◌, ℕ, List, [], IfOk, map, option_map};
+ghost use Rattle.std.specs.Prelude.{◌≡◌, ℕ, List, IfOk, map, option_map};
 ghost use Rattle.wast_parser.specs.Spelling.{find_by};
 ghost use Rattle.wast_parser.specs.Look.{ask};
 ghost use Rattle.wast_parser.specs.Lawful.{LawfulBut};

@@ -1,6 +1,5 @@
 //! Offsets of data.
-ghost use Rattle.std.specs.Prelude.{◌≡◌, codes};
-ghost use Rattle.wast_parser.specs.Lawful.{Lawful};
+ghost use Rattle.std.specs.Prelude.{codes};
 ghost use Rattle.wast_parser.specs.Grammar.{led};
 ghost use Rattle.wast_parser.specs.State.{ahead, Keeps};
 ghost use Rattle.wast_parser.specs.Reading.{Gives};

@@ -1,5 +1,5 @@
 //! Branch hints: `(@metadata.code.branch_hint s)`.
-ghost use Rattle.std.specs.Prelude.{◌≡◌, ℕ, List, [], ◌∷◌, refl};
+ghost use Rattle.std.specs.Prelude.{ℕ, List, [], ◌∷◌, refl};
 ghost use Rattle.wast_grammar.specs.Tokens.{Name};
 ghost use Rattle.wast_parser.specs.Lawful.{Lawful, Leads};
 ghost use Rattle.wast_parser.specs.Look.{ask};

@@ -1,11 +1,9 @@
 //! What stands before a parser.
 ghost use Rattle.std.specs.Prelude.{◌≡◌, ℕ, List, [], ◌∷◌, false, refl, codes};
 ghost use Rattle.wast_parser.specs.Look.{ask, unders, On, AWord, Texts};
-ghost use Rattle.wast_parser.specs.Lawful.{Lawful, Leads};
 ghost use Rattle.wast_parser.specs.State.{ahead};
 ghost use Rattle.wast_parser.specs.Reading.{Asks};
-ghost use Rattle.wast_parser.specs.Cursors.{stands};
-ghost use Rattle.wast_expressions.specs.Expressions.{ins_tests, group_tests};
+ghost use Rattle.wast_expressions.specs.Expressions.{group_tests};
 ghost use Rattle.wast_expressions.specs.Views.{any_word};
 
 use crate::operation::Operation;

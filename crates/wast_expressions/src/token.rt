@@ -1,10 +1,9 @@
 //! Parentheses that a loop opens and closes, in no order of calls: depth is left as it is.
-ghost use Rattle.std.specs.Prelude.{◌≡◌, IfOk, IfErr, Some, None};
+ghost use Rattle.std.specs.Prelude.{Some, None};
 ghost use Rattle.wast_parser.specs.Spelling.{that_open, that_close};
 ghost use Rattle.wast_parser.specs.Grammar.{one_of};
 ghost use Rattle.wast_parser.specs.State.{ahead, Keeps};
-ghost use Rattle.wast_parser.specs.Reading.{Gives, Refuses};
-ghost use Rattle.wast_parser.specs.Cursors.{stands, Follows};
+ghost use Rattle.wast_parser.specs.Reading.{Gives};
 ghost use Rattle.wast_expressions.specs.Views.{Passes, arm_word};
 
 use wast_parser::{Cursor, Error, Keyword, KeywordName, LParen, Parser, Span, required};

@@ -13,7 +13,7 @@ use crate::kind::{FloatKind, IntegerKind, SignToken};
 use crate::parts::{Float, Integer};
 use crate::scan::{after, ends_power, prefixed, split_sign};
 
-/// The parts of an integer.
+/// The parts of an integer (6.3.1), whose word was found to be of this kind. It wants no memory.
 pub fn integer<'a>(word: &'a str, kind: IntegerKind) -> Integer<'a>
     requires { IsNumber (kinds.Integer kind) word.now }
     ensures { IsIntegerOf word.now result }
@@ -27,7 +27,7 @@ pub fn integer<'a>(word: &'a str, kind: IntegerKind) -> Integer<'a>
     }
 }
 
-/// The parts of a float.
+/// The parts of a float (6.3.2), whose word was found to be of this kind. It wants no memory.
 pub fn float<'a>(word: &'a str, kind: FloatKind) -> Float<'a>
     requires { IsNumber (kinds.Float kind) word.now }
     ensures { IsFloatOf word.now result }

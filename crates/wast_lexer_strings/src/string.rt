@@ -10,7 +10,9 @@ use crate::piece::{Piece, behind_piece, plain_end, read_piece};
 use crate::utf8::{Tail, follow_piece, is_closed};
 use std::alloc::{AllocError, Global};
 
-/// Where a string ends whose quote stands before the place.
+/// Where a string ends whose quote stands before the place (6.3.3): the byte offset behind the quote that closes it.
+///
+/// Refused for the first of its elements that is none, and as [`LexError::UnexpectedEof`] where the text ends before it does.
 #[inline(always)]
 pub fn string_end(text: &[u8], from: usize) -> Result<usize, LexError>
     requires { from ≤ length text.now }
@@ -29,7 +31,8 @@ pub fn string_end(text: &[u8], from: usize) -> Result<usize, LexError>
     Err(LexError::UnexpectedEof)
 }
 
-/// Whether a string ends the text, and stands for a text that is not empty.
+/// Whether what begins at the place, a byte offset behind a quote, is the rest of a string (6.3.3) that ends where the text
+/// does, and stands for UTF-8 that is not empty. It wants no memory.
 pub fn is_text(text: &[u8], from: usize) -> bool
     requires { from ≤ length text.now }
     ensures { result ≡ is_text (read Within (drop from text.now)) }
@@ -56,7 +59,7 @@ pub fn is_text(text: &[u8], from: usize) -> bool
     false
 }
 
-/// The bytes that a string stands for.
+/// The bytes that a string stands for (6.3.3), its quotes included in the word. Refused for want of memory alone.
 pub fn string_value(alloc: Global, word: &[u8]) -> Result<Vec<u8>, AllocError>
     requires { (bytes : List ℕ) × IsString word.now bytes }
     ensures { IfOk result (λ v. IsString word.now v.items) }

@@ -4,18 +4,15 @@ use Rattle.std.specs.List.{flat_map}
 use Rattle.std.proofs.lemmas.List.{map-append}
 use Rattle.wasm_encoder_custom.specs.Custom.{Custom}
 use Rattle.wast_customs.specs.CustomTree.{CustomPlace}
-use Rattle.wasm_layout.specs.Section.{SectionKind, order}
+use Rattle.wasm_layout.specs.Section.{SectionKind}
 use Rattle.wasm_layout.specs.Layout.{if_there, Section, Piece, Known, Free, weave}
-use Rattle.wast_meant.specs.CustomsMeant.{Stop, At, Of, stops, precede, gaps_from}
+use Rattle.wast_meant.specs.CustomsMeant.{Stop, At, Of, precede, gaps_from}
 use Rattle.wast_meant_laws.specs.Stops.{stop_pieces}
 
 -- the section that a stop is of
 abbrev pub kind_in : Stop → List SectionKind
 kind_in (At place) = []
 kind_in (Of kind) = kind ∷ []
-
-pub kinds_ordered : flat_map kind_in stops ≡ order
-kinds_ordered = refl
 
 no_gaps : (ss : List Section) → weave ss [] ≡ map Known ss
 no_gaps [] = refl

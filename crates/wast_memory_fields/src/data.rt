@@ -1,5 +1,5 @@
 //! Data segments.
-ghost use Rattle.std.specs.Prelude.{◌≡◌, ℕ, List, map};
+ghost use Rattle.std.specs.Prelude.{◌≡◌, ℕ, map};
 ghost use Rattle.wast_field_syntax.specs.Tokens.{Name};
 ghost use Rattle.wast_field_syntax.specs.Look.{ask};
 ghost use Rattle.wast_field_syntax.specs.Lawful.{Lawful};

@@ -1,5 +1,5 @@
 //! Memories.
-ghost use Rattle.std.specs.Prelude.{◌≡◌, ℕ, List, map, codes};
+ghost use Rattle.std.specs.Prelude.{◌≡◌, ℕ, map, codes};
 ghost use Rattle.wast_field_syntax.specs.Tokens.{Name};
 ghost use Rattle.wast_field_syntax.specs.Grammar.{seen, seq, group};
 ghost use Rattle.wast_field_syntax.specs.Lawful.{Lawful};
@@ -7,7 +7,6 @@ ghost use Rattle.wast_field_syntax.specs.State.{ahead, Keeps};
 ghost use Rattle.wast_field_syntax.specs.Reading.{Gives};
 ghost use Rattle.wast_value_types.specs.WordSyntax.{optional};
 ghost use Rattle.wast_value_types.specs.ValueSyntax.{page_size};
-ghost use Rattle.wast_value_types.specs.ValueViews.{memory_tree};
 ghost use Rattle.wast_field_syntax.specs.DataViews.{value_tree};
 ghost use Rattle.wast_field_syntax.specs.FieldTree as spec;
 ghost use Rattle.wast_field_syntax.specs.DataSyntax.{values};

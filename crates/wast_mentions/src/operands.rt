@@ -1,5 +1,5 @@
 //! What operands of instructions say of names (6.5).
-ghost use Rattle.std.specs.Prelude.{[], ◌∷◌, ◌++◌, option_map};
+ghost use Rattle.std.specs.Prelude.{[], ◌∷◌, option_map};
 ghost use Rattle.wasm_encoder_base.specs.OperandSyntax as syntax;
 ghost use Rattle.wast_parser.specs.Identifiers.{index_tree};
 ghost use Rattle.wast_operands.specs.OperandViews.{handle_tree, handlers_tree, label_table_tree, mem_arg_tree, pair_tree, struct_access_tree, target_tree};

@@ -25,7 +25,8 @@ pub trait Tell<'a, J: Judge<'a>>: Mentions {
         ensures { Judged (J.asks judge.now) J.holds J.tells result (Self.mentions self.now) };
 }
 
-/// Tells of the mentions of each of these.
+/// Tells of the mentions of each of these, in order, up to the first of which the judge says that something it asks isn't so; answers that
+/// fault then.
 pub fn tell_each<'a, J: Judge<'a>, T: Tell<'a, J>>(items: &[T], judge: &J) -> Result<(), J::Fault>
     ensures { Judged (J.asks judge.now) J.holds J.tells result (flat_map T.mentions items.now) }
 {
@@ -38,7 +39,7 @@ pub fn tell_each<'a, J: Judge<'a>, T: Tell<'a, J>>(items: &[T], judge: &J) -> Re
     Ok(())
 }
 
-/// Tells of an index of a space.
+/// Tells of an index of a space; answers the judge's fault where something it asks isn't so.
 pub fn tell_index<'a, J: Judge<'a>>(
     space: Space,
     index: &Index<'a>,
@@ -49,7 +50,7 @@ pub fn tell_index<'a, J: Judge<'a>>(
     judge.judge(Mention::Refers(space, index))
 }
 
-/// Tells of an index of a space, where it is written.
+/// Tells of an index of a space, where it is written; answers the judge's fault where something it asks isn't so.
 pub fn tell_index_if<'a, J: Judge<'a>>(
     space: Space,
     index: &Option<Index<'a>>,
@@ -63,7 +64,8 @@ pub fn tell_index_if<'a, J: Judge<'a>>(
     }
 }
 
-/// Tells of indices of one space.
+/// Tells of indices of one space, in order, up to the first of which the judge says that something it asks isn't so; answers that fault
+/// then.
 pub fn tell_indices<'a, J: Judge<'a>>(
     space: Space,
     indices: &[Index<'a>],

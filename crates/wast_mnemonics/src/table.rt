@@ -19,6 +19,7 @@ pub const LONGEST: usize = 35;
 /// A mnemonic, blanks after it, the mnemonic's length in bytes, and its word.
 pub type Row = ([u8; LONGEST], u8, Word);
 
+/// All mnemonics of the text format and their words, by mnemonic.
 #[rattlefmt::skip]
 pub static WORDS: [Row; 623] = [
     (*b"any.convert_extern                 ", 18, Word::Plain(PlainWord::AnyConvertExtern)),

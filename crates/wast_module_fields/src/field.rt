@@ -1,5 +1,5 @@
 //! Fields of modules.
-ghost use Rattle.std.specs.Prelude.{◌≡◌, ℕ, List, refl};
+ghost use Rattle.std.specs.Prelude.{◌≡◌, ℕ, refl};
 ghost use Rattle.wast_grammar.specs.Tokens.{Name};
 ghost use Rattle.wast_parser.specs.Look.{ask};
 ghost use Rattle.wast_parser.specs.Lawful.{Lawful, Leads};

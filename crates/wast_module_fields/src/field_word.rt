@@ -1,5 +1,5 @@
 //! The words that fields begin with.
-ghost use Rattle.std.specs.Prelude.{◌≡◌, ℕ, List};
+ghost use Rattle.std.specs.Prelude.{ℕ, List};
 ghost use Rattle.wast_module_fields.specs.FieldWords.{field_word, field_words};
 
 use wast_exports::ExportKind;

@@ -1,5 +1,5 @@
 //! The words of the syntax of fields.
-ghost use Rattle.std.specs.Prelude.{◌≡◌, codes};
+ghost use Rattle.std.specs.Prelude.{codes};
 
 pub use wast_fields::keyword::{Declare, Item, Local, Offset};
 use wast_parser::KeywordName;

@@ -90,9 +90,6 @@ group_joins {T} r names os list new n h some = of (named os) refl r
         let can : GroupFits b = can_single (at list n) (os ∷ []) b (some_inside n os x xs e) fits in
         large (ap (λ v. Err v) is) can.index (room_single (at list n) (os ∷ []) b (some_inside n os x xs e) fits)
 
-pub group_passed : (s new : Numbered) → new ≡ at s.list (s.next + 1) → GroupsJoined s new ([] ∷ [])
-group_passed s new h = joined_nothing s new ([] ∷ []) refl h
-
 -- where a group fits, the names in it do
 inside_fits : (s : Numbered) (os : List (Option (List ℕ))) → Fit group_naming GroupFits s (os ∷ []) → Fit naming NameFits none_yet os
 inside_fits s os h = of (named os) refl

@@ -15,8 +15,7 @@ use Rattle.wast_parser_base.specs.Identifier.{Identifier}
 use Rattle.wast_parser_base.specs.declared.index.NameAnnotation.{NameAnnotation}
 use Rattle.wast_value_types.specs.declared.val_type.ValType.{ValType}
 use Rattle.wast_signatures.specs.SignatureViews.{name_tree, struct_field_tree}
-use Rattle.wast_core_types.specs.TypeViews.{inner_tree, item_tree as type_tree}
-use Rattle.wast_core_types.specs.declared.composite.InnerTypeKind.{InnerTypeKind}
+use Rattle.wast_core_types.specs.TypeViews.{item_tree as type_tree}
 use Rattle.wast_core_types.specs.declared.composite.InnerTypeKind.TheVariants as kinds
 use Rattle.wast_signatures.specs.declared.struct_field.StructField.{StructField}
 use Rattle.wast_core_types.specs.declared.definition.TypeItem.{TypeItem}
@@ -29,8 +28,7 @@ use Rattle.wast_imports.specs.declared.import.ImportGroup2Item.{ImportGroup2Item
 use Rattle.wast_module_fields.specs.Local.{Local}
 use Rattle.wast_module_fields.specs.ModuleFieldViews.{field_tree}
 use Rattle.wast_module_fields.specs.declared.field.ModuleField.{ModuleField}
-use Rattle.wast_meaning.specs.Implied.{func_sig}
-use Rattle.wast_meaning.specs.Spaces.{Bound, bound_import, bound_type, fields_of, items, space_number, same_space}
+use Rattle.wast_meaning.specs.Spaces.{Bound, bound_import, bound_type, items, space_number, same_space}
 use Rattle.wast_meaning.specs.Views.{space_view}
 use Rattle.wast_meaning.specs.contracts.space.Space.{the_type}
 use Rattle.wast_meaning.specs.declared.space.Space.{Space as CodeSpace}
@@ -39,7 +37,7 @@ use denote.Enum.Bare.{sameb}
 use denote.Enum.Declared.{tag_of}
 use Rattle.wast_meant.specs.NamesMeant.{naming}
 use Rattle.wast_name_maps.specs.Gathered.{name_if, bound_names, label_names, type_groups, import_groups, field_groups}
-use Rattle.wast_name_maps.specs.Given.{given, identified, sig_names}
+use Rattle.wast_name_maps.specs.Given.{given, identified}
 use Rattle.wast_name_maps.specs.Numbered.{Numbered, Fit, NameFits, NamesJoined, NamesJoin}
 use Rattle.wast_spaces.proofs.Written.{viewed}
 use Rattle.wast_name_maps.proofs.Joining.{flat_of, joins_then, unfit_front}
@@ -142,19 +140,6 @@ each_grouped k sig ms = viewed (λ m. extern_tree sig.kind) (import_groups k) ms
 pub struct_named : (fs : List StructField) → flat_map struct_names fs ≡ map identified (map (λ f. f.id) (map struct_field_tree fs))
 struct_named [] = refl
 struct_named (f ∷ fs) = ap (λ v. identified (option_map identifier_tree f.id) ∷ v) (struct_named fs)
-
--- types that are none
-pub no_fields : (k : InnerTypeKind) → ((x : _) → k ≡ kinds.Struct x → ⊥) → [] ≡ map identified (fields_of (inner_tree k))
-no_fields (kinds.Struct t) h = absurd (h t refl)
-no_fields (kinds.Func t) h = refl
-no_fields (kinds.Array t) h = refl
-no_fields (kinds.Cont t) h = refl
-
-pub no_params : (k : InnerTypeKind) → ((x : _) → k ≡ kinds.Func x → ⊥) → [] ≡ sig_names (func_sig (inner_tree k))
-no_params (kinds.Func t) h = absurd (h t refl)
-no_params (kinds.Struct t) h = refl
-no_params (kinds.Array t) h = refl
-no_params (kinds.Cont t) h = refl
 
 -- spaces are told apart by their numbers
 pub tag_is : (s : CodeSpace) → tag_of the_type s ≡ space_number (space_view s)

@@ -1,8 +1,8 @@
 //! The names inside of items.
-ghost use Rattle.std.specs.Prelude.{◌≡◌, ◌∷◌, [], ℕ, List, map};
+ghost use Rattle.std.specs.Prelude.{◌∷◌, [], ℕ, List, map};
 ghost use Rattle.std.specs.List.{flat_map};
 ghost use Rattle.wast_signatures.specs.SignatureViews.{use_tree};
-ghost use Rattle.wast_core_types.specs.TypeViews.{inner_tree, item_tree};
+ghost use Rattle.wast_core_types.specs.TypeViews.{item_tree};
 ghost use Rattle.wast_core_instr.specs.ExpressionViews.{expression_tree};
 ghost use Rattle.wast_imports.specs.ImportViews.{extern_tree, items_tree, member_name_tree, member_tree, tag_tree};
 ghost use Rattle.wast_module_fields.specs.FuncViews.{defined_func, defined_tag, local_tree};

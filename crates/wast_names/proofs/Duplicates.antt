@@ -15,10 +15,6 @@ use Rattle.wast_names.proofs.Walk.{IsFirstUnmet, all_met_at, all_met_by, unmet_a
 use Rattle.wast_names.proofs.Order.{alike_names}
 use Rattle.wast_names.proofs.Positions.{numbers_of}
 
-none_is : {A : Type 0} (o : Option A) → is_none o ≡ true → o ≡ None
-none_is None h = refl
-none_is (Some a) h = absurd (cc)
-
 abbrev pub duplicate : List ℕ → Named Name ℕ → Demand Name ℕ
 duplicate kind id = record { place = id.1; complaint = Duplicate kind; holds = false }
 

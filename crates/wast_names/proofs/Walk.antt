@@ -1,10 +1,9 @@
 -- How the steps of a loop meet the definition of its walk. A loop over xs, whose i-th element is x, has two facts in its invariant:
 -- `known`, what it knows is what is reached behind the first i elements; and `met`, the first unmet demand of those that are left is the
--- first of all. `reached_more` and `walk_more` keep them, `walk_stops` answers where a step refuses, and `walk_done` at the end; and one that rewrites keeps
--- `threaded_more`.
-use Rattle.std.proofs.Common.{◌≡◌, ℕ, ◌+◌, ◌<◌, ◌≤◌, suc, List, [], ◌∷◌, ◌++◌, Option, Some, None, Bool, true, false, map, drop, take, set, length, get_or, refl, sym, ◌∙◌, ap, arith, add-one, drop-cons}
+-- first of all. `reached_more` and `walk_more` keep them, `walk_stops` answers where a step refuses, and `walk_done` at the end.
+use Rattle.std.proofs.Common.{◌≡◌, ℕ, ◌+◌, ◌<◌, ◌≤◌, suc, List, [], ◌∷◌, ◌++◌, Option, Some, None, Bool, true, false, map, drop, take, length, get_or, refl, sym, ◌∙◌, ap, add-one, drop-cons}
 use Rattle.std.specs.Prelude.{if◌then◌else◌}
-use Rattle.std.proofs.lemmas.List.{take_more, drop_more, drop_all, get_or_at, set_at, length-take, append_assoc}
+use Rattle.std.proofs.lemmas.List.{take_more, drop_all, append_assoc}
 use Rattle.wast_names.specs.Walk.{reached, walked, threaded, first_unmet}
 
 -- The demand is the first that isn't met in a walk: it is the first of an element, and all before that element are met.
@@ -132,17 +131,6 @@ module _ {S X : Type 0} (after : S → X → S) where
     threaded_append s [] ys = refl
     threaded_append s (x ∷ xs) ys = ap (λ l. to s x ∷ l) (threaded_append (after s x) xs ys)
 
-    pub length_threaded : (s : S) (xs : List X) → length (threaded to after s xs) ≡ length xs
-    length_threaded s [] = refl
-    length_threaded s (x ∷ xs) = ap suc (length_threaded (after s x) xs)
-
-    -- one more element of a list that is made
-    pub made_more : (s : S) (xs : List X) (i : ℕ) (x : X) (y : Y) → i < length xs → x ≡ get_or xs i x → y ≡ to (reached after s (take i xs)) x
-        → threaded to after s (take (i + 1) xs) ≡ threaded to after s (take i xs) ++ y ∷ []
-    made_more s xs i x y h e new =
-        ap (threaded to after s) (take_more xs i x h ∙ ap (λ z. take i xs ++ z ∷ []) (sym e)) ∙ threaded_append s (take i xs) (x ∷ [])
-        ∙ ap (λ z. threaded to after s (take i xs) ++ z ∷ []) (sym new)
-
 -- lists that are seen by a view
 module _ {S X Z : Type 0} (view : X → Z) (after : S → Z → S) where
   pub reached_map : (s : S) (xs : List X) → reached after s (map view xs) ≡ reached (λ t x. after t (view x)) s xs
@@ -152,23 +140,3 @@ module _ {S X Z : Type 0} (view : X → Z) (after : S → Z → S) where
   pub walked_map : {D : Type 0} (asks : S → Z → List D) (s : S) (xs : List X) → walked asks after s (map view xs) ≡ walked (λ t x. asks t (view x)) (λ t x. after t (view x)) s xs
   walked_map asks s [] = refl
   walked_map asks s (x ∷ xs) = ap (λ l. asks s (view x) ++ l) (walked_map asks (after s (view x)) xs)
-
--- LOOPS THAT REWRITE IN PLACE: a loop over xs, which has come to ys, with y in the place of x
-module _ {S X : Type 0} (after : S → X → S) (to : S → X → X) where
-  parts : (s : S) (xs ys : List X) (i : ℕ) (x : X) → i < length xs → ys ≡ threaded to after s (take i xs) ++ drop i xs
-      → ys ≡ threaded to after s (take i xs) ++ get_or xs i x ∷ drop (i + 1) xs
-  parts s xs ys i x lt h = h ∙ ap (λ l. threaded to after s (take i xs) ++ l) (drop_more xs i x lt)
-
-  long : (s : S) (xs : List X) (i : ℕ) → i < length xs → length (threaded to after s (take i xs)) ≡ i
-  long s xs i lt = length_threaded after to s (take i xs) ∙ omega (arith, length-take i xs)
-
-  -- what is met there is what stood there
-  pub read_at : (s : S) (xs ys : List X) (i : ℕ) (x : X) → i < length xs → ys ≡ threaded to after s (take i xs) ++ drop i xs → x ≡ get_or ys i x → x ≡ get_or xs i x
-  read_at s xs ys i x lt h is = is ∙ ap (λ l. get_or l i x) (parts s xs ys i x lt h) ∙ get_or_at (threaded to after s (take i xs)) _ _ x i (long s xs i lt)
-
-  pub threaded_more : (s : S) (xs ys : List X) (i : ℕ) (x : X) (t : S) (y : X) → i < length xs → ys ≡ threaded to after s (take i xs) ++ drop i xs → x ≡ get_or ys i x
-      → t ≡ reached after s (take i xs) → y ≡ to t x → set ys i y ≡ threaded to after s (take (i + 1) xs) ++ drop (i + 1) xs
-  threaded_more s xs ys i x t y lt h is at new =
-      let front = threaded to after s (take i xs) in
-      let more : threaded to after s (take (i + 1) xs) ≡ front ++ y ∷ [] = made_more after to s xs i x y lt (read_at s xs ys i x lt h is) (new ∙ ap (λ r. to r x) at) in
-      ap (λ l. set l i y) (parts s xs ys i x lt h) ∙ set_at front _ _ y i (long s xs i lt) ∙ sym (append_assoc front (y ∷ []) (drop (i + 1) xs)) ∙ ap (λ l. l ++ drop (i + 1) xs) (sym more)

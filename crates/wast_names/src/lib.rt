@@ -2,7 +2,8 @@
 //!
 //! A [`Namespace`] counts the items of one index space, and knows their names. [`Namespace::register`] adds an item;
 //! [`Namespace::resolve`] makes an index the number that it means, and [`Namespace::number_of`] only tells it. Names are kept in
-//! order, so n items cost n log n whatever their names are. [`copied_id`] copies the identifier that an item bears.
+//! order, so n items cost n log n whatever their names are. [`copied_id`] copies the identifier that an item bears, and [`is_borne`]
+//! tells whether it is this one.
 //!
 //! ```
 //! let mut names = Namespace::new(alloc);
@@ -37,7 +38,9 @@
 //! the last ([`laws::one_place`]).
 #![tactic(auto)]
 
+mod borne;
 pub mod laws;
 mod namespace;
 
+pub use borne::is_borne;
 pub use namespace::{Namespace, copied_id, resolve_error};

@@ -1,11 +1,10 @@
 //! Name spaces.
 
-ghost use Rattle.std.specs.Prelude.{◌≡◌, ◌⊎◌, ℕ, ◌+◌, ◌-◌, ◌^◌, ◌<◌, Bool, true, false, List, [], ◌∷◌, IfErr, IfOk, IsOk, OnErr, OnOk, None, Some, is_some, option_map, length, map};
-ghost use Rattle.wast_parser.specs.Tokens.{Name};
+ghost use Rattle.std.specs.Prelude.{◌≡◌, ◌⊎◌, ◌+◌, ◌-◌, ◌^◌, ◌<◌, true, false, [], ◌∷◌, IfErr, IfOk, IsOk, OnErr, OnOk, None, Some, is_some, option_map, length, map};
 ghost use Rattle.wast_parser.specs.Spelling.{same_name};
 ghost use Rattle.wast_parser.specs.Identifiers.{identifier_tree, index_tree};
 ghost use Rattle.wast_parser.specs.Reading.{out_of_memory};
-ghost use Rattle.wast_names.specs.Demand.{Answers, Refuses, Unknown, told};
+ghost use Rattle.wast_names.specs.Demand.{Answers, Unknown, told};
 ghost use Rattle.wast_names.specs.Views.{space};
 ghost use Rattle.wast_names.specs.Space.{bound, distinct, empty, fresh, grown, is_free, known, last_counts, name_in, number_of, registered, resolved, space_of};
 

@@ -1,4 +1,3 @@
 mod Joined
 mod Labelled
 pub mod Unnamed
-mod Places

@@ -1,5 +1,5 @@
 //! What indices mean, outside of instructions and at each.
-ghost use Rattle.std.specs.Prelude.{◌≡◌, Some, None, option_map, slice_get, unwrap_or};
+ghost use Rattle.std.specs.Prelude.{◌≡◌, Some, None, option_map};
 ghost use Rattle.wasm_encoder_base.specs.Table.{Types};
 ghost use Rattle.wast_grammar.specs.Tokens.{Name};
 ghost use Rattle.wast_parser.specs.Identifiers.{identifier_tree, index_tree};
@@ -18,7 +18,7 @@ use wast_names::Namespace;
 use wast_parser::{Id, Index};
 use wast_scopes::Labels;
 use wast_signatures::FunctionType;
-use wast_spaces::Spaces;
+use wast_spaces::{Spaces, count_at};
 
 /// What indices outside of instructions mean: the index spaces of the module, and how many parameters each type has.
 #[derive(Drop)]
@@ -167,15 +167,5 @@ impl<'a> Numbering<'_, 'a> {
             Some(number) => count_at(self.params, number),
             None => 0,
         }
-    }
-}
-
-/// The count of the type with a number, or none.
-fn count_at(params: &[usize], number: u32) -> usize
-    ensures { result ≡ unwrap_or (slice_get params.now number) 0 }
-{
-    match params.get(number as usize) {
-        Some(count) => *count,
-        None => 0,
     }
 }

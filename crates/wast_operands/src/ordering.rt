@@ -1,5 +1,5 @@
 //! Orderings of atomic instructions.
-ghost use Rattle.std.specs.Prelude.{◌≡◌, ℕ, List, [], true, refl};
+ghost use Rattle.std.specs.Prelude.{◌≡◌, ℕ, [], true, refl};
 ghost use Rattle.wast_vector_operands.specs.Tokens.{Name};
 ghost use Rattle.wast_vector_operands.specs.Look.{ask, apart};
 ghost use Rattle.wast_vector_operands.specs.Lawful.{Lawful, Leads};

@@ -1,5 +1,5 @@
 //! Operands of instructions on continuations.
-ghost use Rattle.std.specs.Prelude.{◌≡◌, ℕ, List, [], ◌∷◌, Option, option_map, codes, refl};
+ghost use Rattle.std.specs.Prelude.{ℕ, List, Option, option_map, codes, refl};
 ghost use Rattle.wast_vector_operands.specs.Tokens.{Name};
 ghost use Rattle.wast_vector_operands.specs.Grammar.{led};
 ghost use Rattle.wast_vector_operands.specs.Look.{ask};

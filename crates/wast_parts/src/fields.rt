@@ -1,5 +1,5 @@
 //! Whole fields.
-ghost use Rattle.std.specs.Prelude.{◌≡◌, map};
+ghost use Rattle.std.specs.Prelude.{map};
 ghost use Rattle.std.specs.List.{flat_map};
 ghost use Rattle.wast_module_fields.specs.ModuleFieldViews.{field_tree};
 ghost use Rattle.wast_meaning.specs.Mentions.{parts};
@@ -13,7 +13,7 @@ use wast_meaning::Space;
 use wast_mentions::Mention;
 use wast_module_fields::ModuleField;
 
-/// Tells of all parts of a field in order, up to the first of which the judge says that something it asks isn't so.
+/// Tells of all parts of a field in order, up to the first of which the judge says that something it asks isn't so; answers that fault then.
 pub fn tell_parts<'a, J: PartJudge<'a>>(field: &ModuleField<'a>, judge: &J) -> Result<(), J::Fault>
     ensures { Judged (J.asks judge.now) J.holds J.tells result (parts (field_tree field.now)) }
 {
@@ -38,7 +38,8 @@ pub fn tell_parts<'a, J: PartJudge<'a>>(field: &ModuleField<'a>, judge: &J) -> R
     }
 }
 
-/// Tells of the parts of each of these fields.
+/// Tells of the parts of each of these fields, in order, up to the first of which the judge says that something it asks isn't so; answers
+/// that fault then.
 pub fn tell_all_parts<'a, J: PartJudge<'a>>(
     fields: &[ModuleField<'a>],
     judge: &J,

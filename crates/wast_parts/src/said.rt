@@ -1,5 +1,5 @@
 //! What fields say of names by themselves.
-ghost use Rattle.std.specs.Prelude.{[], ◌∷◌, map, option_map};
+ghost use Rattle.std.specs.Prelude.{map, option_map};
 ghost use Rattle.std.specs.List.{flat_map};
 ghost use Rattle.wasm_encoder_base.specs.OperandSyntax.{Functions};
 ghost use Rattle.wast_parser.specs.Identifiers.{index_tree};

@@ -12,7 +12,7 @@ ghost use Rattle.wast_meaning.specs.Implied.{implied as implied_types};
 ghost use Rattle.wast_meaning.specs.Numbered.{expanded, numbered};
 ghost use Rattle.wast_meaning.specs.Spaces.{space_word};
 ghost use Rattle.wast_implied.specs.Views.{known as gathered};
-ghost use Rattle.wast_resolve.specs.Resolving.{Means, ns_space, resolver_spaces};
+ghost use Rattle.wast_resolve.specs.Resolving.{Means, ns_space};
 ghost use Rattle.wast_resolve.specs.Whole.{AreResolved, counter_after, demands_by, names_spaces, resolved_by, written_by};
 
 use crate::names;

@@ -30,9 +30,6 @@ not_true : (b : Bool) → not b ≡ true → b ≡ false
 not_true true e = elim (false≢true e) [ ]
 not_true false e = refl
 
-not_false : (b : Bool) → b ≡ false → not b ≡ true
-not_false b e = ap not e
-
 pub same_self : (s : Space) → same_space s s ≡ true
 same_self Labels = refl
 same_self Locals = refl

@@ -1,20 +1,19 @@
 -- What is known with and without labels and locals, and what an instruction makes of labels.
-use Rattle.std.proofs.Common.{◌≡◌, ℕ, [], ◌∷◌, map, drop, Option, Some, None, refl, subst, ◌∙◌, ap, Result}
-use Rattle.std.specs.Prelude.{option_to_list, OnOk}
+use Rattle.std.proofs.Common.{◌≡◌, ℕ, [], ◌∷◌, drop, refl, subst, ◌∙◌, ap, Result}
+use Rattle.std.specs.Prelude.{OnOk}
 use Rattle.std.specs.List.{flat_map}
 use Rattle.wasm_encoder_base.specs.Table.{Labels, Locals, Functions, Types, Tables, Memories, Globals, Tags, Datas, Elems, Fields}
 use Rattle.wasm_encoder_base.specs.Table as table
 use Rattle.wasm_encoder_base.specs.Balanced.{Turn, Opens, Closes, Stays}
 use Rattle.wast_grammar.specs.Tokens.{Name}
 use Rattle.wast_grammar.specs.Spelling.{same_name}
-use Rattle.wast_parser.specs.Identifiers.{Named}
 use Rattle.wast_parser.specs.Problem.{Problem}
 use Rattle.wast_names.specs.Space as names
 use Rattle.wast_names.specs.Demand.{Answers}
 use Rattle.wast_names.specs.Views.{space}
 use Rattle.wast_names.proofs.Positions.{numbers_of}
 use Rattle.wast_core_instr.specs.InstructionTree.{Instruction}
-use Rattle.wast_meaning.specs.Mentions.{Repeats, instr_mentions}
+use Rattle.wast_meaning.specs.Mentions.{instr_mentions}
 use Rattle.wast_meaning.specs.Spaces.{space_word}
 use Rattle.wast_meaning.specs.Scope.{turn_of_head, own_label, locals_or, labels_or}
 use Rattle.wast_scopes.specs.declared.scope.Scope.{Scope}
@@ -89,9 +88,3 @@ module _ {T : Type 0} (r : Result T Problem) (k : Known) (old new : Labelled) (i
 
   pub heard_closed : Closes ≡ turn_of_head i.head → Answers r (flat_map (mention_by (with_labels k (drop 1 old) old)) (instr_mentions i)) → Answers r (instr_by k old i)
   heard_closed turn h = subst Heard turn h
-
--- a name that is repeated is not looked up
-pub repeated : (k : Known) (a b blocks : Labelled) (o : Option (Named Name ℕ))
-    → flat_map (mention_by (with_labels k a blocks)) (map Repeats (option_to_list o)) ≡ flat_map (mention_by (with_labels k b blocks)) (map Repeats (option_to_list o))
-repeated k a b blocks None = refl
-repeated k a b blocks (Some id) = refl

@@ -1,5 +1,5 @@
 //! Expressions and functions.
-ghost use Rattle.std.specs.Prelude.{◌≡◌, ◌++◌, None, [], ◌∷◌, map, option_map, IfOk, OnOk, drop, length};
+ghost use Rattle.std.specs.Prelude.{◌≡◌, ◌++◌, None, [], ◌∷◌, map, option_map, IfOk, OnOk, drop};
 ghost use Rattle.std.specs.List.{flat_map};
 ghost use Rattle.wasm_encoder_base.specs.Table as table;
 ghost use Rattle.wast_grammar.specs.Spelling.{same_name};
@@ -48,7 +48,8 @@ fn instructions_of<'b, 'a>(expression: &'b Expression<'a>) -> &'b [Instruction<'
     &expression.instrs
 }
 
-/// Tests a mention outside expressions.
+/// Tests a mention outside expressions. Refuses the first demand of it that isn't met, with its place and its message, else only for want
+/// of memory.
 pub fn check_mention<'a>(scope: &Scope<'_, 'a>, mention: Mention<'_, 'a>) -> Result<(), Error>
     ensures { Answers result (mention_by (known scope.now) (mention_tree mention.entry)) }
 {
@@ -61,7 +62,8 @@ pub fn check_mention<'a>(scope: &Scope<'_, 'a>, mention: Mention<'_, 'a>) -> Res
 }
 
 /// Tests all that is mentioned in a function with a body: its type use, the types of its locals, that no two parameters or locals bear one
-/// name, and its instructions. The scope is that outside functions.
+/// name, and its instructions. The scope is that outside functions. Refuses the first demand that isn't met, with its place and its message,
+/// else only where no memory is found, or there are more than 4294967295 parameters and locals, or blocks inside each other.
 pub fn check_func<'a>(
     scope: &Scope<'_, 'a>,
     ty: &TypeUse<'a, FunctionType<'a>>,

@@ -1,5 +1,5 @@
 //! Labels.
-ghost use Rattle.std.specs.Prelude.{◌≡◌, ◌<◌, ◌≤◌, ◌-◌, ◌∷◌, [], List, ℕ, Option, true, if◌then◌else◌, drop, map, option_map, option_and_then, is_some, IfOk, IfErr, OnOk, OnErr, Some, None};
+ghost use Rattle.std.specs.Prelude.{◌≡◌, ◌<◌, ◌≤◌, ◌-◌, ◌∷◌, [], List, ℕ, Option, true, if◌then◌else◌, drop, map, option_map, option_and_then, is_some, IfOk, OnOk, OnErr, Some, None};
 ghost use Rattle.wast_grammar.specs.Tokens.{Name};
 ghost use Rattle.wast_grammar.specs.Spelling.{same_name};
 ghost use Rattle.wast_parser.specs.Identifier.{Identifier};
@@ -14,7 +14,7 @@ use crate::block::OpenBlock;
 use std::alloc::{AllocError, Global};
 use std::collections::BTreeMap;
 use std::marker::Model;
-use wast_names::copied_id;
+use wast_names::{copied_id, is_borne};
 use wast_parser::{Id, Index};
 
 /// The labels of the blocks that are open at a place (6.5, labels and control instructions). Contracts see a list of them, the innermost
@@ -173,15 +173,5 @@ fn leave<'a>(levels: &mut BTreeMap<Id<'a>, u32>, block: OpenBlock<'a>)
             let _ = levels.remove(&id);
         }
         (None, _) => {}
-    }
-}
-
-/// Whether a label is this name.
-fn is_borne<'a>(label: &Option<Id<'a>>, id: &Id<'a>) -> bool
-    ensures { result ≡ bears same_name (identifier_tree id.now).0 (name_in (option_map identifier_tree label.now)) }
-{
-    match label {
-        Some(label) => label == id,
-        None => false,
     }
 }

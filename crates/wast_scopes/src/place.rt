@@ -7,12 +7,11 @@ ghost use Rattle.wast_parser.specs.Identifiers.{ByName, identifier_tree, index_t
 ghost use Rattle.wast_parser.specs.Reading.{out_of_memory};
 ghost use Rattle.wast_signatures.specs.SignatureViews.{sig_tree, use_tree};
 ghost use Rattle.wast_names.specs.Demand.{Answers, Demand, LabelMismatch, TypeMismatch, is_met, told};
-ghost use Rattle.wast_meaning.specs.Demands.{place_of};
 ghost use Rattle.wast_meaning.specs.Mentions.{use_mentions};
 ghost use Rattle.wast_meaning.specs.Spaces.{space_word};
 ghost use Rattle.wast_meaning.specs.Views.{space_view};
 ghost use Rattle.wast_scopes.specs.Known.{agreement_by, agreements_by, known_by, members_by, mention_by, repeats_by, says_by, use_by};
-ghost use Rattle.wast_scopes.specs.Views.{Refused, known, known_here, refused_anywhere};
+ghost use Rattle.wast_scopes.specs.Views.{Refused, known_here, refused_anywhere};
 
 use crate::labels::Labels;
 use crate::scope::Scope;

@@ -1,5 +1,5 @@
 //! The function types of a module by number.
-ghost use Rattle.std.specs.Prelude.{◌≡◌, ◌++◌, true, [], ◌∷◌, List, Option, Some, None, map, IfOk, OnOk, option_map};
+ghost use Rattle.std.specs.Prelude.{◌≡◌, ◌++◌, true, [], ◌∷◌, Option, Some, None, map, IfOk, OnOk, option_map};
 ghost use Rattle.std.specs.List.{flat_map};
 ghost use Rattle.wasm_encoder_base.specs.Table as table;
 ghost use Rattle.wast_signatures.specs.SignatureViews.{sig_tree};

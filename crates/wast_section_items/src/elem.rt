@@ -25,13 +25,13 @@ ghost use Rattle.wast_section_items.specs.Parts.{active_segment, segment_with, M
 use crate::adding::add_segment;
 use crate::constant::constant;
 use crate::item::SectionItem;
-use crate::uses::{indices, table_index};
+use crate::uses::table_index;
 use std::alloc::Global;
 use wasm_encoder_base::{EncodeError, Items};
 use wasm_encoder_code::ConstExpr;
 use wasm_encoder_items::{ElementMode, ElementSegment, Elements};
 use wasm_encoder_sections::ElementSection;
-use wast_conversions::ref_type;
+use wast_conversions::{all_indices, ref_type};
 use wast_core_instr::Expression;
 use wast_customs::CustomPlaceAnchor;
 use wast_fields::{Elem, ElemKind, ElemPayload};
@@ -81,7 +81,7 @@ fn add_functions(
     requires numbers { All IsNumber (map index_tree written.now) }
     ensures { Appends (element_bytes expr_bytes) ElementFits IsElement (element_of (mode_tree kind.now) (Indices (map index_tree written.now)) ∷ []) section.old section.new result }
 {
-    match indices(alloc, written) {
+    match all_indices(alloc, written) {
         Ok(functions) => {
             let elements = Elements::Functions(Items::borrowed(&functions));
             add_elements(alloc, section, kind, elements)

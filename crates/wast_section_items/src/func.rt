@@ -1,5 +1,4 @@
 //! Functions by their types.
-ghost use Rattle.std.specs.Prelude.{map};
 ghost use Rattle.wasm_encoder_base.specs.Leb.{uleb};
 ghost use Rattle.wast_fields.specs.FieldTree.{Define};
 ghost use Rattle.wast_fields.specs.FuncViews.{func_definition};

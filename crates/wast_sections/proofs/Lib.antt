@@ -1,4 +1,3 @@
 mod AllDefined
-pub mod Contents
 mod Holding
 mod Starts

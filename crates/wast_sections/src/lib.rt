@@ -14,9 +14,7 @@
 //! | `Holds` | which section is that of items |
 //!
 //! Which items fields stand for is said by `FieldsMeant` of `wast_meant`, which fields are ready, and in which items counts and lengths
-//! fit, by `Ready` and `Fits` of `wast_section_items`. `Parts` serves private contracts. Of the lemmas in `proofs/`, what encodes modules
-//! may use
-//! `Contents`: sections of functions are what `wasm_layout` says of their types and of their bodies.
+//! fit, by `Ready` and `Fits` of `wast_section_items`. `Parts` serves private contracts.
 #![tactic(auto)]
 
 mod fields;

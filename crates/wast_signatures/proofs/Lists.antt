@@ -1,5 +1,5 @@
 -- Lists in groups, seen as trees.
-use Rattle.std.proofs.Common.{◌≡◌, List, [], ◌∷◌, ◌++◌, map, Option, Some, None, option_map, refl, sym, ◌∙◌, ap}
+use Rattle.std.proofs.Common.{◌≡◌, List, [], ◌∷◌, ◌++◌, map, Some, refl, sym, ◌∙◌, ap}
 use Rattle.std.specs.List.{flat_map}
 use Rattle.std.proofs.lemmas.List.{map-append}
 use Rattle.std.proofs.lemmas.List.Concat.{flat_map-cons}
@@ -49,8 +49,3 @@ module _ {N P : Type 0} where
       (ap (λ ps. as_one (map unnamed ps) (joined (map (λ h. map tree2 (items2 h)) hs))) (joined_trees tree2 items gs ∙ ap (map tree2) (sym f))
       ∙ ap (λ ps. as_one ps (joined (map (λ h. map tree2 (items2 h)) hs))) (sym k)
       ∙ ap (λ rs. as_one (map tree params) rs) (joined_trees tree2 items2 hs ∙ ap (map tree2) (sym g)))
-
--- what a group holds, where there is one
-pub in_group : {A B C : Type 0} (f : B → C) (value : A → B) (o : Option A) → option_map f (option_map value o) ≡ option_map (λ a. f (value a)) o
-in_group f value None = refl
-in_group f value (Some a) = refl

@@ -1,10 +1,10 @@
 //! Groups behind a word.
-ghost use Rattle.std.specs.Prelude.{◌≡◌, ℕ, List, [], ◌∷◌, Option, Some, false, option_map, refl};
+ghost use Rattle.std.specs.Prelude.{◌≡◌, List, [], Option, Some, false, option_map, refl};
 ghost use Rattle.wast_value_types.specs.Significant.{TextToken};
-ghost use Rattle.wast_value_types.specs.Look.{any_end, ask, this_group};
-ghost use Rattle.wast_value_types.specs.Grammar.{Syntax, group};
+ghost use Rattle.wast_value_types.specs.Look.{any_end};
+ghost use Rattle.wast_value_types.specs.Grammar.{group};
 ghost use Rattle.wast_value_types.specs.State.{ahead, Keeps};
-ghost use Rattle.wast_value_types.specs.Reading.{Asks, Gives};
+ghost use Rattle.wast_value_types.specs.Reading.{Gives};
 
 use std::marker::PhantomData;
 use wast_value_types::{

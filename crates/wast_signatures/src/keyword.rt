@@ -1,5 +1,5 @@
 //! The words of the syntax of signatures and type uses.
-ghost use Rattle.std.specs.Prelude.{◌≡◌, codes};
+ghost use Rattle.std.specs.Prelude.{codes};
 
 use wast_value_types::KeywordName;
 

@@ -1,8 +1,8 @@
 //! Signatures.
-ghost use Rattle.std.specs.Prelude.{◌≡◌, ℕ, List, [], ◌∷◌, map, IfOk, codes, refl};
+ghost use Rattle.std.specs.Prelude.{◌≡◌, ℕ, List, [], ◌∷◌, map, IfOk, refl};
 ghost use Rattle.wast_value_types.specs.Tokens.{Name};
 ghost use Rattle.wast_value_types.specs.Look.{ask};
-ghost use Rattle.wast_value_types.specs.Grammar.{Syntax, either, map_reads, maybe, seen, seq};
+ghost use Rattle.wast_value_types.specs.Grammar.{either, map_reads, seen, seq};
 ghost use Rattle.wast_value_types.specs.Lawful.{Lawful, Leads};
 ghost use Rattle.wast_value_types.specs.Significant.{TextToken};
 ghost use Rattle.wast_value_types.specs.State.{ahead, Keeps};
@@ -13,7 +13,7 @@ ghost use Rattle.wast_value_types.specs.ValueTree as spec_value;
 ghost use Rattle.wast_value_types.specs.ValueSyntax.{val_type};
 ghost use Rattle.wast_value_types.specs.ValueViews.{val_tree};
 ghost use Rattle.wast_signatures.specs.TypeTree as spec;
-ghost use Rattle.wast_signatures.specs.TypeSyntax.{sig_starts, given_starts, given_name, as_local, as_given, unnamed, val_types, named_locals, sig, bare_sig};
+ghost use Rattle.wast_signatures.specs.TypeSyntax.{sig_starts, given_starts, given_name, as_given, unnamed, val_types, named_locals, sig, bare_sig};
 ghost use Rattle.wast_signatures.specs.SignatureViews.{name_tree, param_tree, sig_tree};
 
 use crate::group::{Body, Grouped};

@@ -1,5 +1,5 @@
 //! Fields of structures, in groups. They stand beside `Several`, since only its crate may read them into it.
-ghost use Rattle.std.specs.Prelude.{◌≡◌, ℕ, List, [], ◌∷◌, map, IfOk, refl};
+ghost use Rattle.std.specs.Prelude.{◌≡◌, ℕ, List, map, IfOk, refl};
 ghost use Rattle.wast_value_types.specs.Tokens.{Name};
 ghost use Rattle.wast_value_types.specs.Lawful.{Lawful};
 ghost use Rattle.wast_value_types.specs.Significant.{TextToken};

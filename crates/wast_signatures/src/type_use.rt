@@ -1,5 +1,5 @@
 //! Type uses.
-ghost use Rattle.std.specs.Prelude.{◌≡◌, ℕ, List, [], Option, Some, None, codes, option_map, refl};
+ghost use Rattle.std.specs.Prelude.{◌≡◌, ℕ, List, Option, Some, None, codes, option_map, refl};
 ghost use Rattle.wast_value_types.specs.Tokens.{Name};
 ghost use Rattle.wast_value_types.specs.Grammar.{seq_reads, maybe_reads};
 ghost use Rattle.wast_value_types.specs.Lawful.{Lawful};

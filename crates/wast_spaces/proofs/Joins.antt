@@ -85,8 +85,3 @@ module _ {X : Type 0} (view : X → List (Bound Name ℕ)) where
   refused_at old mid xs i x p h e first refused =
       subst (λ l. Refuses (joining (spaces_of old) l) p) (sym (all_of view xs i x h e))
       (refused_first old (flat_map view (take i xs) ++ view x) (flat_map view (drop (i + 1) xs)) p (refused_then old mid (flat_map view (take i xs)) (view x) p first refused))
-
--- a list of which each element is one item
-pub one_each : {X : Type 0} (view : X → Bound Name ℕ) (xs : List X) → map view xs ≡ flat_map (λ x. view x ∷ []) xs
-one_each view [] = refl
-one_each view (x ∷ xs) = ap (λ l. view x ∷ l) (one_each view xs)

@@ -3,7 +3,8 @@
 //! [`Spaces::of`] numbers the items of fields, and refuses the first that bears the name of another, segments aside, and likewise fields of
 //! structures; [`Spaces::space`] answers one of the spaces, and [`Spaces::fields_of`] that of the fields of a type. [`check_order`] refuses
 //! a list of fields in which an import stands behind a definition of a function, a table, a memory, a global or a tag; an import may be a
-//! field of its own or stand inline. [`param_counts`] tells with how many parameters the locals of a function begin, by its type.
+//! field of its own or stand inline. [`param_counts`] tells with how many parameters the locals of a function begin, by its type, of
+//! which [`count_at`] answers one.
 //!
 //! ```text
 //! (func) (import "m" "f" (func))
@@ -37,5 +38,5 @@ mod params;
 mod spaces;
 
 pub use order::check_order;
-pub use params::param_counts;
+pub use params::{count_at, param_counts};
 pub use spaces::Spaces;

@@ -1,5 +1,5 @@
 //! How many parameters types have: with as many locals the index space of locals of a function begins (6.6, type uses).
-ghost use Rattle.std.specs.Prelude.{◌≡◌, [], ◌∷◌, ◌++◌, true, IfOk, OnOk, map};
+ghost use Rattle.std.specs.Prelude.{◌≡◌, [], ◌∷◌, ◌++◌, true, IfOk, OnOk, map, slice_get, unwrap_or};
 ghost use Rattle.std.specs.List.{flat_map};
 ghost use Rattle.wast_core_types.specs.TypeViews.{inner_tree, item_tree};
 ghost use Rattle.wast_module_fields.specs.ModuleFieldViews.{field_tree};
@@ -63,5 +63,15 @@ fn params_of(kind: &InnerTypeKind<'_>) -> usize
     match kind {
         InnerTypeKind::Func(signature) => signature.params.len(),
         _ => 0,
+    }
+}
+
+/// The count with a number, or 0 where there is none with it.
+pub fn count_at(counts: &[usize], number: u32) -> usize
+    ensures { result ≡ unwrap_or (slice_get counts.now number) 0 }
+{
+    match counts.get(number as usize) {
+        Some(count) => *count,
+        None => 0,
     }
 }

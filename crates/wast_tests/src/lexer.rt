@@ -1,5 +1,5 @@
 //! Tests of the lexer.
-ghost use Rattle.std.specs.Prelude.{◌≡◌, ◌<◌, ◌^◌, IfSome, length};
+ghost use Rattle.std.specs.Prelude.{◌<◌, ◌^◌, length};
 ghost use Rattle.wast_lexer.specs.TokenText.{GivesTokenOf};
 
 use std::alloc::{AllocError, Global};

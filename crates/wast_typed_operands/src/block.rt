@@ -1,5 +1,5 @@
 //! The types of blocks.
-ghost use Rattle.std.specs.Prelude.{◌≡◌, ℕ, List};
+ghost use Rattle.std.specs.Prelude.{ℕ};
 ghost use Rattle.wast_signatures.specs.Tokens.{Name};
 ghost use Rattle.wast_signatures.specs.Lawful.{Lawful};
 ghost use Rattle.wast_signatures.specs.State.{ahead, Keeps};

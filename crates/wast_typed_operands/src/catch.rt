@@ -1,5 +1,5 @@
 //! The clauses of `try_table`.
-ghost use Rattle.std.specs.Prelude.{◌≡◌, ℕ, List, [], ◌∷◌, codes, option_map, refl};
+ghost use Rattle.std.specs.Prelude.{◌≡◌, ℕ, option_map, refl};
 ghost use Rattle.wast_signatures.specs.Tokens.{Name};
 ghost use Rattle.wast_signatures.specs.Look.{ask};
 ghost use Rattle.wast_signatures.specs.Lawful.{Lawful, Leads};

@@ -1,5 +1,5 @@
 //! The words that stand in the syntax of clauses.
-ghost use Rattle.std.specs.Prelude.{◌≡◌, codes};
+ghost use Rattle.std.specs.Prelude.{codes};
 
 use wast_signatures::KeywordName;
 

@@ -1,11 +1,10 @@
 //! Imports (6.6, imports).
-ghost use Rattle.std.specs.Prelude.{◌≡◌, ℕ, List};
+ghost use Rattle.std.specs.Prelude.{ℕ, List};
 ghost use Rattle.wast_grammar.specs.Tokens.{Name};
 ghost use Rattle.wast_imports.specs.ImportTree as imports;
 ghost use Rattle.wast_imports.specs.ImportViews.{extern_tree, items_tree, member_tree};
 ghost use Rattle.wast_conversions.specs.Covered.{extern_forms};
 ghost use Rattle.wast_meant.specs.Covered.{import_forms};
-ghost use Rattle.wast_uncovered.specs.First.{first, said};
 
 use crate::form::{HasForms, first_in};
 use wast_imports::{ImportGroup1Item, ImportItems, ItemKind, TagType};

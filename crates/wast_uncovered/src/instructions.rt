@@ -5,7 +5,7 @@ ghost use Rattle.wast_core_instr.specs.InstructionTree as spec;
 ghost use Rattle.wast_core_instr.specs.InstructionViews.{instruction_tree};
 ghost use Rattle.wast_core_instr.specs.declared.instruction.Instruction.TheVariants as instructions;
 ghost use Rattle.wast_conversions.specs.Covered.{instr_forms};
-ghost use Rattle.wast_uncovered.specs.First.{first, said};
+ghost use Rattle.wast_uncovered.specs.First.{said};
 ghost use Rattle.wast_uncovered.specs.Told.{told};
 
 use crate::form::HasForms;

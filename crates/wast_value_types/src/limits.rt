@@ -1,5 +1,5 @@
 //! Limits, and address types.
-ghost use Rattle.std.specs.Prelude.{◌≡◌, ℕ, Bool, List};
+ghost use Rattle.std.specs.Prelude.{◌≡◌, ℕ, Bool};
 ghost use Rattle.wast_words.specs.Tokens.{Name};
 ghost use Rattle.wast_words.specs.Lawful.{Lawful};
 ghost use Rattle.wast_words.specs.State.{ahead, Keeps};
@@ -40,7 +40,8 @@ impl<'a> Parse<'a> for Limits {
     }
 }
 
-/// Reads an address type (6.4.8) where one stands; answers whether it is `i64`. Without one it is `i32`.
+/// Reads an address type (6.4.8) where one stands; answers whether it is `i64`. Without one it is `i32`. Refused only where no token can be
+/// read here.
 pub fn address_type(parser: &mut Parser<'_>) -> Result<bool, Error>
     ensures read { Gives (λ b. b) result parser.new (address_type.reads (ahead parser.old)) }
     ensures keeps { Keeps parser.old parser.new }

@@ -1,5 +1,5 @@
 //! Reference types.
-ghost use Rattle.std.specs.Prelude.{◌≡◌, ℕ, List, Some, true, IfOk, IfSome, option_map, refl};
+ghost use Rattle.std.specs.Prelude.{◌≡◌, ℕ, Some, true, IfOk, IfSome, option_map, refl};
 ghost use Rattle.wast_words.specs.Tokens.{Name};
 ghost use Rattle.wasm_encoder_base.specs.Types.{FuncHeap, ExternHeap, AnyHeap, EqHeap, I31Heap, StructHeap, ArrayHeap, ExnHeap, NoFuncHeap, NoExternHeap, NoneHeap, NoExnHeap};
 ghost use Rattle.wast_words.specs.Look.{ask};

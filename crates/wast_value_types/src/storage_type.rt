@@ -1,5 +1,5 @@
 //! Storage types and field types.
-ghost use Rattle.std.specs.Prelude.{◌≡◌, ℕ, List, IfOk, refl};
+ghost use Rattle.std.specs.Prelude.{◌≡◌, ℕ, IfOk, refl};
 ghost use Rattle.wast_words.specs.Tokens.{Name};
 ghost use Rattle.wast_words.specs.Look.{ask};
 ghost use Rattle.wast_words.specs.Lawful.{Lawful, Leads};

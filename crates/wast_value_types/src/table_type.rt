@@ -1,5 +1,5 @@
 //! Table types and memory types.
-ghost use Rattle.std.specs.Prelude.{◌≡◌, ℕ, List, IfOk};
+ghost use Rattle.std.specs.Prelude.{◌≡◌, ℕ, IfOk};
 ghost use Rattle.wast_words.specs.Tokens.{Name};
 ghost use Rattle.wast_words.specs.Lawful.{Lawful};
 ghost use Rattle.wast_words.specs.State.{ahead, Keeps};

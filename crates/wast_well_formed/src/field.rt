@@ -11,7 +11,7 @@ use crate::parts::parts_formed;
 use wast_module_fields::{MemoryKind, ModuleField};
 
 /// Whether the expressions in a field are formed, a memory with its segment inline has pages whose size fits, and the field isn't a
-/// start function behind another.
+/// start function behind another: `started` says that one stands before it.
 pub fn field_formed(field: &ModuleField<'_>, started: bool) -> bool
     ensures { result ≡ (list_all part_formed (parts (field_tree field.now)) && spec.pages_formed (field_tree field.now) && not (started && is_start (field_tree field.now))) }
 {
@@ -31,7 +31,8 @@ fn pages_formed(field: &ModuleField<'_>) -> bool
     }
 }
 
-fn is_start(field: &ModuleField<'_>) -> bool
+/// Whether a field is a start function.
+pub fn is_start(field: &ModuleField<'_>) -> bool
     ensures { result ≡ is_start (field_tree field.now) }
 {
     matches!(field, ModuleField::Start(_))

@@ -9,8 +9,8 @@
 //! - a memory with its segment inline has pages of 2 to a power below 64 bytes;
 //! - no start function stands before it where it is one.
 //!
-//! [`field_formed`] tells whether one field is so. Nothing is changed, no memory is taken, and no name is looked up: that names that are
-//! made up are bound is left to others.
+//! [`field_formed`] tells whether one field is so, and [`is_start`] whether it is a start function. Nothing is changed, no memory is taken,
+//! and no name is looked up: that names that are made up are bound is left to others.
 //!
 //! # What has to be believed
 //!
@@ -29,5 +29,5 @@ mod turn;
 
 pub use alignment::is_aligned;
 pub use expression::{is_formed, is_formed_constant};
-pub use field::field_formed;
+pub use field::{field_formed, is_start};
 pub use turn::Turn;

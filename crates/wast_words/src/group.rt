@@ -1,8 +1,8 @@
 //! Groups that begin with a word.
-ghost use Rattle.std.specs.Prelude.{◌≡◌, ℕ, List, [], ◌∷◌, refl, is_some};
+ghost use Rattle.std.specs.Prelude.{◌≡◌, ℕ, [], ◌∷◌, refl};
 ghost use Rattle.wast_parser.specs.Tokens.{Name};
 ghost use Rattle.wast_parser.specs.Look.{ask, this_group};
-ghost use Rattle.wast_parser.specs.Grammar.{word, paren, group, seen};
+ghost use Rattle.wast_parser.specs.Grammar.{word, group};
 ghost use Rattle.wast_parser.specs.Lawful.{Lawful, Leads};
 ghost use Rattle.wast_parser.specs.State.{ahead, Keeps};
 ghost use Rattle.wast_parser.specs.Reading.{Asks, Gives};
@@ -53,7 +53,8 @@ impl<N: KeywordName> Peek for Group<N> {
     }
 }
 
-/// A value behind a word, in parentheses.
+/// Reads a value behind this word, in parentheses; the value's type registers no annotation. Refused where none is spelled here, or for
+/// want of memory.
 pub fn group_of<'a, T: Parse<'a>>(parser: &mut Parser<'a>, word: &str) -> Result<T, Error>
     requires { T.registers ≡ [] }
     ensures read { Gives T.tree result parser.new ((group word.now T.syntax).reads (ahead parser.old)) }
@@ -66,7 +67,7 @@ pub fn group_of<'a, T: Parse<'a>>(parser: &mut Parser<'a>, word: &str) -> Result
     Ok(value)
 }
 
-/// Takes a word where it stands; answers whether it did.
+/// Takes a word where it stands; answers whether it did. Refused only where no token can be read here.
 pub fn optional<'a, N: KeywordName>(parser: &mut Parser<'a>) -> Result<bool, Error>
     ensures read { Gives (λ b. b) result parser.new ((optional N.word).reads (ahead parser.old)) }
     ensures keeps { Keeps parser.old parser.new }

@@ -23,7 +23,7 @@ use Rattle.wast_meaning.specs.Numbered.{taking, with_types, implied_field, numbe
 use Rattle.wast_meaning.proofs.Settled.{two}
 use Rattle.wasm_layout.specs.AbstractModule.{AbstractModule}
 use Rattle.wasm_layout.specs.Lays.{no_names, bare}
-use Rattle.wast_conversions.specs.Types.{number_of, heap_meant, limits_meant}
+use Rattle.wast_conversions.specs.Types.{heap_meant, limits_meant}
 use Rattle.wast_meant.specs.FieldsMeant.{types_of, import_of, imports_of, defined_in, functions_of, tables_of, memories_of, tags_of, globals_of, exports_of, starts_of, element_of, elements_of, data_of, datas_of, values_of}
 use Rattle.wast_meant.specs.NamesMeant.{GivenName, imported, imported_function, defined_function, bodies_in, hints_from}
 use Rattle.wast_meant.specs.CustomsMeant.{customs_in, at_place, gaps_from, stops}
@@ -177,10 +177,6 @@ module _ {N P : Type 0} where
 
 -- THE MODULE
 module _ {N P : Type 0} where
-  number_same : (r : P) (i : Reference N P) → number_of (referred_at r i) ≡ number_of i
-  number_same r (ByNumber n q) = refl
-  number_same r (ByName id) = refl
-
   heap_same : (r : P) (h : HeapType N P) → heap_meant (heap_at r h) ≡ heap_meant h
   heap_same r (Abstract shared w) = refl
   heap_same r (Concrete (ByNumber n q)) = refl

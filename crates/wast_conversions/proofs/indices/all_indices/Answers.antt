@@ -4,7 +4,7 @@ use Rattle.wast_parser.specs.Identifiers.{index_tree}
 use Rattle.wast_conversions.specs.Types.{number_of}
 use Rattle.wast_conversions.specs.Resolved.{IsNumber}
 use Rattle.wast_conversions.proofs.Each.{of_item, more_meant, one_more, each_meant}
-use Rattle.wast_conversions.proofs.instructions.indices.Goals as goal
+use Rattle.wast_conversions.proofs.indices.all_indices.Goals as goal
 
 pub index-requires : goal.index-requires
 index-requires c =
