@@ -1,12 +1,12 @@
 //! The encoder of WebAssembly modules (WebAssembly Core Specification 3.0, chapter 5): a [`Module`], its sections, and what
 //! they hold. It hands on what its users need of the crates that it stands on.
 //!
-//! A section is a list of items, built by calls that append one. Each answers `Added`, which holds the section for a
-//! further call; those of `CoreTypeEncoder` answer nothing. A call refuses with `EncodeError::TooLarge` exactly where,
-//! memory found, a count or length in the item, or the number of the items, is past 4294967295, and with
+//! Most sections are lists of items, built by calls that append one. Each answers `Added`, which holds the section for a
+//! further call; those of `CoreTypeEncoder` answer nothing. Such a call refuses with `EncodeError::TooLarge` exactly where,
+//! memory found, a count or length in the item, or, where the section has a count, the number of the items, is past 4294967295, and with
 //! `EncodeError::Memory` where a growth found no memory; refused, the section is unchanged. `encode` appends what follows
-//! the section's number: the size, the count where there is one, and the items. `len`, `is_empty`, `byte_len` and `finish`
-//! take no memory.
+//! the section's number: the size, the count where there is one, and the items; of a [`RawCustomSection`] the bytes that were given. It and
+//! `Module::section` refuse a section of which that size is past 4294967295 as too large. `len`, `is_empty`, `byte_len` and `finish` take no memory.
 //!
 //! A module that exports the function `f`, which adds two numbers (the program `first_module` writes it):
 //!

@@ -33,7 +33,7 @@ impl From<SectionId> for u8 {
     }
 }
 
-/// A section of a module (5.5.2): its spelling is that of its size and what stands in it.
+/// A section of a module (5.5.2): its spelling is to be that of its size and what stands in it.
 pub trait Section: Encode {
     ghost section_id: { Self → ℕ };
 

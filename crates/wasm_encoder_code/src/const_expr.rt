@@ -78,7 +78,8 @@ impl ConstExpr {
         Ok(ConstExpr { bytes })
     }
 
-    /// The function's index, where the bytes begin with a `ref.func`, whatever follows it.
+    /// The function's index, where the bytes begin with the opcode of `ref.func` and the shortest spelling of an index, whatever follows; else
+    /// none, of an index that is padded too.
     pub fn get_ref_func(&self) -> Option<u32>
         ensures found { IfSome result (λ index. StandsInFront (0xD2 ∷ uleb index) self.now) }
         ensures none { IfNone result ((n : ℕ) → n < 2 ^ 32 → StandsInFront (0xD2 ∷ uleb n) self.now → ⊥) }

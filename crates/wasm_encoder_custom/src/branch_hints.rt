@@ -15,7 +15,7 @@ use wasm_encoder_base::{Added, Encode, EncodeError, EncodedList, Section, Sectio
 
 /// The custom section `metadata.code.branch_hint`: which branches of functions are likely.
 ///
-/// The functions' indices and the offsets in each are to rise; that is left to the caller.
+/// The functions' indices and the offsets in each are to rise, and the values to be 0 or 1; that is left to the caller.
 #[derive(Debug, Drop)]
 pub struct BranchHints {
     functions: EncodedList,

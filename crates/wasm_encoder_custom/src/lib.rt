@@ -2,9 +2,10 @@
 //! (WebAssembly Core Specification 3.0, 5.5.3 and the appendix on custom sections; the tool conventions of WebAssembly).
 //!
 //! A section is built by calls that add to it. Each answers `Added`, which holds the section for a further call. It refuses
-//! with `EncodeError::TooLarge` exactly where, memory found, a count or length in what is added, or the number of what was
-//! added, is past 4294967295, and with `EncodeError::Memory` where a growth found no memory; refused, the section is
-//! unchanged. `encode` appends what follows the section's number 0: the size, the name and the data.
+//! with `EncodeError::TooLarge` exactly where, memory found, a count or length in what is added, or, where the section has a count, the number
+//! of what was added, is past 4294967295, and with `EncodeError::Memory` where a growth found no memory; refused, the section is
+//! unchanged. `encode` appends what follows the section's number 0: the size, the name and the data; of a [`RawCustomSection`] the bytes
+//! that were given.
 //!
 //! ```
 //! let mut names = NameMap::new(alloc);
@@ -14,7 +15,8 @@
 //! section.encode(&mut bytes)?; // 0b 04 6e 61 6d 65 01 04 01 00 01 66
 //! ```
 //!
-//! The order of sections and subsections, rising indices, distinct names and the flags of symbols are left to the caller.
+//! The order of sections and subsections, rising indices, distinct names, the values of hints, the flags of symbols, and bytes that
+//! are given raw are left to the caller.
 //! That what is added is told apart by its bytes, save in a linking section and by [`NameSection::raw`], and that the
 //! constants of [`SymbolTable`] are the flags of the tool conventions, is proved in [`laws`].
 #![tactic(auto)]

@@ -10,7 +10,7 @@ use wasm_encoder_code::ConstExpr;
 
 /// What is copied with the list that holds it.
 pub trait CopyItem: Sized {
-    /// The same item, in memory of its own.
+    /// The same item; what it owns is copied, what it borrows is borrowed again.
     fn copied(&self) -> Result<Self, AllocError>
         ensures { IfOk result (λ copy. copy ≡ self.now) };
 }

@@ -1,5 +1,5 @@
-//! The sections of a module: each is a list of items, built by calls that append one (WebAssembly Core Specification 3.0,
-//! 5.5.2).
+//! The sections of a module (WebAssembly Core Specification 3.0, 5.5.2): each is a list of items, built by calls that append one, but for
+//! the start section and the count of data segments, which are a number each.
 //!
 //! A call that appends an item is refused for want of memory, or as too large where a count or a length in the item, or the
 //! count of items with it, would be past 4294967295; refused, the section is as it was.
