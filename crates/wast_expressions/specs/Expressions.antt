@@ -165,7 +165,7 @@ module _ {N P I : Type 0} (ins : Syntax N P I) (heads : Heads I) where
   abbrev pub expression : Made P I → Syntax N P (Expression I)
   expression m = seen (λ x. expression_of (unfolded m x)) items
 
-  -- PLAIN: (instruction plain*), for the expressions of elements and tables: no block among them, and no hint
+  -- PLAIN: (instruction plain*), for elements and for offsets of element segments: a block's word opens nothing, and no hint stands among them
   abbrev pub all_of : List (List I) → List I
   all_of [] = []
   all_of (x ∷ xs) = x ++ all_of xs

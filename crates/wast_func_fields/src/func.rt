@@ -17,10 +17,10 @@ use wast_field_syntax::{
     Error, Expression, Id, InlineExport, InlineImport, LParen, Meaning, NameAnnotation, Parse,
     Parser, RParen, Span, required,
 };
-use wast_imports::{Head, expected_behind_use};
+use wast_imports::{Head, expected_behind_use, parse_exact};
 use wast_signatures::{FunctionType, TypeUse};
+use wast_value_types::Group;
 use wast_value_types::keyword::Exact;
-use wast_value_types::{Group, group_of};
 
 /// A function (6.6, functions): `(func $f (param $x i32) (result i32) (local i64) local.get $x)`.
 ///
@@ -165,11 +165,9 @@ fn parse_type<'a>(parser: &mut Parser<'a>) -> Result<(bool, TypeUse<'a, Function
     ensures keeps { Keeps parser.old parser.new }
 {
     if parser.peek::<Group<Exact>>()? {
-        let ty = group_of(parser, "exact")?;
-        Ok((true, ty))
+        Ok((true, parse_exact(parser)?))
     } else {
-        let ty = TypeUse::parse(parser)?;
-        Ok((false, ty))
+        Ok((false, TypeUse::parse(parser)?))
     }
 }
 

@@ -208,8 +208,9 @@ fn parse_func<'a>(parser: &mut Parser<'a>) -> Result<ItemKind<'a>, Error>
     }
 }
 
-/// Reads `(exact ..)`.
-fn parse_exact<'a>(parser: &mut Parser<'a>) -> Result<TypeUse<'a, FunctionType<'a>>, Error>
+/// Reads `(exact (type 0))`, the type of an imported function of exactly this type; a proposal's. Refused where none is spelled here, or for
+/// want of memory.
+pub fn parse_exact<'a>(parser: &mut Parser<'a>) -> Result<TypeUse<'a, FunctionType<'a>>, Error>
     ensures read { Gives use_tree result parser.new (exact_use.reads (ahead parser.old)) }
     ensures keeps { Keeps parser.old parser.new }
 {

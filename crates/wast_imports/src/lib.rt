@@ -23,4 +23,4 @@ mod member;
 pub use export_type::ExportType;
 pub use head::Head;
 pub use import::{ImportGroup1Item, ImportGroup2Item, ImportItems, Imports};
-pub use item::{ItemKind, ItemSig, TagType, expected_behind_use};
+pub use item::{ItemKind, ItemSig, TagType, expected_behind_use, parse_exact};

@@ -16,7 +16,7 @@ use crate::keyword;
 use crate::signature::{FunctionType, FunctionTypeNoNames};
 use wast_value_types::{Error, Index, Meaning, Parse, Parser, Peek};
 
-/// The use of a function type (6.6, type uses): its index, its signature, or both.
+/// The use of a function type (6.6, type uses): its index, its signature, both or neither.
 #[derive(Drop)]
 pub struct TypeUse<'a, T> {
     pub index: Option<Index<'a>>,

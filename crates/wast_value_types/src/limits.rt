@@ -41,7 +41,7 @@ impl<'a> Parse<'a> for Limits {
 }
 
 /// Reads an address type (6.4.8) where one stands; answers whether it is `i64`. Without one it is `i32`. Refused only where no token can be
-/// read here.
+/// read here, or for want of memory.
 pub fn address_type(parser: &mut Parser<'_>) -> Result<bool, Error>
     ensures read { Gives (λ b. b) result parser.new (address_type.reads (ahead parser.old)) }
     ensures keeps { Keeps parser.old parser.new }

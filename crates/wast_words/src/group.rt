@@ -67,7 +67,7 @@ pub fn group_of<'a, T: Parse<'a>>(parser: &mut Parser<'a>, word: &str) -> Result
     Ok(value)
 }
 
-/// Takes a word where it stands; answers whether it did. Refused only where no token can be read here.
+/// Takes a word where it stands; answers whether it did. Refused only where no token can be read here, or for want of memory.
 pub fn optional<'a, N: KeywordName>(parser: &mut Parser<'a>) -> Result<bool, Error>
     ensures read { Gives (λ b. b) result parser.new ((optional N.word).reads (ahead parser.old)) }
     ensures keeps { Keeps parser.old parser.new }
