@@ -1,10 +1,10 @@
 -- A subsection behind others that are joined.
-use Rattle.std.proofs.Common.{◌≡◌, ◌≢◌, List, [], ◌∷◌, ◌++◌, ℕ, map, refl, sym, ◌∙◌, ap, append_assoc, arith}
+use Rattle.std.proofs.Common.{◌≡◌, List, [], ◌∷◌, ◌++◌, ℕ, map, refl, sym, ◌∙◌, ap, append_assoc}
 use Rattle.std.proofs.lemmas.List.{map-append}
 use Rattle.wast_customs.specs.CustomTree.{Subsection, MemInfo, Needed, ExportInfo, ImportInfo, RuntimePath}
 use Rattle.std.specs.List.{flat_map}
-use Rattle.wast_customs.specs.Dylink.{joined, joined_before, exports_before, imports_before, entries_of, subsection_id}
-use Rattle.wast_customs.specs.Laws.{AreApart}
+use Rattle.wast_customs.specs.Dylink.{joined, joined_before, exports_before, imports_before, entries_of}
+use Rattle.wast_customs.specs.Laws.{AreApart, SpeakAlike}
 
 -- the same, from the left
 abbrev behind : List Subsection → Subsection → List Subsection
@@ -140,34 +140,34 @@ all_kept [] = refl
 all_kept (s ∷ ss) = one_kept s (joined ss) ∙ ap (λ z. entries_of s ++ z) (all_kept ss)
 
 -- WHAT IS LEFT to join: nothing
-apart_first : (s : Subsection) (ts : List Subsection) → (subsection_id s ≢ 3) → (subsection_id s ≢ 4) → AreApart ts → AreApart (s ∷ ts)
-apart_first s [] e i h = tt
-apart_first s (t ∷ ts) e i h = (λ a b. e a, λ a b. i a, h)
+apart_first : (s : Subsection) (ts : List Subsection) → ((t : Subsection) → ¬ (SpeakAlike s t)) → AreApart ts → AreApart (s ∷ ts)
+apart_first s [] alone h = tt
+apart_first s (t ∷ ts) alone h = (alone t, h)
 
 exports_apart : (es : List (List ℕ × ℕ)) (ts : List Subsection) → AreApart ts → AreApart (exports_before es ts)
 exports_apart es [] h = tt
 exports_apart es (ExportInfo fs ∷ []) h = tt
 exports_apart es (ExportInfo fs ∷ t ∷ ts) h = h
-exports_apart es (ImportInfo is ∷ ts) h = (λ a b. absurd (omega (arith, b)), λ a b. absurd (omega (arith, a)), h)
-exports_apart es (MemInfo a b c d ∷ ts) h = (λ a b. absurd (omega (arith, b)), λ a b. absurd (omega (arith, a)), h)
-exports_apart es (Needed ns ∷ ts) h = (λ a b. absurd (omega (arith, b)), λ a b. absurd (omega (arith, a)), h)
-exports_apart es (RuntimePath ns ∷ ts) h = (λ a b. absurd (omega (arith, b)), λ a b. absurd (omega (arith, a)), h)
+exports_apart es (ImportInfo is ∷ ts) h = (λ a. a, h)
+exports_apart es (MemInfo a b c d ∷ ts) h = (λ a. a, h)
+exports_apart es (Needed ns ∷ ts) h = (λ a. a, h)
+exports_apart es (RuntimePath ns ∷ ts) h = (λ a. a, h)
 
 imports_apart : (is : List (List ℕ × (List ℕ × ℕ))) (ts : List Subsection) → AreApart ts → AreApart (imports_before is ts)
 imports_apart is [] h = tt
 imports_apart is (ImportInfo js ∷ []) h = tt
 imports_apart is (ImportInfo js ∷ t ∷ ts) h = h
-imports_apart is (ExportInfo es ∷ ts) h = (λ a b. absurd (omega (arith, a)), λ a b. absurd (omega (arith, b)), h)
-imports_apart is (MemInfo a b c d ∷ ts) h = (λ a b. absurd (omega (arith, a)), λ a b. absurd (omega (arith, b)), h)
-imports_apart is (Needed ns ∷ ts) h = (λ a b. absurd (omega (arith, a)), λ a b. absurd (omega (arith, b)), h)
-imports_apart is (RuntimePath ns ∷ ts) h = (λ a b. absurd (omega (arith, a)), λ a b. absurd (omega (arith, b)), h)
+imports_apart is (ExportInfo es ∷ ts) h = (λ a. a, h)
+imports_apart is (MemInfo a b c d ∷ ts) h = (λ a. a, h)
+imports_apart is (Needed ns ∷ ts) h = (λ a. a, h)
+imports_apart is (RuntimePath ns ∷ ts) h = (λ a. a, h)
 
 one_apart : (s : Subsection) (ts : List Subsection) → AreApart ts → AreApart (joined_before s ts)
 one_apart (ExportInfo es) ts h = exports_apart es ts h
 one_apart (ImportInfo is) ts h = imports_apart is ts h
-one_apart (MemInfo a b c d) ts h = apart_first (MemInfo a b c d) ts (λ e. omega (arith, e)) (λ e. omega (arith, e)) h
-one_apart (Needed ns) ts h = apart_first (Needed ns) ts (λ e. omega (arith, e)) (λ e. omega (arith, e)) h
-one_apart (RuntimePath ns) ts h = apart_first (RuntimePath ns) ts (λ e. omega (arith, e)) (λ e. omega (arith, e)) h
+one_apart (MemInfo a b c d) ts h = apart_first (MemInfo a b c d) ts (λ t a. a) h
+one_apart (Needed ns) ts h = apart_first (Needed ns) ts (λ t a. a) h
+one_apart (RuntimePath ns) ts h = apart_first (RuntimePath ns) ts (λ t a. a) h
 
 pub all_apart : (ss : List Subsection) → AreApart (joined ss)
 all_apart [] = tt

@@ -1,4 +1,4 @@
-//! The law over the definitions that contracts cite: a function without parameters whose contract is the law. It does nothing.
+//! The laws over the definitions that contracts cite: a function without parameters whose contract they are. It does nothing.
 
 ghost use Rattle.wast_customs.specs.Laws.{JoinedApart, JoiningKeeps};
 

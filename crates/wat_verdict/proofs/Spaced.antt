@@ -4,7 +4,7 @@ use Rattle.std.specs.Prelude.{◌&&◌, not, replicate, if◌then◌else◌}
 use Rattle.std.specs.List.{list_all}
 use Rattle.std.specs.Str.{IsUtf8}
 use Rattle.std.proofs.lemmas.Bool.{cases_Bool}
-use Rattle.std.proofs.lemmas.List.{length-append}
+use Rattle.std.proofs.lemmas.List.{append_assoc, length-append}
 use Rattle.wast_lexer.specs.declared.token.TokenKind.{TokenKind}
 use Rattle.wast_lexer.specs.declared.token.TokenKind.TheVariants as kinds
 use Rattle.wast_lexer.specs.Kinds.{IsLexeme, IsLineComment, IsBlockComment, starts, is_space, is_line_end, is_open, is_at}
@@ -110,14 +110,6 @@ spaces_length (suc n) = ap suc (spaces_length n)
 and_none : (b : Bool) → false ≡ (b && false)
 and_none true = refl
 and_none false = refl
-
-joined : (u v w : List ℕ) → u ++ (v ++ w) ≡ (u ++ v) ++ w
-joined [] v w = refl
-joined (c ∷ u) v w = ap (λ z. c ∷ z) (joined u v w)
-
-joined_tokens : (u v w : List Lexeme) → u ++ (v ++ w) ≡ (u ++ v) ++ w
-joined_tokens [] v w = refl
-joined_tokens (c ∷ u) v w = ap (λ z. c ∷ z) (joined_tokens u v w)
 
 -- KINDS
 abbrev is_white : TokenKind → Bool
@@ -285,7 +277,7 @@ spread_white opened at n y post o rest some white t =
       is_white_space = refl;
       place = refl;
       tail = t.0;
-      text = joined (replicate n 0x20) y.text (text_of post) ∙ ap (λ r. (replicate n 0x20 ++ y.text) ++ r) (sym tail_is);
+      text = sym (append_assoc (replicate n 0x20) y.text (text_of post)) ∙ ap (λ r. (replicate n 0x20 ++ y.text) ++ r) (sym tail_is);
       blank = all_append is_space (replicate n 0x20) y.text (spaces_white n) blank;
       nonempty = blank_spaces n y.text some;
       ends_run = subst (λ k. MayFollow k y.text t.0) white t.3.follow;
@@ -382,7 +374,7 @@ module _ (c : Lexeme) (is : (c.kind ≡ kinds.LineComment) ⊎ (c.kind ≡ kinds
     other = text_of (x ∷ before) ++ spaces
 
     other_is : other ≡ x.text ++ (text_of before ++ spaces)
-    other_is = sym (joined x.text (text_of before) spaces)
+    other_is = append_assoc x.text (text_of before) spaces
 
     first_of : (p : ℕ → Bool) → starts p other ≡ starts p text
     first_of p = ap (starts p) other_is ∙ starts_front p x.text (text_of before ++ spaces) t.3.nonempty ∙ sym (ap (starts p) t.2 ∙ starts_front p x.text t.0 t.3.nonempty)
@@ -409,7 +401,7 @@ module _ (c : Lexeme) (is : (c.kind ≡ kinds.LineComment) ⊎ (c.kind ≡ kinds
         let a = r.alone none in
         let blank : list_all is_space x.text ≡ true = subst (λ k. IsLexeme false k x.text) white t.3.lexeme in
         let w : Lexeme = record { kind = kinds.Whitespace; text = x.text ++ r.white.text; place = from } in
-        let text_is = other_is ∙ ap (λ z. x.text ++ z) a.2 ∙ joined x.text r.white.text a.0 in
+        let text_is = other_is ∙ ap (λ z. x.text ++ z) a.2 ∙ sym (append_assoc x.text r.white.text a.0) in
         let blank_all = all_append is_space x.text r.white.text blank a.3 in
         let some : x.text ++ r.white.text ≢ [] = (λ e. t.3.nonempty (front_nil x.text r.white.text e)) in
         let far : from + length (x.text ++ r.white.text) ≡ (from + length x.text) + length r.white.text = (let l = length-append x.text r.white.text in omega (arith, l)) in
@@ -469,7 +461,7 @@ module _ (names : List (List ℕ)) (c w : Lexeme) (pre behind post : List Lexeme
   same_around : (run : List Lexeme) → AreTrivia run → significant names false (pre ++ (run ++ (c ∷ (behind ++ post)))) ≡ significant names false (pre ++ (w ∷ post))
   same_around [] r = same_shown names false 0 pre c w behind [] post (comment, h) (white, tt)
   same_around (x ∷ run) r =
-      ap (λ ls. significant names false (pre ++ (x ∷ ls))) (joined_tokens run (c ∷ behind) post)
+      ap (λ ls. significant names false (pre ++ (x ∷ ls))) (sym (append_assoc run (c ∷ behind) post))
       ∙ same_shown names false 0 pre x w (run ++ (c ∷ behind)) [] post (r.0, all_trivia run r.1) (white, tt)
     where
       all_trivia : (run : List Lexeme) → AreTrivia run → AreTrivia (run ++ (c ∷ behind))
@@ -494,7 +486,7 @@ both names text copy s =
       tiles_there = subst (λ z. Tiles false false 0 z (r.pre ++ r.white ∷ r.post)) (sym s.spaced) r.tiles;
       same =
           ap (λ ls. significant names false (ls ++ s.comment ∷ s.after)) r.split
-          ∙ ap (significant names false) (sym (joined_tokens r.pre r.run (s.comment ∷ s.after)))
+          ∙ ap (significant names false) (append_assoc r.pre r.run (s.comment ∷ s.after))
           ∙ ap (λ ls. significant names false (r.pre ++ (r.run ++ (s.comment ∷ ls)))) r.split_after
           ∙ same_around names s.comment r.white r.pre r.behind r.post (comment_trivia s.comment.kind s.is_comment) (white_trivia r.white.kind r.is_white_space) r.trivia_after r.run r.trivia;
     }
@@ -533,22 +525,22 @@ module _ (text other : List ℕ) (short : length other < 2 ^ 32) (utf8 : IsUtf8 
 -- THE COMMENT of a text: what stands before it and behind it, and that it is one
 record Parted (text : List ℕ) (before : List Lexeme) (comment : Lexeme) (after : List Lexeme) : Type 0 where
   whole : text ≡ text_of before ++ (comment.text ++ text_of after)
-  lexeme : IsLexeme false comment.kind comment.text
-  follow : MayFollow comment.kind comment.text (text_of after)
+  opened : Bool
+  begins : Begins false opened comment.kind comment.text (text_of after)
 
 parted : (opened : Bool) (from : ℕ) (text : List ℕ) (before : List Lexeme) (comment : Lexeme) (after : List Lexeme) → Tiles false opened from text (before ++ comment ∷ after) → Parted text before comment after
 parted opened from text [] comment after t =
     let rest = tiled_text (ends is_open comment.text) (from + length comment.text) t.0 after t.4 in
-    record { whole = t.2 ∙ ap (λ r. comment.text ++ r) rest; lexeme = t.3.lexeme; follow = subst (MayFollow comment.kind comment.text) rest t.3.follow }
+    record { whole = t.2 ∙ ap (λ r. comment.text ++ r) rest; opened = opened; begins = subst (Begins false opened comment.kind comment.text) rest t.3 }
 parted opened from text (l ∷ before) comment after t =
     let p = parted (ends is_open l.text) (from + length l.text) t.0 before comment after t.4 in
-    record { whole = t.2 ∙ ap (λ r. l.text ++ r) p.whole ∙ joined l.text (text_of before) (comment.text ++ text_of after); lexeme = p.lexeme; follow = p.follow }
+    record { whole = t.2 ∙ ap (λ r. l.text ++ r) p.whole ∙ sym (append_assoc l.text (text_of before) (comment.text ++ text_of after)); opened = p.opened; begins = p.begins }
 
 pub comments_aside : CommentsAside
 comments_aside text other short utf8 s =
     let p = parted false 0 text s.before s.comment s.after s.tiled in
     let shorter : length other < 2 ^ 32 = subst (λ n. n < 2 ^ 32) (ap length p.whole ∙ sym (ap length s.spaced ∙ spaced_long (text_of s.before) s.comment.text (text_of s.after))) short in
-    let utf8_too : IsUtf8 other = subst IsUtf8 (sym s.spaced) (spaced_utf8 (text_of s.before) s.comment.text (text_of s.after) s.comment.kind s.is_comment p.lexeme p.follow (subst IsUtf8 p.whole utf8)) in
+    let utf8_too : IsUtf8 other = subst IsUtf8 (sym s.spaced) (spaced_utf8 p.opened s.comment.kind (text_of s.before) s.comment.text (text_of s.after) s.is_comment p.begins (subst IsUtf8 p.whole utf8)) in
     let b = both registered text other s in
     let forth : (t : Module Name ℕ) → Spells text t → Spells other t = (λ t h. record { tokens = h.tokens; significant = one_way registered text other b.here b.there b.tiles_here b.tiles_there b.same h.tokens h.significant; spelled = h.spelled }) in
     let back : (t : Module Name ℕ) → Spells other t → Spells text t = (λ t h. record { tokens = h.tokens; significant = one_way registered other text b.there b.here b.tiles_there b.tiles_here (sym b.same) h.tokens h.significant; spelled = h.spelled }) in
