@@ -3,6 +3,7 @@ use Rattle.std.proofs.Common.{◌≡◌, ℕ, Bool, true, false, ◌||◌, List,
 use Rattle.std.specs.Global.{Vec}
 use Rattle.std.specs.List.{flat_map, list_any}
 use Rattle.std.proofs.lemmas.List.Concat.{flat_map-append}
+use Rattle.wast_binary.proofs.Left.{any_append}
 use Rattle.wasm_encoder_base.specs.Leb.{uleb, leb, digits}
 use Rattle.wasm_encoder_base.specs.Table.{table, entries_of, same_text}
 use Rattle.wasm_encoder_opcodes.specs.Compare.{compare_mnemonic}
@@ -170,14 +171,6 @@ body_is [] = refl
 body_is (i ∷ is) = λ k. instruction_is i k || body_is is k
 
 -- all fields
-any_joined : {A : Type 0} (p : A → Bool) (xs ys : List A) → list_any p (xs ++ ys) ≡ (list_any p xs || list_any p ys)
-any_joined p [] ys = refl
-any_joined p (x ∷ xs) ys = ap (λ b. p x || b) (any_joined p xs ys) ∙ or_assoc (p x) (list_any p xs) (list_any p ys)
-  where
-    or_assoc : (a b c : Bool) → (a || (b || c)) ≡ ((a || b) || c)
-    or_assoc true b c = refl
-    or_assoc false b c = refl
-
 module _ {N P : Type 0} where
   apart : (fs : List (Field N P)) → flat_map functions_of (flat_map defined_in fs) ≡ flat_map (λ f. flat_map functions_of (defined_in f)) fs
   apart [] = refl
@@ -185,7 +178,7 @@ module _ {N P : Type 0} where
 
   any_apart : (fs : List (Field N P)) → list_any says_data (flat_map (λ f. flat_map functions_of (defined_in f)) fs) ≡ list_any field_says_data fs
   any_apart [] = refl
-  any_apart (f ∷ fs) = any_joined says_data (flat_map functions_of (defined_in f)) (flat_map (λ f. flat_map functions_of (defined_in f)) fs) ∙ ap (λ b. field_says_data f || b) (any_apart fs)
+  any_apart (f ∷ fs) = any_append says_data (flat_map functions_of (defined_in f)) (flat_map (λ f. flat_map functions_of (defined_in f)) fs) ∙ ap (λ b. field_says_data f || b) (any_apart fs)
 
   pub fields_say : (fs : List (Field N P)) → list_any field_says_data fs ≡ list_any says_data (flat_map functions_of (flat_map defined_in fs))
   fields_say fs = sym (ap (list_any says_data) (apart fs) ∙ any_apart fs)

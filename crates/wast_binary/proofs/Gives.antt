@@ -37,7 +37,7 @@ none_passes : {A : Type 0} (test : A → Bool) (xs : List A) → has_any xs ≡ 
 none_passes test [] e = refl
 none_passes test (x ∷ xs) e = not_so e
 
-neither : (a b : Bool) → (a || b) ≡ false → (a ≡ false) × (b ≡ false)
+pub neither : (a b : Bool) → (a || b) ≡ false → (a ≡ false) × (b ≡ false)
 neither true b e = not_so e
 neither false b e = (refl, e)
 

@@ -1,7 +1,7 @@
 -- Whether an element passes a test, by those that are left.
 use Rattle.std.proofs.Common.{◌≡◌, ℕ, ◌+◌, ◌<◌, ◌≤◌, Bool, true, false, ◌||◌, List, [], ◌∷◌, ◌++◌, map, length, drop, get_or, refl, sym, ap, ◌∙◌}
 use Rattle.std.specs.List.{flat_map, list_any}
-use Rattle.std.proofs.lemmas.List.{drop_more, drop_all}
+use Rattle.std.proofs.lemmas.List.{drop_more, drop_all, map-append}
 use Rattle.wasm_encoder_base.specs.Table.{same_text}
 use Rattle.wasm_encoder_custom.specs.Custom.{Custom}
 use Rattle.wast_module_fields.specs.ModuleFieldViews.{field_tree}
@@ -39,13 +39,9 @@ or_false : (b : Bool) → (b || false) ≡ b
 or_false true = refl
 or_false false = refl
 
-any_both : {A : Type 0} (p : A → Bool) (xs ys : List A) → list_any p (xs ++ ys) ≡ (list_any p xs || list_any p ys)
-any_both p [] ys = refl
-any_both p (x ∷ xs) ys = ap (λ b. p x || b) (any_both p xs ys) ∙ or_assoc (p x) (list_any p xs) (list_any p ys)
-
-map_both : {A B : Type 0} (f : A → B) (xs ys : List A) → map f (xs ++ ys) ≡ map f xs ++ map f ys
-map_both f [] ys = refl
-map_both f (x ∷ xs) ys = ap (λ v. f x ∷ v) (map_both f xs ys)
+pub any_append : {A : Type 0} (p : A → Bool) (xs ys : List A) → list_any p (xs ++ ys) ≡ (list_any p xs || list_any p ys)
+any_append p [] ys = refl
+any_append p (x ∷ xs) ys = ap (λ b. p x || b) (any_append p xs ys) ∙ or_assoc (p x) (list_any p xs) (list_any p ys)
 
 abbrev pub takes : List ℕ → ModuleField → Bool
 takes name f = is_called name (map custom_of (customs_in (field_tree f)) ∷ [])
@@ -57,5 +53,5 @@ any_takes name (f ∷ fs) =
     let own = map custom_of (customs_in (field_tree f)) in
     let rest = map custom_of (flat_map customs_in (map field_tree fs)) in
     (λ i. or_false (list_any p own) i || (any_takes name fs ∙ or_false (list_any p rest)) i)
-    ∙ sym (any_both p own rest) ∙ ap (list_any p) (sym (map_both custom_of (customs_in (field_tree f)) (flat_map customs_in (map field_tree fs))))
+    ∙ sym (any_append p own rest) ∙ ap (list_any p) (sym (map-append custom_of (customs_in (field_tree f)) (flat_map customs_in (map field_tree fs))))
     ∙ sym (or_false (list_any p (map custom_of (customs_in (field_tree f) ++ flat_map customs_in (map field_tree fs)))))

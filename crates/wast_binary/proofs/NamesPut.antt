@@ -18,6 +18,7 @@ use Rattle.wasm_layout.specs.Present.MapKind.{OfModule}
 use Rattle.wast_name_maps.specs.Fits.{NamesFit}
 use Rattle.wast_name_maps.specs.Maps.{section_data}
 use Rattle.wast_binary.specs.Puts.{unless, FitsUnless, PutsNames}
+use Rattle.wast_binary.proofs.Gives.{neither}
 
 some_if : (b : Bool) (x y : List ℕ) → Some x ≡ (if b then Some y else None) → (b ≡ true) × (x ≡ y)
 some_if true x y e = (refl, same e)
@@ -31,10 +32,6 @@ none_if true y e = cc
 none_if false y e = refl
 
 -- no maps, no bytes
-none_left : (a b : Bool) → (a || b) ≡ false → (a ≡ false) × (b ≡ false)
-none_left true b e = absurd (false≢true (sym e))
-none_left false b e = (refl, e)
-
 module _ (names : NameMaps (List ℕ)) where
   kind_none : (k : MapKind) → has_map names k ≡ false → subsection_of names k ≡ []
   kind_none OfModule e = of names.module_name e
@@ -48,7 +45,7 @@ module _ (names : NameMaps (List ℕ)) where
   kinds_none : (ks : List MapKind) → list_any (has_map names) ks ≡ false → flat_map (subsection_of names) ks ≡ []
   kinds_none [] e = refl
   kinds_none (k ∷ ks) e =
-      let both = none_left (has_map names k) (list_any (has_map names) ks) e in
+      let both = neither (has_map names k) (list_any (has_map names) ks) e in
       λ i. kind_none k both.0 i ++ kinds_none ks both.1 i
 
   no_bytes : has_names names ≡ false → name_bytes names ≡ []

@@ -25,6 +25,7 @@ use Rattle.wast_expressions.specs.Items.{Hint}
 use Rattle.wast_module_fields.specs.FieldTree.{Function, Field}
 use Rattle.wast_meant.specs.FieldsMeant.{function_of}
 use Rattle.wast_meant.specs.NamesMeant.{bodies_in, function_hints, hints_from}
+use Rattle.wast_meant.proofs.Renamed.{any_of_map}
 use Rattle.wast_custom_sections.specs.Parts.{PiecesFit}
 use Rattle.wast_custom_sections.specs.Hints.{PlacesFit, FunctionFits, function_in, hints_in, hint_list, hint_section, hint_pieces, HintsFit}
 use Rattle.wast_custom_sections.specs.Hinted.{Hinted, HintedFits, placed, placed_at, hinted_bytes, with_hints, hinted, hinted_from}
@@ -34,10 +35,6 @@ hint_shown h = record { index = h.index; value = h.value }
 
 abbrev shown : Hinted → abstract.FunctionHints
 shown h = record { function = h.number; hints = map hint_shown h.hints }
-
-any_map : {A B : Type 0} (f : A → B) (xs : List A) → has_any (map f xs) ≡ has_any xs
-any_map f [] = refl
-any_map f (x ∷ xs) = refl
 
 if_all : {A : Type 0} (P : A → Type 0) (b : Bool) (x : A) → P x → All P (if_there b x)
 if_all P true x h = All-cons P x [] h (All-nil P)
@@ -119,7 +116,7 @@ module _ {N P : Type 0} (fs : List (Field N P)) where
   all_shown = are_shown 0 (flat_map bodies_in fs)
 
   any_is : has_any (hints_in fs) ≡ has_any all_hinted
-  any_is = ap has_any all_shown ∙ any_map shown all_hinted
+  any_is = ap has_any all_shown ∙ any_of_map shown all_hinted
 
   list_is : hint_list fs ≡ listed hinted_bytes all_hinted
   list_is =

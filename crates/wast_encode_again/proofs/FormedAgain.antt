@@ -10,18 +10,19 @@ use Rattle.wast_names.specs.Demand.{is_met}
 use Rattle.wast_field_syntax.specs.FieldTree.{Defined, Imported, Func, Table, TableOf, Memory, MemoryOf, Global, Tag, Field, TypeField, RecField, ImportField, Define, ExportField, StartField, ElemField, DataField, CustomField, is_start, field_place}
 use Rattle.wast_meaning.specs.Demands.{order_demands, item_demands, field_demands, demands, all_demands}
 use Rattle.wast_meaning.specs.Mentions.{parts}
-use Rattle.wast_meaning.specs.Numbered.{expanded, resolved}
+use Rattle.wast_meaning.specs.Numbered.{resolved}
 use Rattle.wast_meaning.specs.Scope.{Scope, scope_of}
 use Rattle.wast_meaning.specs.Spaces.{items}
 use Rattle.wast_meaning.specs.WellFormed.{part_formed, pages_formed, page_formed, field_formed, breach, breaches}
-use Rattle.wast_meaning.specs.Written.{has_any, written_out}
+use Rattle.wast_meaning.specs.Written.{has_any}
 use Rattle.wast_meaning.proofs.Settled.{left, right, front, back}
-use Rattle.wast_resolve_laws.proofs.Plain.{stands_alone, is_plain, written_plain, plain_stays, expanded_plain, numbered_plain}
+use Rattle.wast_resolve_laws.proofs.Plain.{stands_alone, is_plain, plain_stays}
 use Rattle.wast_resolve_laws.proofs.Resolved.{resolved_met}
 use Rattle.wast_resolve_laws.proofs.Unmet.{all_met, all_bound}
 use Rattle.wast_meant.specs.FieldsMeant.{starts_of}
 use Rattle.wast_encode_laws.specs.Formed.{FieldFormed}
 use Rattle.wast_encode_laws.proofs.Formed.{formed}
+use Rattle.wast_encode_laws.proofs.Ready.{resolved_plain}
 use Rattle.wast_encode_laws.proofs.Starts.{one_start}
 use Rattle.wast_encode_again.proofs.Tested.{all_tested, field_tested}
 
@@ -105,12 +106,9 @@ module _ {N P : Type 0} where
 
 -- RESOLVED FIELDS
 module _ {N P : Type 0} (eq : N → N → Bool) (self : (n : N) → eq n n ≡ true) (sound : (m n : N) → eq m n ≡ true → m ≡ n) (is_made : N → Bool) (naming : ℕ → N) (fs : List (Field N P)) where
-  resolved_plain : list_all is_plain (resolved eq naming fs) ≡ true
-  resolved_plain = numbered_plain eq (expanded eq (written_out naming fs)) (expanded_plain eq (written_out naming fs) (written_plain naming 0 fs))
-
   own_demands : first_unmet is_met (all_demands eq naming fs) ≡ None → first_unmet is_met (demands eq (resolved eq naming fs)) ≡ None
   own_demands met =
-      ap (λ rs. first_unmet is_met (demands eq rs)) (sym (plain_stays naming (resolved eq naming fs) resolved_plain))
+      ap (λ rs. first_unmet is_met (demands eq rs)) (sym (plain_stays naming (resolved eq naming fs) (resolved_plain eq naming fs)))
       ∙ resolved_met eq self sound naming fs met naming
 
   pub formed_again : first_unmet is_met (all_demands eq naming fs) ≡ None → breaches eq is_made fs ≡ [] → breaches eq is_made (resolved eq naming fs) ≡ []
@@ -118,5 +116,5 @@ module _ {N P : Type 0} (eq : N → N → Bool) (self : (n : N) → eq n n ≡ t
       let rs = resolved eq naming fs in
       let all = all_met (demands eq rs) (own_demands met) in
       none_told eq is_made (scope_of eq rs) false rs
-      (all_tested parts_formed FieldFormed field_tested rs (formed eq is_made naming fs none)) resolved_plain
+      (all_tested parts_formed FieldFormed field_tested rs (formed eq is_made naming fs none)) (resolved_plain eq naming fs)
       (back is_met (order_demands rs ++ item_demands eq (flat_map items rs)) (flat_map (field_demands eq (scope_of eq rs)) rs) all) (one_start eq is_made naming fs none)

@@ -16,6 +16,7 @@ use Rattle.wast_core_instr.specs.InstructionTree as instr
 use Rattle.wast_module_fields.specs.FieldTree.{Expr, Function}
 use Rattle.wast_meaning.specs.Mentions.{Mention, Refers, Repeats, UsesInBlock, Part, Constant, Body, says, refers_if, heap_mentions, ref_mentions, val_mentions, storage_mentions, local_mentions, inner_mentions, type_mentions, second_space, second_mention, first_space, catch_mentions, handle_mentions, mem_arg_mentions, target_mention, operand_mentions, expr_mentions, part_mentions}
 use Rattle.wast_meaning.specs.Implied.{sig_of_use, sig_of_mention}
+use Rattle.wast_meaning.proofs.SettledFields.{said_parts}
 
 module _ {N P : Type 0} where
   abbrev pub used : List (Mention N P) → List (Sig N P)
@@ -134,15 +135,11 @@ module _ {N P : Type 0} where
   quiet_operands o x h = refl
 
   -- PARTS
-  pub said : (ms : List (Mention N P)) → flat_map part_mentions (says ms) ≡ ms
-  said [] = refl
-  said (m ∷ ms) = ap (λ rest. m ∷ rest) (said ms)
-
   pub said_before : (ms : List (Mention N P)) (ps : List (Part N P)) → flat_map part_mentions (says ms ++ ps) ≡ ms ++ flat_map part_mentions ps
-  said_before ms ps = flat_map-append part_mentions (says ms) ps ∙ ap (λ ns. ns ++ flat_map part_mentions ps) (said ms)
+  said_before ms ps = flat_map-append part_mentions (says ms) ps ∙ ap (λ ns. ns ++ flat_map part_mentions ps) (said_parts ms)
 
   pub quiet_said : (ms : List (Mention N P)) → used ms ≡ [] → used (flat_map part_mentions (says ms)) ≡ []
-  quiet_said ms h = ap used (said ms) ∙ h
+  quiet_said ms h = ap used (said_parts ms) ∙ h
 
   -- what is quiet before parts
   pub quiet_before : (ms : List (Mention N P)) (ps : List (Part N P)) → used ms ≡ [] → used (flat_map part_mentions (says ms ++ ps)) ≡ used (flat_map part_mentions ps)
@@ -155,7 +152,3 @@ module _ {N P : Type 0} where
   used_body f =
       ap used (append-nil (part_mentions (Body f)))
       ∙ ap (λ ss. sig_of_use f.type_use ++ ss) (quiet_both (local_mentions f.locals) (expr_mentions f.body) (quiet_locals f.locals))
-
-  pub constants : (es : List (Expr N P)) → flat_map part_mentions (map Constant es) ≡ flat_map expr_mentions es
-  constants [] = refl
-  constants (e ∷ es) = ap (λ ms. expr_mentions e ++ ms) (constants es)

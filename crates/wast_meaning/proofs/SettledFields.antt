@@ -30,7 +30,7 @@ module _ {N P : Type 0} where
   said_parts [] = refl
   said_parts (m ∷ ms) = ap (λ v. m ∷ v) (said_parts ms)
 
-  constant_parts : (es : List (Expr N P)) → flat_map part_mentions (map Constant es) ≡ flat_map expr_mentions es
+  pub constant_parts : (es : List (Expr N P)) → flat_map part_mentions (map Constant es) ≡ flat_map expr_mentions es
   constant_parts [] = refl
   constant_parts (e ∷ es) = ap (λ v. expr_mentions e ++ v) (constant_parts es)
 

@@ -1,6 +1,7 @@
 -- A module with other names is one.
-use Rattle.std.proofs.Common.{suc, ◌≡◌, ◌<◌, ◌+◌, ◌&&◌, not, is_some, List, [], ◌∷◌, map, length, filter, codes, refl, sym, ap, ◌∙◌, subst}
+use Rattle.std.proofs.Common.{◌≡◌, ◌<◌, ◌+◌, ◌&&◌, not, is_some, List, [], ◌∷◌, map, length, filter, codes, refl, sym, ap, ◌∙◌, subst}
 use Rattle.std.specs.List.{AllByRecursion, list_any}
+use Rattle.std.proofs.lemmas.List.{length-map}
 use Rattle.wasm_layout.specs.Section.{SectionKind, Types, Imports, Functions, Tables, Memories, Tags, Globals, Exports, Starts, Elements, DataCount, Hints, Codes, Datas, Names, order}
 use Rattle.wasm_layout.specs.AbstractModule.{Naming, InnerNaming, NameMaps, FunctionHints, AbstractModule}
 use Rattle.wasm_layout.specs.Present.{has_any, MapKind, OfModule, OfItems, Inner, map_order, has_map, is_called, is_present}
@@ -8,13 +9,9 @@ use Rattle.wasm_layout.specs.IsModule.{Rise, IsMap, IsInner, AreInner, AreNames,
 use Rattle.wast_parser_core.proofs.WordSets.{some_map}
 use Rattle.wast_meant.specs.Binary.{naming_with, inner_with, maps_with, module_with}
 
-any_of_map : {A B : Type 0} (f : A → B) (xs : List A) → has_any (map f xs) ≡ has_any xs
+pub any_of_map : {A B : Type 0} (f : A → B) (xs : List A) → has_any (map f xs) ≡ has_any xs
 any_of_map f [] = refl
 any_of_map f (x ∷ xs) = refl
-
-length_of_map : {A B : Type 0} (f : A → B) (xs : List A) → length (map f xs) ≡ length xs
-length_of_map f [] = refl
-length_of_map f (x ∷ xs) = ap suc (length_of_map f xs)
 
 module _ {A B : Type 0} (f : A → B) where
   -- the same sections are there
@@ -53,7 +50,7 @@ module _ {A B : Type 0} (f : A → B) where
 
   each_inner : (ns : List (InnerNaming A)) → AllByRecursion IsInner ns → AllByRecursion IsInner (map (inner_with f) ns)
   each_inner [] h = tt
-  each_inner (n ∷ ns) h = (record { is_some = subst (λ k. 0 < k) (sym (length_of_map (naming_with f) n.names)) h.0.is_some; is_map = map_is n.names h.0.is_map }, each_inner ns h.1)
+  each_inner (n ∷ ns) h = (record { is_some = subst (λ k. 0 < k) (sym (length-map n.names (naming_with f))) h.0.is_some; is_map = map_is n.names h.0.is_map }, each_inner ns h.1)
 
   inner_is : (ns : List (InnerNaming A)) → AreInner ns → AreInner (map (inner_with f) ns)
   inner_is ns h = record { indices = subst (Rise 0) (sym (same_inner ns)) h.indices; each = each_inner ns h.each }

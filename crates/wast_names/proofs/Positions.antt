@@ -10,7 +10,7 @@ use Rattle.wast_names.specs.Position.{bears, last_position, last_from}
 use Rattle.wast_names.specs.Space.{Space, empty, grown, grown_last, registered, last_counts, denoted, name_in, space_of}
 use Rattle.wast_names.proofs.Walk.{reached_map}
 
-or_none : {A : Type 0} (o : Option A) → o ≡ option_or o None
+pub or_none : {A : Type 0} (o : Option A) → o ≡ option_or o None
 or_none None = refl
 or_none (Some a) = refl
 

@@ -7,10 +7,7 @@ use Rattle.wast_parser.specs.Identifiers.{Named}
 use Rattle.wast_names.specs.Walk.{first_unmet}
 use Rattle.wast_names.specs.Demand.{is_met}
 use Rattle.wast_names.specs.Space.{Space, bound, grown, grown_last, registered, last_counts, is_free}
-
-or_none : {A : Type 0} (o : Option A) → o ≡ option_or o None
-or_none None = refl
-or_none (Some a) = refl
+use Rattle.wast_names.proofs.Positions.{or_none}
 
 none_is : {A : Type 0} (o : Option A) → is_none o ≡ true → o ≡ None
 none_is None h = refl

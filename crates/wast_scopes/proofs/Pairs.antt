@@ -1,10 +1,11 @@
 -- Two lists of types, one after the other.
-use Rattle.std.proofs.Common.{◌≡◌, ℕ, ◌+◌, ◌<◌, ◌≤◌, suc, List, [], ◌∷◌, Bool, true, false, Option, map, length, drop, get_or, refl, sym, ◌∙◌, ap, arith, add-one, drop-cons, nat_eq, inl, inr}
+use Rattle.std.proofs.Common.{◌≡◌, ℕ, ◌+◌, ◌<◌, ◌≤◌, List, [], ◌∷◌, Bool, true, false, Option, map, length, drop, get_or, refl, sym, ◌∙◌, ap, arith, drop-cons, nat_eq, inl, inr}
 use Rattle.std.specs.Prelude.{◌&&◌}
 use Rattle.std.specs.Cmp.Lexicographic.{pointwise}
 use Rattle.std.proofs.lemmas.Bool.{cases_lt}
 use Rattle.std.proofs.lemmas.Bool.Decides.{Decides-eqb}
 use Rattle.std.proofs.lemmas.List.{drop_all}
+use Rattle.wast_names.proofs.Walk.{rest_is}
 use Rattle.wast_parser_base.specs.Identifier.{Identifier}
 use Rattle.wast_parser_base.specs.declared.index.NameAnnotation.{NameAnnotation}
 use Rattle.wast_value_types.specs.ValueViews.{val_tree}
@@ -20,9 +21,6 @@ param_value look p = numbered_value look (param_tree p).val_type
 
 abbrev pub result_value : Look → ValType → NumberedValue
 result_value look t = numbered_value look (val_tree t)
-
-rest_is : {X : Type 0} (xs : List X) (i : ℕ) (x : X) → i < length xs → x ≡ get_or xs i x → drop i xs ≡ x ∷ drop (i + 1) xs
-rest_is xs i x h e = rw (add-one) (drop-cons xs i x h ∙ ap (λ y. y ∷ drop (suc i) xs) (sym e))
 
 map_views : {X Y Z : Type 0} (of : Y → Z) (view : X → Y) (xs : List X) → map (λ x. of (view x)) xs ≡ map of (map view xs)
 map_views of view [] = refl

@@ -22,6 +22,7 @@ use Rattle.wasm_layout.specs.IsModule.{IsHint, AreHints}
 use Rattle.wasm_layout.specs.Laws.{HintStands, bodies_bytes}
 use Rattle.wasm_layout.specs.Lays.{Lays}
 use Rattle.wasm_layout.proofs.HintPlaces as layouts
+use Rattle.wat_verdict.proofs.Unmet.{some_same}
 use Rattle.wat_laws.specs.HintPlaces.{HasHint, SectionStands, ListsHint, BodyStarts, HintPlaces, HintPlaced}
 use Rattle.wat_laws.proofs.SectionPlaces.{before_hints, behind_hints, before_codes, behind_codes, any_around, section_stands}
 
@@ -36,10 +37,7 @@ of_item_behind P (z ∷ xs) x ys h = of_item_behind P xs x ys h.1
 
 from_item : {A : Type 0} (xs : List A) (k : ℕ) (x : A) → slice_get xs k ≡ Some x → (rest : List A) × (drop k xs ≡ x ∷ rest)
 from_item [] k x e = absurd (cc)
-from_item (y ∷ ys) zero x e = (ys, ap (λ z. z ∷ ys) (inside y x e))
-  where
-    inside : {A : Type 0} (a b : A) → Some a ≡ Some b → a ≡ b
-    inside a b e = cc
+from_item (y ∷ ys) zero x e = (ys, ap (λ z. z ∷ ys) (some_same y x e))
 from_item (y ∷ ys) (suc k) x e = from_item ys k x e
 
 -- BYTES: the instructions of a body from one on, and the end, with what stands behind it

@@ -16,6 +16,8 @@ use Rattle.wast_grammar.specs.Significant.{TextToken, AreSignificant, significan
 use Rattle.wast_grammar.proofs.SignificantLaws.{significant_law}
 use Rattle.wast_field_syntax.specs.FieldTree.{Field, Fields, Module}
 use Rattle.wat_verdict.specs.Registered.{registered}
+use Rattle.wat_verdict.proofs.Alike.{mapped_of}
+use Rattle.wat_verdict.proofs.Unmet.{some_same}
 use Rattle.wat_laws.specs.Bounds.{WithinBounds}
 
 abbrev lexeme : TokenKind → List ℕ → ℕ → Lexeme
@@ -33,13 +35,6 @@ lexemes (suc n) opened from (c ∷ s) = elim (next false opened (c ∷ s)) [
 front_of : (w r : List ℕ) → front (w ++ r) r ≡ w
 front_of w r = let n : length (w ++ r) - length r ≡ length w = omega (arith, length-append w r) in rw n (take-append_seam w r)
 
-some_same : {A : Type 0} (x y : A) → Some x ≡ Some y → x ≡ y
-some_same x y e = cc
-
-mapped : {A B : Type 0} (f : A → B) (o : Option A) (y : B) → option_map f o ≡ Some y → (x : A) × (o ≡ Some x) × (f x ≡ y)
-mapped f None y e = absurd (cc)
-mapped f (Some x) y e = (x, refl, some_same (f x) y e)
-
 tiled : (n : ℕ) (opened : Bool) (from : ℕ) (text : List ℕ) (ls : List Lexeme) → lexemes n opened from text ≡ Some ls → Tiles false opened from text ls
 tiled zero opened from [] ls e = subst (Tiles false opened from []) (some_same [] ls e) refl
 tiled (suc n) opened from [] ls e = subst (Tiles false opened from []) (some_same [] ls e) refl
@@ -56,7 +51,7 @@ tiled (suc n) opened from (c ∷ s) ls e = by_case (next false opened (c ∷ s))
         let found = sound false opened (c ∷ s) k r h in
         let w = front (c ∷ s) r in
         let is : w ≡ found.0 = ap (λ t. front t r) found.1 ∙ front_of found.0 r in
-        let behind = mapped (λ ls. lexeme k w from ∷ ls) (lexemes n (ends is_open w) (from + length w) r) ls e in
+        let behind = mapped_of (λ ls. lexeme k w from ∷ ls) (lexemes n (ends is_open w) (from + length w) r) ls e in
         subst (Tiles false opened from (c ∷ s)) behind.2 (
           r,
           refl,
@@ -67,7 +62,7 @@ tiled (suc n) opened from (c ∷ s) ls e = by_case (next false opened (c ∷ s))
 
 pub text_tokens : (text : List ℕ) (ts : List TextToken) → option_map (significant registered false) (lexemes (length text) false 0 text) ≡ Some ts → is_whole ts ≡ true → AreSignificant false registered text ts
 text_tokens text ts e whole =
-    let found = mapped (significant registered false) (lexemes (length text) false 0 text) ts e in
+    let found = mapped_of (significant registered false) (lexemes (length text) false 0 text) ts e in
     (found.0, tiled (length text) false 0 text found.0 found.1, (significant_law registered found.0 ts).1 (found.2, whole))
 
 -- TEXTS within bounds

@@ -3,7 +3,7 @@ use Rattle.std.proofs.Common.{◌≡◌, ℕ, zero, suc, ◌+◌, Bool, true, fa
 use Rattle.std.specs.Prelude.{◌&&◌, if◌then◌else◌, filter, filter_map, slice_get, option_map, option_and_then, codes}
 use Rattle.std.specs.List.{flat_map, list_all, position_from}
 use Rattle.std.proofs.Math.Path.{fun_ext}
-use Rattle.std.proofs.lemmas.List.{map-append}
+use Rattle.std.proofs.lemmas.List.{length-map, map-append}
 use Rattle.std.proofs.lemmas.Option.{none-some}
 use Rattle.wasm_encoder_base.specs.Table.{Space, Labels, Locals, Functions, Types, Tables, Memories, Globals, Tags, Datas, Elems, Fields}
 use Rattle.wast_parser.specs.Identifiers.{Named, Reference, ByNumber, ByName}
@@ -33,10 +33,6 @@ use Rattle.wat_laws.specs.Written.{Places, named_at, referred_at, heap_at, table
 both_maps : {A B C : Type 0} (f : A → B) (g : B → C) (xs : List A) → map g (map f xs) ≡ map (λ x. g (f x)) xs
 both_maps f g [] = refl
 both_maps f g (x ∷ xs) = ap (λ ys. g (f x) ∷ ys) (both_maps f g xs)
-
-same_length : {A B : Type 0} (f : A → B) (xs : List A) → length (map f xs) ≡ length xs
-same_length f [] = refl
-same_length f (x ∷ xs) = ap (λ n. suc n) (same_length f xs)
 
 got : {A B : Type 0} (f : A → B) (xs : List A) (n : ℕ) → slice_get (map f xs) n ≡ option_map f (slice_get xs n)
 got f [] n = refl
@@ -209,7 +205,7 @@ module _ {N P : Type 0} where
     items_of_space s = of_space s (flat_map items fs) ∙ ap (λ zs. filter (λ z. same_space s z.0) zs) same.bounds ∙ sym (of_space s (flat_map items gs))
 
     count_same : (s : Space) → length (items_in s fs) ≡ length (items_in s gs)
-    count_same s = sym (same_length unplaced (items_in s fs)) ∙ ap length (items_of_space s) ∙ same_length unplaced (items_in s gs)
+    count_same s = sym (length-map (items_in s fs) unplaced) ∙ ap length (items_of_space s) ∙ length-map (items_in s gs) unplaced
 
     abbrev name_of : Unplaced N P → Option N
     name_of z = z.1.0

@@ -1,5 +1,5 @@
 -- Trees of which the same is told, and texts of whose tokens the same is told, are worth the same.
-use Rattle.std.proofs.Common.{◌≡◌, ℕ, false, List, Option, Some, None, is_some, refl, sym, ◌∙◌, ap, subst}
+use Rattle.std.proofs.Common.{◌≡◌, ℕ, false, List, Option, None, is_some, refl, sym, ◌∙◌, ap, subst}
 use Rattle.std.specs.Prelude.{option_map}
 use std.Path.{fun_ext}
 use Rattle.wast_grammar.specs.Tokens.{Name}
@@ -21,21 +21,10 @@ use Rattle.wat_verdict.specs.Naming.{naming, unmet_demand}
 use Rattle.wat_verdict.specs.Verdict.{tree_breach, tree_uncovered}
 use Rattle.wat_verdict.proofs.Free.{Known}
 use Rattle.wat_verdict.proofs.Told.{name_shown, content_worth, summary, told, told_spelled, spelled_told}
-use Rattle.wat_verdict.proofs.Alike.{known_by}
+use Rattle.wat_verdict.proofs.Alike.{known_by, mapped_none, none_of}
 use Rattle.wat_verdict.proofs.Verdict.{IsSound, worth_in, tree_worth, worth_tree, worth_of}
 
 -- OPTIONS
-mapped_none : {A B : Type 0} (f : A → B) (o : Option A) → option_map f o ≡ None → o ≡ None
-mapped_none f None e = refl
-mapped_none f (Some x) e = absurd (cc)
-
-some_none : {A : Type 0} (o : Option A) → is_some o ≡ false → o ≡ None
-some_none None e = refl
-some_none (Some x) e = absurd (cc)
-
-pub some_same : {A : Type 0} (x y : A) → Some x ≡ Some y → x ≡ y
-some_same x y e = cc
-
 -- where both map to the same, one is none where the other is
 pub none_both : {A C B : Type 0} (f : A → B) (g : C → B) (o : Option A) (u : Option C) → option_map f o ≡ option_map g u → u ≡ None → o ≡ None
 none_both f g o u e h = mapped_none f o (e ∙ ap (option_map g) h)
@@ -58,7 +47,7 @@ module _ (t u : Module Name ℕ) (same : summary shown u ≡ summary shown t) wh
 
   pub sound_same : IsSound t → IsSound u
   sound_same s = record {
-    formed = some_none (tree_breach u) (ap (λ s. s.breached) same ∙ ap is_some s.formed);
+    formed = none_of (tree_breach u) (ap (λ s. s.breached) same ∙ ap is_some s.formed);
     met = none_both _ _ (unmet_demand u) (unmet_demand t) (ap (λ s. s.complaint) same) s.met;
     covered = none_both _ _ (tree_uncovered u) (tree_uncovered t) (ap (λ s. s.form) same) s.covered;
   }

@@ -17,11 +17,9 @@ use Rattle.wast_meant.specs.Means.{Means, Stands, Pieces}
 use Rattle.wast_meant_laws.proofs.Unnamed.{pieces_left}
 use Rattle.wat_verdict.specs.Spells.{Spells}
 use Rattle.wat_verdict.specs.Naming.{naming}
+use Rattle.wat_verdict.proofs.Alike.{same_module}
 use Rattle.wat_verdict.proofs.Verdict.{worth_in, worth_tree}
 use Rattle.wat_laws.specs.Unnamed.{LaidBare, WithoutNames}
-
-same_module : (m n : AbstractModule (List ℕ)) → Stands m ≡ Stands n → m ≡ n
-same_module m n e = cc
 
 no_pieces : {Z : Type 0} (m : AbstractModule (List ℕ)) (bytes : List ℕ) → Stands m ≡ Pieces bytes → Z
 no_pieces m bytes e = absurd (cc)

@@ -24,18 +24,11 @@ use Rattle.wast_meaning.specs.Scope.{Scope, scope_of}
 use Rattle.wast_meaning.specs.Demands.{field_demands}
 use Rattle.wast_meaning.specs.WellFormed.{part_formed, page_formed, pages_formed, are_bound, field_formed, breach, breaches}
 use Rattle.wast_meaning.proofs.Settled.{left, right, two, front, back}
+use Rattle.wast_conversions.proofs.Empty.{front as nil_front, back as nil_back}
 use Rattle.wast_resolve_laws.proofs.Outlined.{OwnQuiet, parts_out}
 use Rattle.wast_resolve_laws.proofs.Unmet.{all_bound}
 use Rattle.wat_laws.specs.Written.{Places, heap_at, elem_mode_at, data_mode_at, placed, as_they_were, all_placed}
 use Rattle.wat_laws.proofs.PlacedFields.{by_defined, by_field, same_each, import_at}
-
-nil_front : {A : Type 0} (xs ys : List A) → xs ++ ys ≡ [] → xs ≡ []
-nil_front [] ys e = refl
-nil_front (x ∷ xs) ys e = absurd (cc)
-
-nil_back : {A : Type 0} (xs ys : List A) → xs ++ ys ≡ [] → ys ≡ []
-nil_back [] ys e = e
-nil_back (x ∷ xs) ys e = absurd (cc)
 
 -- PARTS that aren't well formed
 module _ {N P : Type 0} where

@@ -31,7 +31,7 @@ use Rattle.wast_conversions.specs.Covered.{Form}
 use Rattle.wast_meant.specs.Binary.{bytes_of, module_with, in_bytes}
 use Rattle.wast_meant.specs.Covered.{first_form, uncovered}
 use Rattle.wast_meant.specs.Meaning.{meant}
-use Rattle.wast_meant.specs.Means.{Worth, Stands, IsWorth}
+use Rattle.wast_meant.specs.Means.{Worth, IsWorth}
 use Rattle.wast_meant.specs.NamesMeant.{GivenName, given_name}
 use Rattle.wast_meant_laws.proofs.Bare.{bare_with, names_apart}
 use Rattle.wat_verdict.specs.Registered.{registered}
@@ -42,14 +42,15 @@ use Rattle.wat_verdict.specs.Alike.{SameBare}
 use Rattle.wat_verdict.proofs.Free.{Known, Kept, free}
 use Rattle.wat_verdict.proofs.Placed.{AreRead, text_read}
 use Rattle.wat_verdict.proofs.Told.{name_shown, content_worth, summary, told, told_spelled, spelled_told}
-use Rattle.wat_verdict.proofs.Alike.{known_by}
+use Rattle.wat_verdict.proofs.Alike.{known_by, same_module}
 use Rattle.wat_verdict.proofs.OneSpelling.{one_spelling}
+use Rattle.wat_verdict.proofs.Unmet.{some_same}
 use Rattle.wat_verdict.proofs.Verdict.{IsSound, worth_in, tree_worth, worth_tree, worth_of}
 use Rattle.wat_laws.specs.Bounds.{WithinBounds}
 use Rattle.wat_laws.specs.Written.{Places, placed, as_they_were, all_placed, WrittenTokens, WrittenTexts, MeanAlike, WrittenOut}
 use Rattle.wat_laws.proofs.PlacedFields.{by_defined, by_field, none_too, demands_same, covered_too, covered_back}
 use Rattle.wat_laws.proofs.PlacedMeaning.{resolved_placed, bare_same}
-use Rattle.wat_laws.proofs.SameWorth.{some_same, none_both, shown, same_worth, sound_same}
+use Rattle.wat_laws.proofs.SameWorth.{none_both, shown, same_worth, sound_same}
 use Rattle.wat_laws.proofs.WrittenFormed.{unformed, written_unformed, placed_unformed, no_breach_formed, formed_no_breach, spelled_fields}
 use Rattle.wat_laws.proofs.WrittenNames.{other_made, Renames, renames, written_so}
 
@@ -77,9 +78,6 @@ module _ {N P : Type 0} where
 -- NAMES THAT ARE SHOWN make no difference to a module without names
 shown_bare : (f : GivenName Name → List ℕ) (m : AbstractModule (GivenName Name)) → bare (in_bytes m) ≡ bare (module_with f m)
 shown_bare f m = bare_with bytes_of m ∙ sym (bare_with f m)
-
-same_module : (m n : AbstractModule (List ℕ)) → Stands m ≡ Stands n → m ≡ n
-same_module m n e = cc
 
 -- the same is told of tokens at other places
 abbrev at_places : Iso ℕ ℕ → List TextToken → List TextToken

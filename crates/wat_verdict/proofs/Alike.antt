@@ -39,7 +39,7 @@ use Rattle.wat_verdict.specs.Alike.{AlikeTexts, complaint_shown, SameCondition, 
 use Rattle.wat_verdict.proofs.Free.{Known, Kept, free}
 use Rattle.wat_verdict.proofs.Placed.{IsRead, AreRead, text_rises, both_rise, text_read}
 use Rattle.wat_verdict.proofs.Told.{name_shown, content_worth, content_plain, summary, told, told_spelled, spelled_told}
-use Rattle.wat_verdict.proofs.Unmet.{unmet_so}
+use Rattle.wat_verdict.proofs.Unmet.{some_same, unmet_so}
 use Rattle.wat_verdict.proofs.Verdict.{IsSound, worth_in, tree_worth, worth_tree, worth_of}
 
 -- PERMUTATIONS OF NAMES that leave those that are made up
@@ -159,18 +159,15 @@ is_of : {A : Type 0} (o : Option A) → is_some o ≡ true → (x : A) × (o ≡
 is_of None e = absurd (cc)
 is_of (Some x) e = (x, refl)
 
-none_of : {A : Type 0} (o : Option A) → is_some o ≡ false → o ≡ None
+pub none_of : {A : Type 0} (o : Option A) → is_some o ≡ false → o ≡ None
 none_of None e = refl
 none_of (Some x) e = absurd (cc)
 
-mapped_of : {A B : Type 0} (f : A → B) (o : Option A) (y : B) → option_map f o ≡ Some y → (x : A) × (o ≡ Some x) × (f x ≡ y)
+pub mapped_of : {A B : Type 0} (f : A → B) (o : Option A) (y : B) → option_map f o ≡ Some y → (x : A) × (o ≡ Some x) × (f x ≡ y)
 mapped_of f None y e = absurd (cc)
-mapped_of f (Some x) y e = (x, refl, inside (f x) y e)
-  where
-    inside : {B : Type 0} (a b : B) → Some a ≡ Some b → a ≡ b
-    inside a b e = cc
+mapped_of f (Some x) y e = (x, refl, some_same (f x) y e)
 
-mapped_none : {A B : Type 0} (f : A → B) (o : Option A) → option_map f o ≡ None → o ≡ None
+pub mapped_none : {A B : Type 0} (f : A → B) (o : Option A) → option_map f o ≡ None → o ≡ None
 mapped_none f None e = refl
 mapped_none f (Some x) e = absurd (cc)
 
@@ -260,7 +257,7 @@ worth_shown name (fields.Pieces pieces) = refl
 bare_shown : {A B : Type 0} (f g : A → B) (m : AbstractModule A) → bare (module_with f m) ≡ bare (module_with g m)
 bare_shown f g m = ap (λ b. record (module_with f m) { names = no_names; customs = if b then last_joined m.customs else m.customs }) (same_sections f m Names ∙ sym (same_sections g m Names))
 
-same_module : (m n : AbstractModule (List ℕ)) → Stands m ≡ Stands n → m ≡ n
+pub same_module : (m n : AbstractModule (List ℕ)) → Stands m ≡ Stands n → m ≡ n
 same_module m n e = cc
 
 same_pieces : (a b : List ℕ) → Pieces a ≡ Pieces b → a ≡ b

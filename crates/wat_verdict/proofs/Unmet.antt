@@ -16,7 +16,7 @@ use Rattle.wat_verdict.specs.Verdict.{unmet_at}
 abbrev held : Demand Name ℕ → Bool → Demand Name ℕ
 held d holds = record { place = d.place; complaint = d.complaint; holds = holds }
 
-some_same : (x y : Demand Name ℕ) → Some x ≡ Some y → x ≡ y
+pub some_same : {A : Type 0} (x y : A) → Some x ≡ Some y → x ≡ y
 some_same x y e = cc
 
 first_fails : (x : Demand Name ℕ) (b : Bool) (rest : Option (Demand Name ℕ)) (d : Demand Name ℕ) → x.holds ≡ b → (if b then rest else Some x) ≡ Some d

@@ -29,10 +29,7 @@ use Rattle.wat_verdict.specs.Naming.{naming, unmet_demand}
 use Rattle.wat_verdict.specs.Verdict.{Condition, TooLong, NotUtf8, Misspelled, NotWellFormed, Unmet, Uncovered, unmet_at, tree_breach, tree_uncovered, Fails, Accepts}
 use Rattle.wat_verdict.specs.Laws.{OneMeaning, OneVerdict}
 use Rattle.wat_verdict.proofs.OneSpelling.{one_spelling}
-use Rattle.wat_verdict.proofs.Unmet.{unmet_so}
-
-some_same : {A : Type 0} (x y : A) → Some x ≡ Some y → x ≡ y
-some_same x y e = cc
+use Rattle.wat_verdict.proofs.Unmet.{some_same, unmet_so}
 
 pub one_meaning : OneMeaning
 one_meaning = trees.one_module Spells one_spelling
