@@ -21,8 +21,8 @@ use wast_parser::{Id, NameAnnotation};
 /// The binary of the module of resolved fields. Refused as too large only where a count or a length of it is past 4294967295, and else only for
 /// want of memory.
 ///
-/// Where the numbers of what is in the fields might pass 32 bits, no memory is the answer, as it is where names are resolved: a text
-/// would have to be as long as one may be to have so much.
+/// Fields with more than 2147483647 items, parameters, locals, fields of structures and instructions in all, where a table or a memory counts
+/// twice, are refused as for want of memory. No text has so many.
 pub fn encode_fields<'n, 'a>(
     alloc: Global,
     id: &'n Option<Id<'a>>,

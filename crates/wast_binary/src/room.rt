@@ -16,7 +16,7 @@ use wast_signatures::{FunctionType, TypeUse};
 /// How much there may be: as many parameters of a type, and as many locals of a function behind them, have numbers of 32 bits.
 const ROOM: usize = 2147483647;
 
-/// Whether there is no more than that.
+/// True only where there is no more than that.
 pub(crate) fn has_room(fields: &[ModuleField<'_>]) -> bool
     ensures { result ≡ true → AreFew (map field_tree fields.now) }
 {
@@ -86,7 +86,7 @@ fn inside(kind: &InnerTypeKind<'_>) -> usize
 }
 
 /// How many parameters a use of a type writes.
-fn params_of(ty: &TypeUse<'_, FunctionType<'_>>) -> usize
+fn written_param_count(ty: &TypeUse<'_, FunctionType<'_>>) -> usize
     ensures { result ≡ use_weight (use_tree ty.now) }
 {
     match &ty.inline {
@@ -135,7 +135,7 @@ fn params_in(kind: &ItemKind<'_>) -> usize
     ensures { result ≡ extern_weight (extern_tree kind.now) }
 {
     match kind {
-        ItemKind::Tag(TagType::Exception(ty)) => params_of(ty),
+        ItemKind::Tag(TagType::Exception(ty)) => written_param_count(ty),
         _ => 0,
     }
 }
@@ -147,7 +147,7 @@ fn behind_func(func: &Func<'_>, room: usize) -> Option<usize>
     match &func.kind {
         FuncKind::Import { .. } => room.checked_sub(1),
         FuncKind::Inline { locals, expression } => room
-            .checked_sub(params_of(&func.ty))?
+            .checked_sub(written_param_count(&func.ty))?
             .checked_sub(locals.len())?
             .checked_sub(expression.instrs.len())?
             .checked_sub(1),
@@ -162,7 +162,7 @@ fn behind_tag(tag: &Tag<'_>, room: usize) -> Option<usize>
         TagKind::Import(_) => room.checked_sub(1),
         TagKind::Inline => {
             let TagType::Exception(ty) = &tag.ty;
-            room.checked_sub(params_of(ty))?.checked_sub(1)
+            room.checked_sub(written_param_count(ty))?.checked_sub(1)
         }
     }
 }

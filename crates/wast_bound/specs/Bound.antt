@@ -42,7 +42,7 @@ abbrev pub has : Name → Option (TypeItem Name ℕ) → Bool
 has n None = false
 has n (Some t) = list_any (bears same_name n) (map name_in (fields_of t.definition.comp.inner))
 
--- how many blocks before an instruction are closed behind it, where so many are closed after it
+-- from the back: how many of the blocks that are open before an instruction are closed later, where so many are of those open after it
 abbrev pub closed_before : Turn → ℕ → ℕ
 closed_before Opens closed = closed - 1
 closed_before Closes closed = closed + 1

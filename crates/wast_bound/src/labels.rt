@@ -103,8 +103,7 @@ fn is_label<I: Opens>(before: &[I], instruction: &I, id: &Id<'_>) -> bool
 {
     match instruction.turn() {
         Turn::Closes => is_open(before, 1, id),
-        Turn::Opens => is_open(before, 0, id),
-        Turn::Stays => is_open(before, 0, id),
+        Turn::Opens | Turn::Stays => is_open(before, 0, id),
     }
 }
 
@@ -127,7 +126,7 @@ fn is_open<I: Opens>(instructions: &[I], closed: u128, id: &Id<'_>) -> bool
     false
 }
 
-/// How many blocks that are open before an instruction are closed behind it, where it does this and so many are closed after it.
+/// From the back: how many of the blocks that are open before an instruction are closed later, where so many are of those open after it.
 fn closed_before(turn: Turn, closed: u128) -> u128
     requires { closed + 1 < 2 ^ 128 }
     ensures { result ≡ closed_before (turn_view turn) closed }

@@ -29,8 +29,9 @@ use wast_parser::{Gensym, Id, Index, Span};
 /// A memory has as many pages as hold its data, and a table as many elements as are written; the address type is kept. Takes time in
 /// proportion to what the fields hold, and for each export to the length of its field's name.
 ///
-/// Each field takes one name at most, and there is room for these. Refused for want of memory, and where the data of a memory are 2^64
-/// bytes or more, which no memory holds; the fields are gone then, and names may have been made, no more than these fields take.
+/// Each field takes one name at most, and there is room for these. Refused for want of memory, and, told as that, where the data of a
+/// memory are 2^64 bytes or more, of which no number of 64 bits tells how many they are; the fields are gone then, and names may have been
+/// made, no more than these fields take.
 pub fn run<'a>(
     alloc: Global,
     fields: Vec<ModuleField<'a>>,

@@ -14,7 +14,7 @@ use wast_value_types::Limits;
 /// The power of 2 that a page has in bytes where none is written.
 const PAGE_SIZE_LOG2: u32 = 16;
 
-/// How many bytes values are together. Refused where these are 2^64 or more, which no memory holds.
+/// How many bytes values are together. Refused where these are 2^64 or more.
 pub(crate) fn total_len(values: &[DataVal<'_>]) -> Result<u64, AllocError>
     ensures { IfOk result (λ n. n ≡ sum_by byte_count (map value_tree values.now)) }
 {

@@ -29,9 +29,9 @@ use wast_spaces::{Spaces, check_order};
 ///
 /// Refuses the first import behind a definition, else the first item that bears the name of an earlier one, segments aside, or field that
 /// bears that of an earlier one of its structure, else the first name that means nothing, signature that isn't that of the type beside it,
-/// local that bears the name of an earlier one, or repeated name that isn't its block's; else only where no memory is found, or there are
+/// parameter or local that bears the name of an earlier one, or repeated name that isn't its block's; else only where no memory is found, or there are
 /// more than 4294967295 items of a kind, types with those that uses imply, fields of a structure, parameters and locals of a function, or
-/// blocks inside each other, which is told as that.
+/// blocks inside each other, which is told as want of memory.
 pub fn check_names<'a>(alloc: Global, fields: &[ModuleField<'a>]) -> Result<(), Error>
     ensures { Answers result (demands same_name (map field_tree fields.now)) }
 {
@@ -45,7 +45,7 @@ pub fn check_names<'a>(alloc: Global, fields: &[ModuleField<'a>]) -> Result<(), 
 ///
 /// Refuses the first import behind a definition, else the first item that bears the name of an earlier one, segments aside, or field that
 /// bears that of an earlier one of its structure; else only where no memory is found, or there are more than 4294967295 items of a kind or
-/// fields of a structure, which is told as that.
+/// fields of a structure, which is told as want of memory.
 pub fn ordered_spaces<'a>(alloc: Global, fields: &[ModuleField<'a>]) -> Result<Spaces<'a>, Error>
     ensures spaces { IfOk result (λ s. spaces_of s ≡ spaces_behind (λ t. names.empty) (flat_map items (map field_tree fields.now))) }
     ensures fields { IfOk result (λ s. fields_of_types s ≡ type_fields (flat_map items (map field_tree fields.now))) }
@@ -75,9 +75,9 @@ fn check_mentioned<'a>(
 
 /// Tests what fields mention, where these are their index spaces, and the types that their uses imply.
 ///
-/// Refuses the first name that means nothing, signature that isn't that of the type beside it, local that bears the name of an earlier one,
-/// or repeated name that isn't its block's; else only where no memory is found, or there are more than 4294967295 locals of a function or
-/// blocks inside each other.
+/// Refuses the first name that means nothing, signature that isn't that of the type beside it, parameter or local that bears the name of an
+/// earlier one, or repeated name that isn't its block's; else only where no memory is found, or there are more than 4294967295 parameters and
+/// locals of a function, or blocks inside each other, which is told as want of memory.
 pub fn check_mentions<'a>(
     alloc: Global,
     fields: &[ModuleField<'a>],

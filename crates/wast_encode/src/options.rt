@@ -47,7 +47,7 @@ impl EncodeOptions {
     /// A module is refused by its first demand of names that isn't met, with its place and message; else by its first form that has no binary
     /// here, with the place of its field; else as too large exactly where, memory found, a count or a length of its binary is past 4294967295.
     /// One with more than 2147483647 items, parameters, locals, fields of structures and instructions in all, where a table or a memory counts
-    /// twice, may be refused as for want of memory.
+    /// twice, or with 2^64 bytes or more of data in an inline memory, may be refused as for want of memory.
     ///
     /// Its names are resolved then, and what stands inline in it is written out, also where it is refused after that: encoded again, it
     /// gives the same answer, where memory is found. `gensym` has come as far as its fields take names. A module whose names weren't

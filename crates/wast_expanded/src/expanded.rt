@@ -20,7 +20,7 @@ use wast_module_fields::ModuleField;
 
 /// The fields with the number of its type in each type use without an index, but for that of a short block, and behind them the types that
 /// uses imply. A number stands at the place of its field. Fails only where no memory is found, or there are more than 4294967295 types, which
-/// is told as that; the fields are gone then.
+/// is told as want of memory; the fields are gone then.
 pub fn expand<'a>(
     alloc: Global,
     fields: Vec<ModuleField<'a>>,
@@ -31,7 +31,7 @@ pub fn expand<'a>(
     unless_refused(fields, outcome)
 }
 
-/// The fields, unless they are refused.
+/// The fields, unless they are refused. Apart, since the prover has no proof of a match of the pair.
 fn unless_refused<'a>(
     fields: Vec<ModuleField<'a>>,
     outcome: Result<(), AllocError>,

@@ -32,10 +32,9 @@ impl<'t, 'a> Taking<'t, 'a> {
     ) -> Result<Option<Index<'a>>, AllocError>
         ensures { IfOk result (λ new. option_map index_tree new ≡ option_map (λ n. ByNumber n self.now.place) (taken (known self.now.implied.now) (unwrap_or (option_map (λ s. sig_tree s.now) inline.entry) no_sig))) }
     {
-        match self.implied.number_of(inline) {
-            Ok(Some(number)) => Ok(Some(Index::Num(number, self.place))),
-            Ok(None) => Ok(None),
-            Err(e) => Err(e),
+        match self.implied.number_of(inline)? {
+            Some(number) => Ok(Some(Index::Num(number, self.place))),
+            None => Ok(None),
         }
     }
 }
@@ -64,14 +63,8 @@ impl<'t, 'a> Changing<'a> for Taking<'t, 'a> {
         inline: Option<&FunctionType<'a>>,
     ) -> Result<(), AllocError> {
         match inline {
-            Some(signature) => {
-                if is_short(signature) {
-                    Ok(())
-                } else {
-                    self.type_use(index, Some(signature))
-                }
-            }
-            None => Ok(()),
+            Some(signature) if !is_short(signature) => self.type_use(index, inline),
+            _ => Ok(()),
         }
     }
 }

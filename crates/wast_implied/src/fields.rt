@@ -15,7 +15,7 @@ use std::alloc::{AllocError, Global};
 use wast_module_fields::ModuleField;
 
 impl<'a> Implied<'a> {
-    /// Those of these fields. Fails only where no memory is found, or there are more than 4294967295 types, which is told as that.
+    /// Those of these fields. Fails only where no memory is found, or there are more than 4294967295 types, which is told as want of memory.
     pub fn of(alloc: Global, fields: &[ModuleField<'a>]) -> Result<Self, AllocError>
         ensures types { IfOk result (λ all. (known all).implied ≡ implied same_name (map field_tree fields.now)) }
         ensures numbers { IfOk result (λ all. (s : Sig Name ℕ) → (known all).types.look (shape s) ≡ type_taken same_name (map field_tree fields.now) s) }

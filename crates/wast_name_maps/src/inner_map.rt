@@ -48,6 +48,7 @@ impl InnerMap {
         Ok(())
     }
 
+    /// Whether it has no names.
     pub(crate) fn is_empty(&self) -> bool
         ensures { result ≡ nat_eq self.now.count 0 }
     {

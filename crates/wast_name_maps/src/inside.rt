@@ -199,8 +199,7 @@ fn add_import(
     ensures { GroupsJoin result groups.old groups.new (import_groups (inside_view kind) (extern_tree import.now)) }
 {
     match import {
-        ItemKind::Func(_) => pass_function(groups, kind),
-        ItemKind::FuncExact(_) => pass_function(groups, kind),
+        ItemKind::Func(_) | ItemKind::FuncExact(_) => pass_function(groups, kind),
         ItemKind::Tag(ty) => add_tag_type(alloc, groups, kind, ty),
         ItemKind::Table(_) | ItemKind::Memory(_) | ItemKind::Global(_) => Ok(()),
     }
@@ -213,8 +212,7 @@ fn pass_function(groups: &mut Groups, kind: Inside) -> Result<(), EncodeError>
     ensures { GroupsJoin result groups.old groups.new (nameless_groups (inside_view kind)) }
 {
     match kind {
-        Inside::Locals => groups.pass(),
-        Inside::Labels => groups.pass(),
+        Inside::Locals | Inside::Labels => groups.pass(),
         Inside::Fields | Inside::Parameters | Inside::TagParameters => Ok(()),
     }
 }

@@ -17,7 +17,7 @@ use wast_parser::Id;
 use wast_signatures::Param;
 
 /// The space of the parameters and locals of a function (6.6, functions); of two that bear one name the first counts. Fails only where no memory
-/// is found, or there are more than 4294967295, which is told as that.
+/// is found, or there are more than 4294967295, which is told as want of memory.
 pub(crate) fn locals_of<'a>(
     alloc: Global,
     numbering: &Numbering<'_, 'a>,
@@ -48,7 +48,7 @@ fn add_params<'a>(
 {
     match (&ty.inline, &ty.index) {
         (Some(signature), _) => add_written(alloc, &signature.params, names),
-        (None, Some(index)) => add_nameless(numbering.params_of(index), names),
+        (None, Some(index)) => add_nameless(numbering.param_count(index), names),
         (None, None) => Ok(()),
     }
 }

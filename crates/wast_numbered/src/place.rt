@@ -160,7 +160,7 @@ fn number_type<'a>(spaces: &Spaces<'a>, index: &mut Option<Index<'a>>)
 
 impl<'a> Numbering<'_, 'a> {
     /// How many parameters the type that an index names has.
-    pub(crate) fn params_of(&self, index: &Index<'a>) -> usize
+    pub(crate) fn param_count(&self, index: &Index<'a>) -> usize
         ensures { so_many None result ≡ params_of_index (scope self.now) (Some (index_tree index.now)) }
     {
         match self.spaces.space(Space::Types).number_of(index) {

@@ -32,9 +32,9 @@ pub trait ResolveModule<'a> {
     ///
     /// Refuses a module of which a demand of names isn't met, by the first, with its place and message; else only where no memory is found,
     /// or there are more than 4294967295 items of a kind, types with those that uses imply, fields of a structure, parameters and locals of
-    /// a function, or blocks inside each other, which is told as that. The module then keeps why, and each later call is refused by a copy
-    /// of that, or for want of memory for the copy; it takes no name. The fields of a module that is refused may be gone, and as many names
-    /// are taken as where it is resolved; fewer, it may be, where no memory is found.
+    /// a function, or blocks inside each other, or 2^64 bytes or more of data in an inline memory, which is told as want of memory. The module
+    /// then keeps why, and each later call is refused by a copy of that, or for want of memory for the copy; it takes no name. The fields of a
+    /// module that is refused may be gone, and as many names are taken as where it is resolved; fewer, it may be, where no memory is found.
     fn resolve(&mut self, alloc: Global, gensym: &mut Gensym) -> Result<Names<'a>, Error>
         requires { (tree self.old).refusal ≡ None → gensym.old + length (content_fields (tree self.old).content) < 2 ^ 32 }
         ensures answers { (tree self.old).refusal ≡ None → Answers result (module_demands_by gensym.old (tree self.old)) }

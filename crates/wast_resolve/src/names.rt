@@ -73,7 +73,7 @@ impl<'a> Resolver<'a> {
 ///
 /// Refuses fields of which a demand of names isn't met, by the first, with its place and message; else only where no memory is found, or
 /// there are more than 4294967295 items of a kind, types with those that uses imply, fields of a structure, parameters and locals of a
-/// function, or blocks inside each other, which is told as that. The fields are gone then.
+/// function, or blocks inside each other, which is told as want of memory. The fields are gone then.
 pub fn resolve<'a>(
     alloc: Global,
     fields: Vec<ModuleField<'a>>,
@@ -124,7 +124,7 @@ impl<'a> InPlace<Vec<ModuleField<'a>>> for Numbers {
 }
 
 /// The same in the fields' place; refused, some of them may be changed.
-pub(crate) fn resolve_in_place<'a>(
+fn resolve_in_place<'a>(
     alloc: Global,
     fields: &mut Vec<ModuleField<'a>>,
 ) -> Result<Resolver<'a>, Error>

@@ -17,8 +17,8 @@ use wast_numbered::{Numbering, param_counts};
 use wast_spaces::Spaces;
 
 /// Makes the indices of fields numbers, where these spaces tell their items, and these types are what their uses imply. Fails only for want
-/// of memory, or where a function has more than 4294967295 parameters and locals, or so many blocks are open at a place, which is told as
-/// that; some of the fields may be changed then.
+/// of memory, or where a function has more than 4294967295 parameters and locals, or so many blocks are open at a place, which is
+/// told as want of memory; some of the fields may be changed then.
 pub(crate) fn number_fields<'a>(
     alloc: Global,
     implied: &Implied<'a>,

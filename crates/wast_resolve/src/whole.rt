@@ -75,16 +75,15 @@ impl<'a> Names<'a> {
         self.resolve(index, Ns::Global)
     }
 
+    /// An index of the items that a space of names has.
     fn resolve(&self, index: &mut Index<'a>, ns: Ns) -> Result<(), Error>
         ensures resolved { OnOk result (index_tree index.new ≡ resolved (names_spaces self.now (ns_space ns)) (index_tree index.old)) }
         ensures answers { Answers result (known (space_word (ns_space ns)) (names_spaces self.now (ns_space ns)) (index_tree index.old)) }
         ensures unknown { OnErr result (number_of (names_spaces self.now (ns_space ns)) (index_tree index.old) ≡ None) }
         ensures refused { OnErr result (index.new ≡ index.old) }
     {
-        match self.resolver.resolve(index, ns) {
-            Ok(_) => Ok(()),
-            Err(e) => Err(e),
-        }
+        self.resolver.resolve(index, ns)?;
+        Ok(())
     }
 }
 
@@ -93,8 +92,8 @@ impl<'a> Names<'a> {
 ///
 /// Refuses fields of which, written out, a demand of names isn't met, by the first, with its place and message; else only where no memory
 /// is found, or there are more than 4294967295 items of a kind, types with those that uses imply, fields of a structure, parameters and
-/// locals of a function, or blocks inside each other, which is told as that. The fields are gone then, and as many names are taken as where
-/// they are resolved; fewer, it may be, where no memory is found.
+/// locals of a function, or blocks inside each other, or 2^64 bytes or more of data in an inline memory, which is told as want of memory. The
+/// fields are gone then, and as many names are taken as where they are resolved; fewer, it may be, where no memory is found.
 pub fn resolve<'a>(
     alloc: Global,
     fields: Vec<ModuleField<'a>>,

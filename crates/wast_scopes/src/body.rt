@@ -41,7 +41,7 @@ pub fn check_constant<'a>(scope: &Scope<'_, 'a>, expression: &Expression<'a>) ->
     check_body(scope, instructions_of(expression))
 }
 
-/// The instructions of an expression.
+/// The instructions of an expression. Apart, since a proof that sees where they stand takes too many steps.
 fn instructions_of<'b, 'a>(expression: &'b Expression<'a>) -> &'b [Instruction<'a>]
     ensures { result.now ≡ expression.now.instrs.items }
 {
@@ -101,25 +101,10 @@ fn check_types<'a>(
 ) -> Result<(), Error>
     ensures { Answers result (use_by (known scope.now) (use_tree ty.now) ++ flat_map (mention_by (known scope.now)) (local_mentions (map local_tree locals.now))) }
 {
-    match check_func_use(scope, ty) {
+    match check_mention(scope, Mention::Uses(ty)) {
         Ok(()) => check_local_types(scope, locals),
         Err(e) => Err(e),
     }
-}
-
-/// Tests the type use of a function.
-fn check_func_use<'a>(
-    scope: &Scope<'_, 'a>,
-    ty: &TypeUse<'a, FunctionType<'a>>,
-) -> Result<(), Error>
-    ensures { Answers result (use_by (known scope.now) (use_tree ty.now)) }
-{
-    let labels = Labels::new(scope.alloc);
-    Place {
-        scope,
-        labels: &labels,
-    }
-    .check_use(ty)
 }
 
 /// Tests what the types of locals mention.

@@ -90,30 +90,21 @@ impl<'s, 'a> Scope<'s, 'a> {
     pub(crate) fn member(&self, owner: &Index<'a>, id: &Id<'a>) -> Option<u32>
         ensures { result ≡ members_by (known self.now) (index_tree owner.now) (identifier_tree id.now).0 }
     {
-        match self.type_number(owner) {
-            Some(number) => self.field(number, id),
-            None => None,
-        }
+        self.field(self.type_number(owner)?, id)
     }
 
     /// The number of a field of the struct type with a number.
     fn field(&self, number: u32, id: &Id<'a>) -> Option<u32>
         ensures { result ≡ (known self.now).fields number (identifier_tree id.now).0 }
     {
-        match self.spaces.fields_of(number) {
-            Some(names) => names.get(id),
-            None => None,
-        }
+        self.spaces.fields_of(number)?.get(id)
     }
 
     /// The function type that an index means, if there is one.
     pub(crate) fn type_of(&self, index: &Index<'a>) -> Option<&NumberedSignature>
         ensures { option_map (λ s. sig_of_numbered s.now) result ≡ sig_by (known self.now) (index_tree index.now) }
     {
-        match self.type_number(index) {
-            Some(number) => self.signatures.get(number),
-            None => None,
-        }
+        self.signatures.get(self.type_number(index)?)
     }
 
     /// Whether a signature is that of the function type that an index means. Where there is no such type, any is.

@@ -1,5 +1,5 @@
 //! Element segments.
-ghost use Rattle.std.specs.Prelude.{◌≡◌, [], ◌∷◌, All, List, map, IfOk, OnOk, IsErrOf, refl};
+ghost use Rattle.std.specs.Prelude.{◌≡◌, [], ◌∷◌, All, List, map, option_map, IfOk, OnOk, IsErrOf, refl};
 ghost use Rattle.std.specs.List.{flat_map, AllByRecursion};
 ghost use Rattle.wasm_encoder_base.specs.Instr.{Instr, instr_bytes, expr_bytes};
 ghost use Rattle.wasm_encoder_code.specs.Laws.{IsExpression};
@@ -7,13 +7,14 @@ ghost use Rattle.wasm_encoder_items.specs.Segments as segments;
 ghost use Rattle.wasm_encoder_items.specs.Segments.{ended, element_bytes};
 ghost use Rattle.wasm_encoder_items.specs.SegmentViews.{ElementsFit};
 ghost use Rattle.wasm_encoder_sections.specs.Writes.{Writes};
-ghost use Rattle.wasm_layout.specs.IsModule.{IsElement};
+ghost use Rattle.wasm_layout.specs.IsModule.{IsElement, IsU32};
 ghost use Rattle.wast_parser.specs.Identifiers.{index_tree};
 ghost use Rattle.wast_value_types.specs.ValueViews.{ref_tree};
 ghost use Rattle.wast_core_instr.specs.ExpressionViews.{expression_tree};
 ghost use Rattle.wast_fields.specs.FieldTree.{Indices, Expressions, ElemField};
 ghost use Rattle.wast_fields.specs.ElemViews.{elem_tree, mode_tree};
-ghost use Rattle.wast_conversions.specs.Resolved.{IsNumber, RefResolved};
+ghost use Rattle.wast_conversions.specs.Resolved.{IfThere, IsNumber, RefResolved};
+ghost use Rattle.wast_conversions.specs.Types.{number_of};
 ghost use Rattle.wast_conversions.specs.Covered.{ref_forms};
 ghost use Rattle.wast_meant.specs.Covered.{elem_mode_forms, expr_forms};
 ghost use Rattle.wast_meant.specs.FieldsMeant.{expr_meant, element_of, elements_of};
@@ -25,13 +26,12 @@ ghost use Rattle.wast_section_items.specs.Parts.{active_segment, segment_with, M
 use crate::adding::add_segment;
 use crate::constant::constant;
 use crate::item::SectionItem;
-use crate::uses::table_index;
 use std::alloc::Global;
 use wasm_encoder_base::{EncodeError, Items};
 use wasm_encoder_code::ConstExpr;
 use wasm_encoder_items::{ElementMode, ElementSegment, Elements};
 use wasm_encoder_sections::ElementSection;
-use wast_conversions::{all_indices, ref_type};
+use wast_conversions::{all_indices, index, ref_type};
 use wast_core_instr::Expression;
 use wast_customs::CustomPlaceAnchor;
 use wast_fields::{Elem, ElemKind, ElemPayload};
@@ -146,6 +146,18 @@ fn add_elements(
             Ok(offset) => add_active(section, table_index(table), &offset, elements),
             Err(e) => Err(e),
         },
+    }
+}
+
+/// The number of the table of a segment, where one is written.
+fn table_index(written: &Option<Index<'_>>) -> Option<u32>
+    requires { IfThere IsNumber (option_map index_tree written.now) }
+    ensures same { result ≡ option_map number_of (option_map index_tree written.now) }
+    ensures sound { IfThere (λ i. IsU32 (number_of i)) (option_map index_tree written.now) }
+{
+    match written {
+        Some(written) => Some(index(written)),
+        None => None,
     }
 }
 

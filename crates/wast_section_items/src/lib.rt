@@ -34,7 +34,6 @@ mod memory;
 mod table;
 mod tag;
 mod type_item;
-mod uses;
 
 pub use body::{FuncBody, local_types};
 pub use item::SectionItem;

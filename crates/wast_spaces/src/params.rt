@@ -16,10 +16,7 @@ pub fn param_counts(alloc: Global, fields: &[ModuleField<'_>]) -> Result<Vec<usi
 {
     let mut counts = Vec::new(alloc);
     for field in fields {
-        match count_field(field, &mut counts) {
-            Ok(()) => {}
-            Err(e) => return Err(e),
-        }
+        count_field(field, &mut counts)?;
     }
     Ok(counts)
 }
@@ -40,10 +37,7 @@ fn count_types(items: &[TypeItem<'_>], counts: &mut Vec<usize>) -> Result<(), Al
     ensures { OnOk result (counts.new.items ≡ counts.old.items ++ map param_count (map (λ t. (t, true)) (map item_tree items.now))) }
 {
     for item in items {
-        match count_type(item, counts) {
-            Ok(()) => {}
-            Err(e) => return Err(e),
-        }
+        count_type(item, counts)?;
     }
     Ok(())
 }
@@ -52,12 +46,12 @@ fn count_types(items: &[TypeItem<'_>], counts: &mut Vec<usize>) -> Result<(), Al
 fn count_type(item: &TypeItem<'_>, counts: &mut Vec<usize>) -> Result<(), AllocError>
     ensures { OnOk result (counts.new.items ≡ counts.old.items ++ inner_count (item_tree item.now).definition.comp.inner ∷ []) }
 {
-    counts.push(params_of(&item.def.kind))?;
+    counts.push(param_count(&item.def.kind))?;
     Ok(())
 }
 
 /// How many parameters a type has.
-fn params_of(kind: &InnerTypeKind<'_>) -> usize
+fn param_count(kind: &InnerTypeKind<'_>) -> usize
     ensures { result ≡ inner_count (inner_tree kind.now) }
 {
     match kind {
@@ -70,8 +64,5 @@ fn params_of(kind: &InnerTypeKind<'_>) -> usize
 pub fn count_at(counts: &[usize], number: u32) -> usize
     ensures { result ≡ unwrap_or (slice_get counts.now number) 0 }
 {
-    match counts.get(number as usize) {
-        Some(count) => *count,
-        None => 0,
-    }
+    counts.get(number as usize).copied().unwrap_or(0)
 }

@@ -5,7 +5,7 @@
 //! [`uncovered`] answers the first, in the order of the text, and of instructions as they are unfolded: where the keyword of its field
 //! stands, and what it is called; in an instruction that is the mnemonic.
 //!
-//! ```
+//! ```text
 //! uncovered(&module) // (func (result f32) f32.const 1.5): the place of `func`, and "f32.const"
 //! ```
 //!

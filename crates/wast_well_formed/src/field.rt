@@ -10,6 +10,9 @@ ghost use Rattle.wast_meaning.specs.WellFormed.{part_formed};
 use crate::parts::parts_formed;
 use wast_module_fields::{MemoryKind, ModuleField};
 
+/// The power of 2 that a page has in bytes where none is written.
+const PAGE_SIZE_LOG2: u32 = 16;
+
 /// Whether the expressions in a field are formed, a memory with its segment inline has pages whose size fits, and the field isn't a
 /// start function behind another: `started` says that one stands before it.
 pub fn field_formed(field: &ModuleField<'_>, started: bool) -> bool
@@ -24,7 +27,8 @@ fn pages_formed(field: &ModuleField<'_>) -> bool
 {
     match field {
         ModuleField::Memory(memory) => match &memory.kind {
-            MemoryKind::Inline { page_size_log2, .. } => page_size_log2.unwrap_or(16) < 64,
+            MemoryKind::Inline { page_size_log2, .. } => page_size_log2.unwrap_or(PAGE_SIZE_LOG2)
+                < 64,
             MemoryKind::Import { .. } | MemoryKind::Normal(_) => true,
         },
         _ => true,

@@ -3,7 +3,7 @@ use Rattle.wast_grammar.specs.Tokens.{Name}
 use Rattle.wast_parser.specs.Identifiers.{index_tree}
 use Rattle.wast_names.specs.Space as names
 use Rattle.wast_numbered.proofs.Unnamed.{counted_at}
-use Rattle.wast_numbered.proofs.place.Numbering.params_of.Goals as goal
+use Rattle.wast_numbered.proofs.place.Numbering.param_count.Goals as goal
 
 pub returns-in-Some : goal.returns-in-Some
 returns-in-Some c =
