@@ -5,8 +5,12 @@ use wasm_encoder_base::{Encode, EncodeError, EncodedList, Items};
 use wasm_encoder_code::{Instruction, VectorFloatOp};
 
 #[test]
-fn ample_clone_of_instructions(rt: HostRuntime) {
-    assert!(rt; Instruction::Nop.clone().is_ok());
+fn ample_clone_of_instructions(rt: HostRuntime) -> Result<(), Fail> {
+    let instruction = Instruction::BrTable(Items::owned(vec![in rt.alloc(); 1, 2]?), 0);
+    let mut sink = Vec::new(rt.alloc());
+    instruction.clone()?.encode(&mut sink)?;
+    assert_eq!(rt; sink.as_slice(), b"\x0e\x02\x01\x02\x00".as_slice());
+    Ok(())
 }
 
 /// A list of names: the third and the fourth grow the sink once more.

@@ -7,7 +7,7 @@
 //! - of `rendered: TEXT`, the fault as the program tells it;
 //! - of `pair: TEXT ~~ TEXT`, whether their binaries are equal, or equal without name sections, or the faults;
 //! - of `at N: TEXT`, a fault at the byte N of this text, told so;
-//! - of `faults:`, each fault in one line;
+//! - of `faults:`, each fault but that of spelling, in one line, and as it is told without its place;
 //! - of a line that begins with `#` nothing: it names what the rows below it are of.
 #![tactic(auto)]
 
