@@ -14,7 +14,8 @@ pub fn answer(page: &Page, line: &str) {
         "unsigned" => unsigned(page, rest.parse().unwrap_or(0)),
         "signed" => signed(page, rest.parse().unwrap_or(0)),
         "name" => named(page, rest),
-        _ => numbers(page, rest),
+        "bytes" => numbers(page, rest),
+        _ => page.put("no such word\n"),
     }
 }
 

@@ -13,10 +13,13 @@ use wast_resolve::{Names, Ns, names, resolve};
 pub fn print_meaning(fields: Vec<ModuleField<'_>>, word: &str, page: &Page)
     requires { length fields.items < 2 ^ 32 }
 {
-    if word == "tag" || word == "type" {
-        print_by_resolver(fields, word, page);
-    } else {
-        print_by_names(fields, word, page);
+    match word {
+        "tag" | "type" => print_by_resolver(fields, word, page),
+        "func" | "table" | "memory" | "global" => print_by_names(fields, word, page),
+        _ => {
+            fields.let_go();
+            page.put("no such word\n");
+        }
     }
 }
 

@@ -104,9 +104,15 @@ fn print_few(fields: &mut Vec<ModuleField<'_>>, word: &str, page: &Page) {
     } else {
         match word.strip_prefix("means-") {
             Some(space) => print_meaning(taken(fields, page.alloc()), space, page),
-            None => print_changed(fields, word, page),
+            None if is_change(word) => print_changed(fields, word, page),
+            None => page.put("no such word\n"),
         }
     }
+}
+
+/// Whether a word makes other fields of fields.
+fn is_change(word: &str) -> bool {
+    matches!(word, "run" | "expand" | "names" | "resolve")
 }
 
 fn print_changed(fields: &mut Vec<ModuleField<'_>>, word: &str, page: &Page)
