@@ -20,7 +20,6 @@ mod items;
 mod known;
 mod labels;
 mod locals;
-mod made;
 mod outside;
 mod parts;
 mod place;

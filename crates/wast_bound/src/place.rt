@@ -15,7 +15,6 @@ ghost use Rattle.wast_meaning.specs.Views.{space_view};
 ghost use Rattle.wast_bound.specs.Bound.{Broken, are_kept, is_kept};
 
 use crate::known::Known;
-use crate::made::is_made;
 use wast_core::{FunctionType, TypeUse};
 use wast_meaning::Space;
 use wast_mentions::{Judge, Judgement, Mention, Tell};
@@ -102,7 +101,7 @@ fn is_bound<K: Known>(known: K, space: Space, index: &Index<'_>) -> bool
 {
     match index {
         Index::Num(_, _) => true,
-        Index::Id(id) => !is_made(id) || known.has(space, id),
+        Index::Id(id) => !id.is_made() || known.has(space, id),
     }
 }
 
@@ -112,7 +111,7 @@ fn is_member_bound<K: Known>(known: K, owner: &Index<'_>, field: &Index<'_>) -> 
 {
     match field {
         Index::Num(_, _) => true,
-        Index::Id(id) => !is_made(id) || known.has_member(owner, id),
+        Index::Id(id) => !id.is_made() || known.has_member(owner, id),
     }
 }
 

@@ -1,9 +1,7 @@
 -- What code has in fields, as what is gathered from their trees.
-use Rattle.std.proofs.Common.{ℕ, ◌≡◌, Bool, true, false, List, [], ◌∷◌, ◌++◌, map, Option, Result, refl, sym, ap, subst, ◌∙◌, append-nil}
-use Rattle.std.specs.Prelude.{◌&&◌, nat_eq, not, option_map}
-use Rattle.std.specs.Cmp.Lexicographic.{pointwise}
+use Rattle.std.proofs.Common.{ℕ, ◌≡◌, true, false, List, [], ◌∷◌, ◌++◌, map, Option, Result, refl, sym, ap, subst, ◌∙◌, append-nil}
+use Rattle.std.specs.Prelude.{nat_eq, option_map}
 use Rattle.std.specs.List.{flat_map}
-use Rattle.std.proofs.lemmas.Bool.{eq-eqb}
 use Rattle.std.proofs.lemmas.Grind.{flat_map-append}
 use Rattle.wasm_encoder_bytes.specs.declared.error.EncodeError.{EncodeError}
 use Rattle.wasm_encoder_bytes.specs.declared.error.EncodeError.TheVariants.{TooLarge}
@@ -41,18 +39,6 @@ use Rattle.wast_name_maps.specs.Given.{given, identified}
 use Rattle.wast_name_maps.specs.Numbered.{Numbered, Fit, NameFits, NamesJoined, NamesJoin}
 use Rattle.wast_spaces.proofs.Written.{viewed}
 use Rattle.wast_name_maps.proofs.Joining.{flat_of, joins_then, unfit_front}
-
--- NAMES: one is the same as itself
-pub same_self : (xs : List ℕ) → pointwise nat_eq xs xs ≡ true
-same_self [] = refl
-same_self (x ∷ xs) = ap (λ b. b && pointwise nat_eq xs xs) (eq-eqb x x refl) ∙ same_self xs
-
-pub if_zero : (g : ℕ) (xs : List ℕ) → (nat_eq g 0 && pointwise nat_eq xs xs) ≡ not (not (nat_eq g 0))
-if_zero g xs = of (nat_eq g 0)
-  where
-    of : (b : Bool) → (b && pointwise nat_eq xs xs) ≡ not (not b)
-    of true = same_self xs
-    of false = refl
 
 -- WHAT ELEMENTS OF THE CODE BRING
 abbrev pub field_names : Space → ModuleField → List (Option (List ℕ))

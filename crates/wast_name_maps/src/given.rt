@@ -1,8 +1,7 @@
 //! The names that annotations and identifiers give.
-ghost use Rattle.std.specs.Prelude.{◌≡◌, ◌∷◌, [], not, Some, option_map};
+ghost use Rattle.std.specs.Prelude.{◌≡◌, ◌∷◌, [], Some, option_map};
 ghost use Rattle.wast_parser.specs.Identifiers.{identifier_tree};
 ghost use Rattle.wast_signatures.specs.SignatureViews.{name_tree};
-ghost use Rattle.wast_meaning.specs.Made.{is_made};
 ghost use Rattle.wast_name_maps.specs.Given.{given, identified};
 ghost use Rattle.wast_name_maps.specs.Numbered.{NamesJoin};
 
@@ -46,23 +45,7 @@ fn identified<'n, 'a>(id: &'n Option<Id<'a>>) -> Option<&'n str>
     ensures { option_map (λ s. s.now) result ≡ identified (option_map identifier_tree id.now) }
 {
     match id {
-        Some(id) => name_unless_made(id),
-        None => None,
+        Some(id) if !id.is_made() => Some(id.name()),
+        _ => None,
     }
-}
-
-/// The name of an identifier, unless it is made up.
-fn name_unless_made<'n, 'a>(id: &'n Id<'a>) -> Option<&'n str>
-    ensures { option_map (λ s. s.now) result ≡ identified (Some (identifier_tree id.now)) }
-{
-    if is_read(id) { Some(id.name()) } else { None }
-}
-
-/// Whether an identifier is one that was read.
-#[tactic(auto, using(crate::proofs::Gathering::if_zero))]
-fn is_read(id: &Id<'_>) -> bool
-    ensures { result ≡ not (is_made (identifier_tree id.now).0) }
-{
-    let read = Id::new(id.name(), id.span());
-    *id == read
 }

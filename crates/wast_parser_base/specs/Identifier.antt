@@ -1,5 +1,5 @@
 -- Identifiers: what they are, and which are the same.
-use Rattle.std.specs.Prelude.{ℕ, ◌++◌, Bool, ◌==◌, List, codes}
+use Rattle.std.specs.Prelude.{ℕ, ◌++◌, Bool, not, ◌==◌, nat_eq, List, codes}
 use Rattle.std.specs.declared.cmp.Ordering.{Ordering}
 use Rattle.std.specs.Ordering.{on, eq_of_both, then_cmp, nat_cmp}
 use Rattle.std.specs.Cmp.Lexicographic.{pointwise, slice_cmp}
@@ -23,6 +23,10 @@ compare = then_cmp (on (λ x. x.generation) nat_cmp) (on (λ x. x.name) (slice_c
 -- what is hashed of one
 abbrev pub hash_input : Identifier → fed.HashWrites
 hash_input x = fed.u32 x.generation ++ fed.str x.name
+
+-- it was made
+abbrev pub is_made : Identifier → Bool
+is_made x = not (nat_eq x.generation 0)
 
 -- one that was read
 abbrev pub read_name : List ℕ → ℕ → Identifier

@@ -6,7 +6,7 @@ ghost use Rattle.std.specs.Cmp.Rules.{comparing, hashing};
 ghost use Rattle.std.specs.Ordering.{as_partial_cmp};
 ghost use Rattle.std.specs.Cow.{cow_str_bytes, IsOwnedStr};
 ghost use Rattle.std.specs.Prelude.{◌≡◌, IfOk, IsOk};
-ghost use Rattle.wast_parser_base.specs.Identifier.{made_name, read_name};
+ghost use Rattle.wast_parser_base.specs.Identifier.{is_made, made_name, read_name};
 
 use std::alloc::{AllocError, Global};
 use std::borrow::CowStr;
@@ -91,6 +91,13 @@ impl<'a> Id<'a> {
         }
     }
 
+    /// Whether it was made in place of one, and not read.
+    pub fn is_made(&self) -> bool
+        ensures { result ≡ is_made self.now }
+    {
+        self.generation() != 0
+    }
+
     /// 0 of an identifier that was read, a number of its own of one that was made.
     fn generation(&self) -> u32
         ensures { result ≡ self.now.generation }
@@ -108,7 +115,8 @@ impl<'a> Id<'a> {
         self.span
     }
 
-    /// The same identifier at the same place. Fails only for want of memory, of which one that was made needs none.
+    /// The same identifier at the same place. Fails only for want of memory, of which one needs none that was made, or whose name is
+    /// borrowed.
     pub fn clone(&self, alloc: Global) -> Result<Self, AllocError>
         ensures same { IfOk result (λ copy. copy ≡ self.now) }
         ensures made { (self.now.generation ≡ 0 → ⊥) → IsOk result }
