@@ -1,5 +1,5 @@
 -- Identifiers, names of annotations, strings and integers in front.
-use Rattle.std.proofs.Common.{◌≡◌, ℕ, Bool, true, false, cond, List, ◌∷◌, ◌++◌, Option, Some, None, refl, sym, ◌∙◌, ap, subst, inl, inr}
+use Rattle.std.proofs.Common.{◌≡◌, ℕ, Bool, true, false, cond, List, ◌∷◌, ◌++◌, Option, Some, None, refl, sym, ◌∙◌, ap, subst, inl, inr, ◌⊎◌}
 use Rattle.std.specs.Prelude.{option_map}
 use Rattle.std.specs.Str.{IsUtf8, is_utf8}
 use Rattle.std.proofs.lemmas.Bool.{cases_Bool}
@@ -17,14 +17,14 @@ use Rattle.wast_lexer.specs.declared.token.TokenKind.TheVariants as kinds
 use Rattle.wast_lexer.specs.Tiling.{is_annotation}
 use Rattle.wast_grammar.specs.Tokens.{Name, as_read, Id, string_value, marked_value, id_name}
 use Rattle.wast_grammar.specs.Significant.{TextToken, token_of, is_trivia}
-use Rattle.wast_grammar.specs.Spelling.{same_text, ◌>>=◌, that_id, that_mark, that_text, that_integer}
+use Rattle.wast_grammar.specs.Spelling.{same_text, ◌>>=◌, that_id, that_mark, that_text}
 use Rattle.wast_grammar.specs.Grammar.{Reader, one_of, only_reads}
 use Rattle.wast_grammar.proofs.SignificantLaws.{annotation_kind}
 use Rattle.wast_grammar.proofs.TextLaws.{string_is, id_nameless}
-use Rattle.wast_parser_core.specs.Kinds.{is_identifier, is_string, is_integer}
+use Rattle.wast_parser_core.specs.Kinds.{is_identifier, is_string}
 use Rattle.wast_parser_base.specs.Faults.{problem_of}
 use Rattle.wast_parser_core.specs.State.{State, ahead, IsNext}
-use Rattle.wast_parser_core.specs.Reading.{Refuses}
+use Rattle.wast_parser_core.specs.Reading.{Refuses, WantsRoom}
 
 -- IDENTIFIERS
 identifier_kind : (k : TokenKind) → is_identifier k ≡ true → k ≡ kinds.Id
@@ -51,6 +51,11 @@ read_id s t i name next h e =
 pub id_refused : (s : State) (t : Token) (i : ℕ) (fault : LexFault) → IsNext s t i → is_identifier t.kind ≡ true → IsIdFault (text_of s.source.text t) t.offset fault → Refuses (problem_of fault) (one_of that_id (ahead s))
 id_refused s t i (Lex span error) next h e = inr (read_id s t i None next h (unnamed (text_of s.source.text t) t.offset span error (is_id s.source.text t next.own h) e))
 id_refused s t i faults.Memory next h e = inl refl
+
+-- and no memory is wanted but for what is escaped
+pub id_unread : (s : State) (t : Token) (i : ℕ) (fault : LexFault) → IsNext s t i → is_identifier t.kind ≡ true → IsIdFault (text_of s.source.text t) t.offset fault → WantsRoom s ⊎ (one_of that_id (ahead s) ≡ None)
+id_unread s t i (Lex span error) next h e = inr (read_id s t i None next h (unnamed (text_of s.source.text t) t.offset span error (is_id s.source.text t next.own h) e))
+id_unread s t i faults.Memory next h e = inl (t, i, next, e)
 
 no_id : (k : TokenKind) (w : List ℕ) (p : ℕ) (ts : List TextToken) → is_identifier k ≡ false → is_trivia k ≡ false → one_of that_id (token_of k w p ++ ts) ≡ None
 no_id kinds.Whitespace w p ts h i = absurd (cc)
@@ -136,20 +141,6 @@ no_text word bytes said is e n = elim (cases_Bool (is_utf8 (string_value word)))
 ]
 
 -- INTEGERS
-no_integer : (k : TokenKind) (w : List ℕ) (p : ℕ) (ts : List TextToken) → is_integer k ≡ false → is_trivia k ≡ false → one_of that_integer (token_of k w p ++ ts) ≡ None
-no_integer kinds.Whitespace w p ts h i = absurd (cc)
-no_integer kinds.LineComment w p ts h i = absurd (cc)
-no_integer kinds.BlockComment w p ts h i = absurd (cc)
-no_integer kinds.LParen w p ts h i = refl
-no_integer kinds.RParen w p ts h i = refl
-no_integer kinds.String w p ts h i = refl
-no_integer kinds.Id w p ts h i = refl
-no_integer kinds.Keyword w p ts h i = refl
-no_integer kinds.Annotation w p ts h i = refl
-no_integer kinds.Reserved w p ts h i = refl
-no_integer (kinds.Integer k) w p ts h i = absurd (cc)
-no_integer (kinds.Float k) w p ts h i = refl
-
 -- where none is read, none of a range is
 pub only_none : {A : Type 0} (p : A → Bool) (r : Reader Name ℕ A) (ts : List TextToken) → r ts ≡ None → only_reads p r ts ≡ None
 only_none p r ts e = rw e refl

@@ -1,6 +1,7 @@
 -- What a parser's calls answer.
 use Rattle.std.specs.Prelude.{◌≡◌, ◌≢◌, ◌≤◌, ◌⊎◌, ℕ, ◌+◌, Bool, true, false, List, [], ◌∷◌, Option, Some, None, Result, Ok, Err, slice_get}
 use Rattle.wast_lexer.specs.declared.token.Token.{Token}
+use Rattle.wast_lexer.specs.TokenText.{text_of, is_plain}
 use Rattle.wast_parser_core.specs.declared.parser.Front.{Front}
 use Rattle.wast_parser_core.specs.declared.parser.Front.TheVariants as fronts
 use Rattle.wast_grammar.specs.Tokens.{Name, Broken, Open, Close}
@@ -17,6 +18,10 @@ out_of_memory = record { place = 0; cause = Memory; lines = None }
 -- want of memory, or what reading refuses
 abbrev pub Refuses : {Y : Type 0} → Problem → Option Y → Type 0
 Refuses p read = (p ≡ out_of_memory) ⊎ (read ≡ None)
+
+-- memory is wanted for the next token, in which something is escaped
+abbrev pub WantsRoom : State → Type 0
+WantsRoom s = (t : Token) × (after : ℕ) × IsNext s t after × (is_plain (text_of s.source.text t) ≡ false)
 
 -- What is returned, seen by view, with the tokens before the parser, is what reading gives.
 abbrev pub Gives : {X Y : Type 0} → (X → Y) → Result X Problem → State → Option (Y × List TextToken) → Type 0

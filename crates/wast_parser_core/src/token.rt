@@ -1,13 +1,13 @@
 //! Single tokens.
-ghost use Rattle.std.specs.Prelude.{◌≡◌, ◌++◌, None, OnErr, Some, MatchResult, codes};
+ghost use Rattle.std.specs.Prelude.{◌≡◌, ◌⊎◌, ◌++◌, true, None, OnErr, IsOk, Some, MatchResult, codes};
 ghost use Rattle.std.specs.Cow.{cow_str_bytes};
 ghost use Rattle.wast_lexer.specs.declared.token.TokenKind.TheVariants as kinds;
 ghost use Rattle.wast_lexer.specs.NumberParts.{IsIntegerOf};
-ghost use Rattle.wast_lexer.specs.TokenText.{IsOf, text_of};
+ghost use Rattle.wast_lexer.specs.TokenText.{IsOf, is_plain, text_of};
 ghost use Rattle.wast_grammar.specs.Tokens.{as_read, literal, string_value};
 ghost use Rattle.wast_grammar.specs.Grammar.{word, mark, id, string};
 ghost use Rattle.wast_parser_core.specs.State.{ahead, Keeps, place_ahead};
-ghost use Rattle.wast_parser_core.specs.Reading.{out_of_memory, Gives, SaysAt};
+ghost use Rattle.wast_parser_core.specs.Reading.{out_of_memory, Gives, SaysAt, WantsRoom};
 ghost use Rattle.wast_parser_core.specs.Literals.{literal_of, literal_from, IsTextOf};
 ghost use Rattle.wast_parser_core.specs.Productions.{ranged, name};
 
@@ -51,12 +51,13 @@ impl<'a> Parser<'a> {
         }
     }
 
-    /// Takes an identifier that has a name; answers the name, and where it stands. Refused where none is there, or for want of
-    /// memory; the parser stays then.
+    /// Takes an identifier that has a name; answers the name, and where it stands. Refused only where none is there, or for want of
+    /// memory where something is escaped in it; the parser stays then.
     pub fn id(&mut self) -> Result<(CowStr<'a, Global>, Span), Error>
         ensures read { Gives (λ x. (as_read (cow_str_bytes x.0), x.1)) result self.new (id.reads (ahead self.old)) }
         ensures keeps { Keeps self.old self.new }
         ensures stays { OnErr result (self.new ≡ self.old) }
+        ensures exact { OnErr result (WantsRoom self.old ⊎ (id.reads (ahead self.old) ≡ None)) }
     {
         match self.next()? {
             Some((token, after)) if is_id(token.kind) => match token.id(self.alloc(), self.text()) {
@@ -113,12 +114,13 @@ impl<'a> Parser<'a> {
         }
     }
 
-    /// Takes a string; answers the bytes that it stands for. Refused where none is there, or for want of memory; the parser stays
-    /// then.
+    /// Takes a string; answers the bytes that it stands for. Refused only where none is there, or for want of memory where something
+    /// is escaped in it; the parser stays then.
     pub fn string(&mut self) -> Result<Bytes<'a>, Error>
         ensures read { Gives (λ b. b) result self.new (string.reads (ahead self.old)) }
         ensures keeps { Keeps self.old self.new }
         ensures stays { OnErr result (self.new ≡ self.old) }
+        ensures exact { OnErr result (WantsRoom self.old ⊎ (string.reads (ahead self.old) ≡ None)) }
     {
         match self.next()? {
             Some((token, after)) if is_string(token.kind) => {
@@ -130,12 +132,13 @@ impl<'a> Parser<'a> {
         }
     }
 
-    /// Takes a string that is UTF-8; answers the text that it stands for. Refused where none is there, or for want of memory; the
-    /// parser stays then.
+    /// Takes a string that is UTF-8; answers the text that it stands for. Refused only where none is there, or for want of memory
+    /// where something is escaped in it; the parser stays then.
     pub fn name(&mut self) -> Result<CowStr<'a, Global>, Error>
         ensures read { Gives cow_str_bytes result self.new (name.reads (ahead self.old)) }
         ensures keeps { Keeps self.old self.new }
         ensures stays { OnErr result (self.new ≡ self.old) }
+        ensures exact { OnErr result (WantsRoom self.old ⊎ (name.reads (ahead self.old) ≡ None)) }
     {
         match self.next()? {
             Some((token, after)) if is_string(token.kind) => match self.text_of(token)? {
@@ -163,7 +166,8 @@ impl<'a> Parser<'a> {
     fn text_of(&self, token: Token) -> Result<Option<CowStr<'a, Global>>, Error>
         requires own { IsOf self.now.source.text token }
         requires kind { token.kind ≡ kinds.String }
-        ensures { MatchResult result (IsTextOf (string_value (text_of self.now.source.text token))) (λ e. e ≡ out_of_memory) }
+        ensures value { MatchResult result (IsTextOf (string_value (text_of self.now.source.text token))) (λ e. e ≡ out_of_memory) }
+        ensures plain { is_plain (text_of self.now.source.text token) ≡ true → IsOk result }
     {
         match token.string(self.alloc(), self.text())?.into_cow() {
             CowSlice::Borrowed(bytes) => match str::from_utf8(bytes) {

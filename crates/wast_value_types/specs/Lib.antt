@@ -2,6 +2,7 @@ pub mod ValueTree
 pub mod ValueSyntax
 pub mod ValueViews
 pub mod Unplaced
+pub mod Nameless
 pub mod Laws
 pub use Rattle.wast_words.specs.WordSyntax
 pub use Rattle.wast_words.specs.Tokens

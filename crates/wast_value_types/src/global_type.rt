@@ -1,10 +1,11 @@
 //! Global types.
-ghost use Rattle.std.specs.Prelude.{◌≡◌, ℕ, IfOk};
+ghost use Rattle.std.specs.Prelude.{◌≡◌, ℕ, IfOk, IsOk, true};
 ghost use Rattle.wast_words.specs.Tokens.{Name};
 ghost use Rattle.wast_words.specs.Lawful.{Lawful};
 ghost use Rattle.wast_value_types.specs.ValueTree as spec;
 ghost use Rattle.wast_value_types.specs.ValueSyntax.{shared_global, global_type};
 ghost use Rattle.wast_value_types.specs.ValueViews.{global_tree};
+ghost use Rattle.wast_value_types.specs.Nameless.{val_nameless};
 
 use crate::keyword::{Mut, Shared};
 use crate::val_type::ValType;
@@ -20,9 +21,10 @@ pub struct GlobalType<'a> {
 }
 
 impl<'a> GlobalType<'a> {
-    /// The same global type at the same place. Fails only for want of memory.
+    /// The same global type at the same place. Fails only for want of memory, of which one without a name needs none.
     pub fn clone(&self, alloc: Global) -> Result<Self, AllocError>
-        ensures { IfOk result (λ copy. copy ≡ self.now) }
+        ensures same { IfOk result (λ copy. copy ≡ self.now) }
+        ensures plain { val_nameless self.now.ty ≡ true → IsOk result }
     {
         Ok(GlobalType {
             ty: self.ty.clone(alloc)?,

@@ -1,5 +1,5 @@
 //! Heap types.
-ghost use Rattle.std.specs.Prelude.{◌≡◌, ℕ, IfOk, refl};
+ghost use Rattle.std.specs.Prelude.{◌≡◌, ℕ, IfOk, refl, IsOk, true};
 ghost use Rattle.wast_words.specs.Tokens.{Name};
 ghost use Rattle.wast_words.specs.Look.{ask};
 ghost use Rattle.wast_words.specs.Lawful.{Lawful, Leads};
@@ -10,6 +10,7 @@ ghost use Rattle.wast_value_types.specs.ValueTree as spec;
 ghost use Rattle.wast_words.specs.WordSyntax.{keyword, keywords};
 ghost use Rattle.wast_value_types.specs.ValueSyntax.{heap_words, heap_type, heap_starts};
 ghost use Rattle.wast_value_types.specs.ValueViews.{heap_word, heap_text, heap_tree};
+ghost use Rattle.wast_value_types.specs.Nameless.{heap_nameless};
 
 use crate::keyword::{Exact, Shared};
 use std::alloc::{AllocError, Global};
@@ -48,9 +49,10 @@ pub enum HeapType<'a> {
 }
 
 impl<'a> HeapType<'a> {
-    /// The same heap type at the same place. Fails only for want of memory.
+    /// The same heap type at the same place. Fails only for want of memory, of which one without a name needs none.
     pub fn clone(&self, alloc: Global) -> Result<Self, AllocError>
-        ensures { IfOk result (λ copy. copy ≡ self.now) }
+        ensures same { IfOk result (λ copy. copy ≡ self.now) }
+        ensures plain { heap_nameless self.now ≡ true → IsOk result }
     {
         match self {
             HeapType::Abstract { shared, ty } => Ok(HeapType::Abstract {

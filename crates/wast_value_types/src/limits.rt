@@ -1,5 +1,5 @@
 //! Limits, and address types.
-ghost use Rattle.std.specs.Prelude.{◌≡◌, ℕ, Bool};
+ghost use Rattle.std.specs.Prelude.{◌≡◌, ℕ, Bool, None, OnErr};
 ghost use Rattle.wast_words.specs.Tokens.{Name};
 ghost use Rattle.wast_words.specs.Lawful.{Lawful};
 ghost use Rattle.wast_words.specs.State.{ahead, Keeps};
@@ -41,15 +41,19 @@ impl<'a> Parse<'a> for Limits {
 }
 
 /// Reads an address type (6.4.8) where one stands; answers whether it is `i64`. Without one it is `i32`. Refused only where no token can be
-/// read here, or for want of memory.
+/// read here; the parser stays then.
 pub fn address_type(parser: &mut Parser<'_>) -> Result<bool, Error>
     ensures read { Gives (λ b. b) result parser.new (address_type.reads (ahead parser.old)) }
     ensures keeps { Keeps parser.old parser.new }
+    ensures stays { OnErr result (parser.new ≡ parser.old) }
+    ensures exact { OnErr result (address_type.reads (ahead parser.old) ≡ None) }
 {
-    let word: Option<Word<AddressType>> = parser.parse()?;
-    match word {
-        Some(word) => Ok(word.value.is64()),
-        None => Ok(false),
+    if !parser.peek::<Word<AddressType>>()? {
+        return Ok(false);
+    }
+    match parser.among::<Word<AddressType>>(AddressType::EXPECTED) {
+        Ok((word, _)) => Ok(word.value.is64()),
+        Err(e) => Err(e),
     }
 }
 

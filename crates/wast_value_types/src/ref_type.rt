@@ -1,5 +1,5 @@
 //! Reference types.
-ghost use Rattle.std.specs.Prelude.{◌≡◌, ℕ, Some, true, IfOk, IfSome, option_map, refl};
+ghost use Rattle.std.specs.Prelude.{◌≡◌, ℕ, Some, true, IfOk, IfSome, option_map, refl, IsOk};
 ghost use Rattle.wast_words.specs.Tokens.{Name};
 ghost use Rattle.wasm_encoder_base.specs.Types.{FuncHeap, ExternHeap, AnyHeap, EqHeap, I31Heap, StructHeap, ArrayHeap, ExnHeap, NoFuncHeap, NoExternHeap, NoneHeap, NoExnHeap};
 ghost use Rattle.wast_words.specs.Look.{ask};
@@ -11,6 +11,7 @@ ghost use Rattle.wast_value_types.specs.ValueTree.{HeapWord, Known, Cont, NoCont
 ghost use Rattle.wast_value_types.specs.ValueTree as spec;
 ghost use Rattle.wast_value_types.specs.ValueSyntax.{short_words, nullable, ref_body, ref_type, ref_starts};
 ghost use Rattle.wast_value_types.specs.ValueViews.{heap_word, short_text, ref_tree};
+ghost use Rattle.wast_value_types.specs.Nameless.{heap_nameless};
 
 use crate::heap_type::{AbstractHeapType, HeapType};
 use crate::keyword::{Null, Ref};
@@ -152,9 +153,10 @@ impl<'a> RefType<'a> {
         }
     }
 
-    /// The same reference type at the same place. Fails only for want of memory.
+    /// The same reference type at the same place. Fails only for want of memory, of which one without a name needs none.
     pub fn clone(&self, alloc: Global) -> Result<Self, AllocError>
-        ensures { IfOk result (λ copy. copy ≡ self.now) }
+        ensures same { IfOk result (λ copy. copy ≡ self.now) }
+        ensures plain { heap_nameless self.now.heap ≡ true → IsOk result }
     {
         Ok(RefType {
             nullable: self.nullable,

@@ -1,5 +1,5 @@
 //! Storage types and field types.
-ghost use Rattle.std.specs.Prelude.{◌≡◌, ℕ, IfOk, refl};
+ghost use Rattle.std.specs.Prelude.{◌≡◌, ℕ, IfOk, refl, IsOk, true};
 ghost use Rattle.wast_words.specs.Tokens.{Name};
 ghost use Rattle.wast_words.specs.Look.{ask};
 ghost use Rattle.wast_words.specs.Lawful.{Lawful, Leads};
@@ -10,6 +10,7 @@ ghost use Rattle.wast_value_types.specs.ValueTree.{Packed};
 ghost use Rattle.wast_value_types.specs.ValueTree as spec;
 ghost use Rattle.wast_value_types.specs.ValueSyntax.{packed_words, field_starts, storage_type, field_type};
 ghost use Rattle.wast_value_types.specs.ValueViews.{packed_type, packed_text, storage_tree, field_tree};
+ghost use Rattle.wast_value_types.specs.Nameless.{storage_nameless};
 
 use crate::keyword::Mut;
 use crate::val_type::ValType;
@@ -21,7 +22,6 @@ use wast_words::{
 
 /// A storage type (6.4.6): what a field holds.
 #[derive(Drop)]
-#[derive_where(PartialEq, Eq, Hash)]
 pub enum StorageType<'a> {
     I8,
     I16,
@@ -29,9 +29,10 @@ pub enum StorageType<'a> {
 }
 
 impl<'a> StorageType<'a> {
-    /// The same storage type at the same place. Fails only for want of memory.
+    /// The same storage type at the same place. Fails only for want of memory, of which one without a name needs none.
     pub fn clone(&self, alloc: Global) -> Result<Self, AllocError>
-        ensures { IfOk result (λ copy. copy ≡ self.now) }
+        ensures same { IfOk result (λ copy. copy ≡ self.now) }
+        ensures plain { storage_nameless self.now ≡ true → IsOk result }
     {
         match self {
             StorageType::I8 => Ok(StorageType::I8),

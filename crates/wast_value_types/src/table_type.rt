@@ -1,5 +1,5 @@
 //! Table types and memory types.
-ghost use Rattle.std.specs.Prelude.{◌≡◌, ℕ, IfOk};
+ghost use Rattle.std.specs.Prelude.{◌≡◌, ℕ, IfOk, IsOk, true};
 ghost use Rattle.wast_words.specs.Tokens.{Name};
 ghost use Rattle.wast_words.specs.Lawful.{Lawful};
 ghost use Rattle.wast_words.specs.State.{ahead, Keeps};
@@ -7,6 +7,7 @@ ghost use Rattle.wast_words.specs.Reading.{Gives};
 ghost use Rattle.wast_value_types.specs.ValueTree as spec;
 ghost use Rattle.wast_value_types.specs.ValueSyntax.{table_type, memory_type, page_size, power_of_two, exponent};
 ghost use Rattle.wast_value_types.specs.ValueViews.{table_tree, memory_tree};
+ghost use Rattle.wast_value_types.specs.Nameless.{heap_nameless};
 
 use crate::keyword::{PageSize, Shared};
 use crate::limits::Limits;
@@ -23,9 +24,10 @@ pub struct TableType<'a> {
 }
 
 impl<'a> TableType<'a> {
-    /// The same table type at the same place. Fails only for want of memory.
+    /// The same table type at the same place. Fails only for want of memory, of which one without a name needs none.
     pub fn clone(&self, alloc: Global) -> Result<Self, AllocError>
-        ensures { IfOk result (λ copy. copy ≡ self.now) }
+        ensures same { IfOk result (λ copy. copy ≡ self.now) }
+        ensures plain { heap_nameless self.now.elem.heap ≡ true → IsOk result }
     {
         Ok(TableType {
             limits: self.limits,
@@ -93,8 +95,8 @@ impl<'a> Parse<'a> for MemoryType {
     }
 }
 
-/// Reads `(pagesize n)` where it stands; answers the power to which 2 is n. Refused where n is no power of two that is a `u32`, where
-/// the group isn't spelled behind its word, or for want of memory.
+/// Reads `(pagesize n)` where it stands; answers the power to which 2 is n. Refused where no token can be read here, where n is no power of
+/// two that is a `u32`, where the group isn't spelled behind its word, or for want of memory.
 pub fn page_size(parser: &mut Parser<'_>) -> Result<Option<u32>, Error>
     ensures read { Gives (λ p. p) result parser.new (page_size.reads (ahead parser.old)) }
     ensures keeps { Keeps parser.old parser.new }

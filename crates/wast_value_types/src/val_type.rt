@@ -1,5 +1,5 @@
 //! Value types.
-ghost use Rattle.std.specs.Prelude.{◌≡◌, ℕ, IfOk, refl};
+ghost use Rattle.std.specs.Prelude.{◌≡◌, ℕ, IfOk, refl, IsOk, true};
 ghost use Rattle.wast_words.specs.Tokens.{Name};
 ghost use Rattle.wast_words.specs.Look.{ask};
 ghost use Rattle.wast_words.specs.Lawful.{Lawful, Leads};
@@ -10,6 +10,7 @@ ghost use Rattle.wast_value_types.specs.ValueTree.{Number};
 ghost use Rattle.wast_value_types.specs.ValueTree as spec;
 ghost use Rattle.wast_value_types.specs.ValueSyntax.{number_words, val_type, val_starts};
 ghost use Rattle.wast_value_types.specs.ValueViews.{number_type, number_text, val_tree};
+ghost use Rattle.wast_value_types.specs.Nameless.{val_nameless};
 
 use crate::ref_type::RefType;
 use std::alloc::{AllocError, Global};
@@ -31,9 +32,10 @@ pub enum ValType<'a> {
 }
 
 impl<'a> ValType<'a> {
-    /// The same value type at the same place. Fails only for want of memory.
+    /// The same value type at the same place. Fails only for want of memory, of which one without a name needs none.
     pub fn clone(&self, alloc: Global) -> Result<Self, AllocError>
-        ensures { IfOk result (λ copy. copy ≡ self.now) }
+        ensures same { IfOk result (λ copy. copy ≡ self.now) }
+        ensures plain { val_nameless self.now ≡ true → IsOk result }
     {
         match self {
             ValType::I32 => Ok(ValType::I32),

@@ -1,4 +1,5 @@
 pub mod JoinedLooks
+pub mod MaybeWord
 pub mod WordLaws
 pub use Rattle.wast_parser.proofs.GrammarLaws
 pub use Rattle.wast_parser.proofs.IdentifierLaws

@@ -2,6 +2,7 @@ pub mod WordSyntax
 pub use Rattle.wast_parser.specs.Cursors
 pub use Rattle.wast_parser.specs.Grammar
 pub use Rattle.wast_parser.specs.Identifiers
+pub use Rattle.wast_parser.specs.Indices
 pub use Rattle.wast_parser.specs.Integers
 pub use Rattle.wast_parser.specs.Lawful
 pub use Rattle.wast_parser.specs.Look

@@ -1,5 +1,5 @@
 //! Groups that begin with a word.
-ghost use Rattle.std.specs.Prelude.{◌≡◌, ℕ, [], ◌∷◌, refl};
+ghost use Rattle.std.specs.Prelude.{◌≡◌, ℕ, [], ◌∷◌, None, OnErr, refl};
 ghost use Rattle.wast_parser.specs.Tokens.{Name};
 ghost use Rattle.wast_parser.specs.Look.{ask, this_group};
 ghost use Rattle.wast_parser.specs.Grammar.{word, group};
@@ -67,11 +67,18 @@ pub fn group_of<'a, T: Parse<'a>>(parser: &mut Parser<'a>, word: &str) -> Result
     Ok(value)
 }
 
-/// Takes a word where it stands; answers whether it did. Refused only where no token can be read here, or for want of memory.
+/// Takes a word where it stands; answers whether it did. Refused only where no token can be read here; the parser stays then.
 pub fn optional<'a, N: KeywordName>(parser: &mut Parser<'a>) -> Result<bool, Error>
     ensures read { Gives (λ b. b) result parser.new ((optional N.word).reads (ahead parser.old)) }
     ensures keeps { Keeps parser.old parser.new }
+    ensures stays { OnErr result (parser.new ≡ parser.old) }
+    ensures exact { OnErr result ((optional N.word).reads (ahead parser.old) ≡ None) }
 {
-    let found: Option<Keyword<N>> = parser.parse()?;
-    Ok(found.is_some())
+    if !parser.peek::<Keyword<N>>()? {
+        return Ok(false);
+    }
+    match parser.word(N::text()) {
+        Ok(_) => Ok(true),
+        Err(e) => Err(e),
+    }
 }

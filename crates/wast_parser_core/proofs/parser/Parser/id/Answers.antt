@@ -9,7 +9,7 @@ use Rattle.wast_grammar.specs.Spelling.{that_id}
 use Rattle.wast_grammar.proofs.TextLaws.{id_named}
 use Rattle.wast_parser_core.specs.State.{State, ahead}
 use Rattle.wast_parser_core.specs.Reading.{ShowsNext, Refuses}
-use Rattle.wast_parser_core.proofs.Texts.{is_id, read_id, not_id, id_refused}
+use Rattle.wast_parser_core.proofs.Texts.{is_id, read_id, not_id, id_refused, id_unread}
 use Rattle.wast_parser_core.proofs.parser.Parser.id.Goals.{in_default-via-in-Some+else-is_id, in_default-via-in_default}
 use Rattle.wast_parser_core.proofs.parser.Parser.id.Goals as goal
 
@@ -33,6 +33,13 @@ returns-in-Err-clause-read c =
     let next = subst (λ o. ShowsNext (Ok o) s) c.in-Some.is c.in_ok-token.ensures in
     let fault = subst (λ x. IsIdFault (text_of x t) t.offset c.in-Err.fault) c.text.ensures c.in-Err.ensures.err in
     subst (λ p. Refuses p (one_of that_id (ahead s))) (sym c.from_fault.ensures) (id_refused s t c.in-Some.after c.in-Err.fault next (sym c.is_id.ensures.same ∙ c.if-is_id.true) fault)
+
+pub returns-in-Err-clause-exact : goal.returns-in-Err-clause-exact
+returns-in-Err-clause-exact c =
+    let s = c.args.self.now in
+    let t = c.in-Some.token in
+    let next = subst (λ o. ShowsNext (Ok o) s) c.in-Some.is c.in_ok-token.ensures in
+    id_unread s t c.in-Some.after c.in-Err.fault next (sym c.is_id.ensures.same ∙ c.if-is_id.true) (subst (λ x. IsIdFault (text_of x t) t.offset c.in-Err.fault) c.text.ensures c.in-Err.ensures.err)
 
 pub returns-in_default-clause-read : goal.returns-in_default-clause-read
 returns-in_default-clause-read c =
