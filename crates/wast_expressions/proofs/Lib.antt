@@ -12,7 +12,6 @@ pub mod PlainLaws
 pub mod PlainOutcome
 pub mod Progress
 pub mod ReadLaws
-pub mod Tokens
 pub mod TurnLaws
 pub mod Turned
 pub mod WholeLaws

@@ -2,13 +2,10 @@
 use Rattle.std.specs.Prelude.{◌≡◌, ◌≤◌, ◌+◌, ℕ, true, false, if◌then◌else◌, List, [], ◌∷◌, map, Option, Some, None, Result, Ok, Err}
 use Rattle.wast_grammar.specs.Tokens.{Name}
 use Rattle.wast_parser.specs.Reading.{Refuses}
-use Rattle.wast_parser.specs.State.{ahead, slack}
-use Rattle.wast_parser.specs.Cursors.{stands, Follows}
 use Rattle.wast_parser.specs.Grammar.{Syntax, words, one_of}
 use Rattle.wast_parser.specs.Look.{OneOf, holds}
 use Rattle.wast_parser.specs.Significant.{TextToken}
 use Rattle.wast_parser.specs.Spelling.{◌>>=◌, that_open, that_one}
-use Rattle.wast_parser_core.specs.declared.cursor.Cursor.{Cursor}
 use Rattle.wast_parser_base.specs.Problem.{Problem}
 use Rattle.wast_expressions.specs.declared.operation.GroupKind.{GroupKind}
 use Rattle.wast_expressions.specs.declared.operation.GroupKind.TheVariants as kinds
@@ -75,11 +72,6 @@ here tree u ts = machine.state (levels_tree tree u.stack) (out_tree tree u.out) 
 abbrev pub Turns : {A N P T : Type 0} → Result A Problem → Option (machine.State N P T) → machine.State N P T → Type 0
 Turns (Ok x) gives new = gives ≡ Some new
 Turns (Err p) gives new = Refuses p gives
-
--- a cursor's call takes a token that says something, or refuses where there is none
-abbrev pub Passes : {Y U : Type 0} → (TextToken → Option Y) → Cursor → Result (U × Cursor) Problem → Type 0
-Passes {Y} f c (Ok (u, d)) = (y : Y) × (one_of f (ahead (stands c)) ≡ Some (y, ahead (stands d))) × Follows c d × (slack (stands d) ≤ slack (stands c))
-Passes f c (Err p) = Refuses p (one_of f (ahead (stands c)))
 
 -- what is read behind a parenthesis that opens: a word
 abbrev pub arm_word : List ℕ → List TextToken → Option (ℕ × List TextToken)

@@ -1,21 +1,19 @@
 //! Parentheses that a loop opens and closes, in no order of calls: depth is left as it is.
-ghost use Rattle.std.specs.Prelude.{Some, None};
 ghost use Rattle.wast_parser.specs.Spelling.{that_open, that_close};
 ghost use Rattle.wast_parser.specs.Grammar.{one_of};
 ghost use Rattle.wast_parser.specs.State.{ahead, Keeps};
 ghost use Rattle.wast_parser.specs.Reading.{Gives};
-ghost use Rattle.wast_expressions.specs.Views.{Passes, arm_word};
+ghost use Rattle.wast_expressions.specs.Views.{arm_word};
 
-use wast_parser::{Cursor, Error, Keyword, KeywordName, LParen, Parser, Span, required};
+use wast_parser::{Error, Keyword, KeywordName, LParen, Parse, Parser, RParen, Span, required};
 
 /// Takes a parenthesis that opens; answers where it stands.
 pub(crate) fn open(parser: &mut Parser<'_>) -> Result<Span, Error>
     ensures read { Gives (λ s. s) result parser.new (one_of that_open (ahead parser.old)) }
     ensures keeps { Keeps parser.old parser.new }
 {
-    let span = parser.cur_span();
-    match parser.step(take_open) {
-        Ok(()) => Ok(span),
+    match LParen::parse(parser) {
+        Ok(parenthesis) => Ok(parenthesis.span),
         Err(e) => Err(e),
     }
 }
@@ -25,9 +23,8 @@ pub(crate) fn close(parser: &mut Parser<'_>) -> Result<Span, Error>
     ensures read { Gives (λ s. s) result parser.new (one_of that_close (ahead parser.old)) }
     ensures keeps { Keeps parser.old parser.new }
 {
-    let span = parser.cur_span();
-    match parser.step(take_close) {
-        Ok(()) => Ok(span),
+    match RParen::parse(parser) {
+        Ok(parenthesis) => Ok(parenthesis.span),
         Err(e) => Err(e),
     }
 }
@@ -45,22 +42,4 @@ pub(crate) fn open_word<N: KeywordName>(
     required::<LParen>(parser, group)?;
     let word = required::<Keyword<N>>(parser, word)?;
     Ok(word.span)
-}
-
-fn take_open<'b, 'a>(cursor: Cursor<'b, 'a>) -> Result<((), Cursor<'b, 'a>), Error>
-    ensures { Passes that_open cursor.entry result }
-{
-    match cursor.lparen()? {
-        Some(rest) => Ok(((), rest)),
-        None => Err(cursor.error("expected `(`")),
-    }
-}
-
-fn take_close<'b, 'a>(cursor: Cursor<'b, 'a>) -> Result<((), Cursor<'b, 'a>), Error>
-    ensures { Passes that_close cursor.entry result }
-{
-    match cursor.rparen()? {
-        Some(rest) => Ok(((), rest)),
-        None => Err(cursor.error("expected `)`")),
-    }
 }
