@@ -14,7 +14,7 @@ use std::alloc::AllocError;
 use wast_imports::{ImportGroup1Item, ImportItems, Imports, ItemKind, ItemSig, TagType};
 
 /// An external type (6.4.13). Fails only for want of memory, of which none is asked but for a type use without an index.
-pub fn change_item_kind<'a, C: Changing<'a>>(
+pub(crate) fn change_item_kind<'a, C: Changing<'a>>(
     change: &C,
     kind: &mut ItemKind<'a>,
 ) -> Result<(), AllocError>
@@ -38,7 +38,7 @@ pub fn change_item_kind<'a, C: Changing<'a>>(
 }
 
 /// An external type with what it is called. Fails only for want of memory, of which none is asked but for a type use without an index.
-pub fn change_item_sig<'a, C: Changing<'a>>(
+pub(crate) fn change_item_sig<'a, C: Changing<'a>>(
     change: &C,
     sig: &mut ItemSig<'a>,
 ) -> Result<(), AllocError>
@@ -49,7 +49,7 @@ pub fn change_item_sig<'a, C: Changing<'a>>(
 }
 
 /// What is imported from a module (6.6, imports); the name of the module stays. Fails only for want of memory.
-pub fn change_import_items<'a, C: Changing<'a>>(
+pub(crate) fn change_import_items<'a, C: Changing<'a>>(
     change: &C,
     items: &mut ImportItems<'a>,
 ) -> Result<(), AllocError>

@@ -30,22 +30,9 @@ mod value_types;
 mod vector_arg;
 
 pub use changing::{Changing, change_optional};
-pub use imports::{change_import_items, change_imports, change_item_kind, change_item_sig};
+pub use imports::change_imports;
 pub use instruction::change_instruction;
 pub use list::{ByChange, Each, TryEach, change_indices, try_turn_list, turn_list};
-pub use operands::{
-    change_handle, change_handlers, change_label_table, change_mem_arg, change_memory_arg,
-    change_struct_access, change_table_arg, change_target,
-};
 pub use rewriting::Rewriting;
-pub use typed_operands::{
-    change_block_type, change_call_indirect, change_catch, change_select_types, change_try_table,
-};
-pub use types::{
-    change_array_type, change_function_type, change_inner_type, change_rec, change_type_item,
-    change_type_use,
-};
-pub use value_types::{
-    change_global_type, change_heap_type, change_ref_type, change_storage_type, change_table_type,
-    change_val_type,
-};
+pub use types::{change_rec, change_type_item, change_type_use};
+pub use value_types::{change_global_type, change_ref_type, change_table_type, change_val_type};

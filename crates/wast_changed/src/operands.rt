@@ -17,21 +17,21 @@ use wast_operands::{
 use wast_parser::Index;
 
 /// A table that may be left out (6.5, table instructions).
-pub fn change_table_arg<'a, C: Changing<'a>>(change: &C, arg: &mut TableArg<'a>)
+pub(crate) fn change_table_arg<'a, C: Changing<'a>>(change: &C, arg: &mut TableArg<'a>)
     ensures { table_arg_tree arg.new ≡ option_map ((C.change change.now).index Tables) (table_arg_tree arg.old) }
 {
     change_optional(change, Space::Tables, &mut arg.dst);
 }
 
 /// A memory that may be left out (6.5, memory instructions).
-pub fn change_memory_arg<'a, C: Changing<'a>>(change: &C, arg: &mut MemoryArg<'a>)
+pub(crate) fn change_memory_arg<'a, C: Changing<'a>>(change: &C, arg: &mut MemoryArg<'a>)
     ensures { memory_arg_tree arg.new ≡ option_map ((C.change change.now).index Memories) (memory_arg_tree arg.old) }
 {
     change_optional(change, Space::Memories, &mut arg.mem);
 }
 
 /// The labels of `br_table`, and its default (6.5, control instructions).
-pub fn change_label_table<'a, C: Changing<'a>>(change: &C, table: &mut BrTableIndices<'a>)
+pub(crate) fn change_label_table<'a, C: Changing<'a>>(change: &C, table: &mut BrTableIndices<'a>)
     ensures labels { map index_tree table.new.labels.items ≡ map ((C.change change.now).index Labels) (map index_tree table.old.labels.items) }
     ensures default { index_tree table.new.default ≡ (C.change change.now).index Labels (index_tree table.old.default) }
 {
@@ -40,7 +40,7 @@ pub fn change_label_table<'a, C: Changing<'a>>(change: &C, table: &mut BrTableIn
 }
 
 /// A structure type and one of its fields (6.5, aggregate instructions).
-pub fn change_struct_access<'a, C: Changing<'a>>(change: &C, access: &mut StructAccess<'a>)
+pub(crate) fn change_struct_access<'a, C: Changing<'a>>(change: &C, access: &mut StructAccess<'a>)
     ensures owner { index_tree access.new.struct_type ≡ (C.change change.now).index Types (index_tree access.old.struct_type) }
     ensures field { index_tree access.new.field ≡ (C.change change.now).member (index_tree access.old.struct_type) (index_tree access.old.field) }
 {
@@ -63,7 +63,7 @@ pub(crate) fn change_type_and_index<'a, C: Changing<'a>>(
 }
 
 /// What a memory argument is of (6.5, memory instructions).
-pub fn change_target<'a, C: Changing<'a>>(change: &C, target: &mut MemArgTarget<'a>)
+pub(crate) fn change_target<'a, C: Changing<'a>>(change: &C, target: &mut MemArgTarget<'a>)
     ensures { target_tree target.new ≡ target_changed (C.change change.now) (target_tree target.old) }
 {
     match target {
@@ -73,7 +73,7 @@ pub fn change_target<'a, C: Changing<'a>>(change: &C, target: &mut MemArgTarget<
 }
 
 /// A memory argument (6.5, memory instructions).
-pub fn change_mem_arg<'a, C: Changing<'a>>(change: &C, memarg: &mut MemArg<'a>)
+pub(crate) fn change_mem_arg<'a, C: Changing<'a>>(change: &C, memarg: &mut MemArg<'a>)
     ensures { mem_arg_tree memarg.new ≡ mem_arg_changed (C.change change.now) (mem_arg_tree memarg.old) }
 {
     if let Some(target) = &mut memarg.target {
@@ -82,7 +82,7 @@ pub fn change_mem_arg<'a, C: Changing<'a>>(change: &C, memarg: &mut MemArg<'a>)
 }
 
 /// A handler of a continuation that is resumed.
-pub fn change_handle<'a, C: Changing<'a>>(change: &C, handle: &mut Handle<'a>)
+pub(crate) fn change_handle<'a, C: Changing<'a>>(change: &C, handle: &mut Handle<'a>)
     ensures { handle_tree handle.new ≡ handle_changed (C.change change.now) (handle_tree handle.old) }
 {
     if let Handle::OnLabel { label, .. } = handle {
@@ -95,7 +95,7 @@ pub fn change_handle<'a, C: Changing<'a>>(change: &C, handle: &mut Handle<'a>)
 }
 
 /// Handlers.
-pub fn change_handlers<'a, C: Changing<'a>>(change: &C, table: &mut ResumeTable<'a>)
+pub(crate) fn change_handlers<'a, C: Changing<'a>>(change: &C, table: &mut ResumeTable<'a>)
     ensures { handlers_tree table.new ≡ map (handle_changed (C.change change.now)) (handlers_tree table.old) }
 {
     turn_list(&ByChange { change }, &mut table.handlers);

@@ -25,7 +25,7 @@ use wast_value_types::RefType;
 
 /// A block's label and type (6.5, control instructions). Fails only for want of memory, of which none is asked for a block with an index or
 /// without a signature.
-pub fn change_block_type<'a, C: Changing<'a>>(
+pub(crate) fn change_block_type<'a, C: Changing<'a>>(
     change: &C,
     block: &mut BlockType<'a>,
 ) -> Result<(), AllocError>
@@ -49,7 +49,7 @@ fn change_block_use<'a, C: Changing<'a>>(
 }
 
 /// A clause of `try_table` (6.5, control instructions).
-pub fn change_catch<'a, C: Changing<'a>>(change: &C, clause: &mut TryTableCatch<'a>)
+pub(crate) fn change_catch<'a, C: Changing<'a>>(change: &C, clause: &mut TryTableCatch<'a>)
     ensures { catch_tree clause.new ≡ catch_changed (C.change change.now) (catch_tree clause.old) }
 {
     change.index(Space::Labels, &mut clause.label);
@@ -62,7 +62,7 @@ pub fn change_catch<'a, C: Changing<'a>>(change: &C, clause: &mut TryTableCatch<
 
 /// What stands behind `try_table` (6.5, control instructions). Fails only for want of memory, of which none is asked for a block with an
 /// index or without a signature.
-pub fn change_try_table<'a, C: Changing<'a>>(
+pub(crate) fn change_try_table<'a, C: Changing<'a>>(
     change: &C,
     table: &mut TryTable<'a>,
 ) -> Result<(), AllocError>
@@ -76,7 +76,7 @@ pub fn change_try_table<'a, C: Changing<'a>>(
 
 /// What stands behind an indirect call (6.5, control instructions). Fails only for want of memory, of which none is asked for where its
 /// type's index is written.
-pub fn change_call_indirect<'a, C: Changing<'a>>(
+pub(crate) fn change_call_indirect<'a, C: Changing<'a>>(
     change: &C,
     call: &mut CallIndirect<'a>,
 ) -> Result<(), AllocError>
@@ -104,7 +104,7 @@ pub(crate) fn change_cast<'a, C: Changing<'a>>(
 }
 
 /// The types of `select` (6.5, parametric instructions).
-pub fn change_select_types<'a, C: Changing<'a>>(change: &C, types: &mut SelectTypes<'a>)
+pub(crate) fn change_select_types<'a, C: Changing<'a>>(change: &C, types: &mut SelectTypes<'a>)
     ensures { select_types_tree types.new ≡ option_map (map (val_changed (C.change change.now))) (select_types_tree types.old) }
 {
     if let Some(types) = &mut types.tys {

@@ -16,7 +16,7 @@ use wast_meaning::Space;
 use wast_signatures::{FunctionType, Param, StructField, TypeUse};
 
 /// A signature (6.4.5).
-pub fn change_function_type<'a, C: Changing<'a>>(change: &C, ty: &mut FunctionType<'a>)
+pub(crate) fn change_function_type<'a, C: Changing<'a>>(change: &C, ty: &mut FunctionType<'a>)
     ensures { sig_tree ty.new ≡ sig_changed (C.change change.now) (sig_tree ty.old) }
 {
     turn_list(&ByChange { change }, &mut ty.params);
@@ -24,14 +24,14 @@ pub fn change_function_type<'a, C: Changing<'a>>(change: &C, ty: &mut FunctionTy
 }
 
 /// The type of an array (6.4.6).
-pub fn change_array_type<'a, C: Changing<'a>>(change: &C, ty: &mut ArrayType<'a>)
+pub(crate) fn change_array_type<'a, C: Changing<'a>>(change: &C, ty: &mut ArrayType<'a>)
     ensures { array_tree ty.new ≡ field_type_changed (C.change change.now) (array_tree ty.old) }
 {
     change_storage_type(change, &mut ty.ty);
 }
 
 /// What a composite type is (6.4.6).
-pub fn change_inner_type<'a, C: Changing<'a>>(change: &C, kind: &mut InnerTypeKind<'a>)
+pub(crate) fn change_inner_type<'a, C: Changing<'a>>(change: &C, kind: &mut InnerTypeKind<'a>)
     ensures { inner_tree kind.new ≡ inner_changed (C.change change.now) (inner_tree kind.old) }
 {
     match kind {

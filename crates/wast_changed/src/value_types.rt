@@ -11,7 +11,7 @@ use wast_meaning::Space;
 use wast_value_types::{GlobalType, HeapType, RefType, StorageType, TableType, ValType};
 
 /// A heap type (6.4.2).
-pub fn change_heap_type<'a, C: Changing<'a>>(change: &C, ty: &mut HeapType<'a>)
+pub(crate) fn change_heap_type<'a, C: Changing<'a>>(change: &C, ty: &mut HeapType<'a>)
     ensures { heap_tree ty.new ≡ heap_changed (C.change change.now) (heap_tree ty.old) }
 {
     match ty {
@@ -38,7 +38,7 @@ pub fn change_val_type<'a, C: Changing<'a>>(change: &C, ty: &mut ValType<'a>)
 }
 
 /// A storage type (6.4.6).
-pub fn change_storage_type<'a, C: Changing<'a>>(change: &C, ty: &mut StorageType<'a>)
+pub(crate) fn change_storage_type<'a, C: Changing<'a>>(change: &C, ty: &mut StorageType<'a>)
     ensures { storage_tree ty.new ≡ storage_changed (C.change change.now) (storage_tree ty.old) }
 {
     if let StorageType::Val(ty) = ty {

@@ -35,4 +35,4 @@ mod types;
 
 pub use judge::{Judge, Judgement};
 pub use mention::Mention;
-pub use tell::{Mentions, Tell, tell_each, tell_index, tell_index_if, tell_indices};
+pub use tell::{Mentions, Tell, tell_each, tell_index_if, tell_indices};

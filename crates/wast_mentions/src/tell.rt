@@ -40,7 +40,7 @@ pub fn tell_each<'a, J: Judge<'a>, T: Tell<'a, J>>(items: &[T], judge: &J) -> Re
 }
 
 /// Tells of an index of a space; answers the judge's fault where something it asks isn't so.
-pub fn tell_index<'a, J: Judge<'a>>(
+pub(crate) fn tell_index<'a, J: Judge<'a>>(
     space: Space,
     index: &Index<'a>,
     judge: &J,

@@ -78,7 +78,7 @@ impl Signatures {
 
     /// Whether a signature is that of the function type with this number, where names mean what they do in this space of types. Where there
     /// is no such type, any is.
-    pub fn agrees<'a>(
+    pub(crate) fn agrees<'a>(
         &self,
         number: u32,
         signature: &FunctionType<'a>,
