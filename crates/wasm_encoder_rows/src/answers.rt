@@ -11,8 +11,14 @@ use wasm_encoder_code::ConstExpr;
 pub fn answer(page: &Page, line: &str) {
     let (word, rest) = first_word(line);
     match word {
-        "unsigned" => unsigned(page, rest.parse().unwrap_or(0)),
-        "signed" => signed(page, rest.parse().unwrap_or(0)),
+        "unsigned" => match rest.parse() {
+            Ok(number) => unsigned(page, number),
+            Err(_) => page.put("no such number\n"),
+        },
+        "signed" => match rest.parse() {
+            Ok(number) => signed(page, number),
+            Err(_) => page.put("no such number\n"),
+        },
         "name" => named(page, rest),
         "bytes" => numbers(page, rest),
         _ => page.put("no such word\n"),
@@ -59,7 +65,8 @@ fn named(page: &Page, name: &str) {
 /// The numbers at the front, and the function's index where the bytes begin with a `ref.func`.
 fn numbers(page: &Page, words: &str) {
     match bytes_of(page.alloc(), words) {
-        Ok(bytes) => print_numbers(page, words, bytes.as_slice()),
+        Ok(Some(bytes)) => print_numbers(page, words, bytes.as_slice()),
+        Ok(None) => page.put("no such bytes\n"),
         Err(error) => page.fail(error),
     }
 }
@@ -82,11 +89,14 @@ fn function_of(alloc: Global, bytes: &[u8]) -> Option<u32> {
     }
 }
 
-/// The bytes that words in hexadecimal stand for.
-fn bytes_of(alloc: Global, words: &str) -> Result<Vec<u8>, AllocError> {
+/// The bytes that words in hexadecimal stand for, where each is one.
+fn bytes_of(alloc: Global, words: &str) -> Result<Option<Vec<u8>>, AllocError> {
     let mut bytes = Vec::new(alloc);
     for word in words.split_whitespace() {
-        bytes.push(u8::from_str_radix(word, 16).unwrap_or(0))?;
+        match u8::from_str_radix(word, 16) {
+            Ok(byte) => bytes.push(byte)?,
+            Err(_) => return Ok(None),
+        }
     }
-    Ok(bytes)
+    Ok(Some(bytes))
 }
