@@ -3,16 +3,23 @@ use Rattle.std.specs.Prelude.{ℕ, ◌≡◌, false, if◌then◌else◌, List, 
 use Rattle.std.specs.List.{AllByRecursion}
 use Rattle.wasm_encoder_code.specs.Body.{joined}
 use Rattle.wasm_layout.specs.Section.{Names}
-use Rattle.wasm_layout.specs.AbstractModule.{NameMaps, AbstractModule}
+use Rattle.wasm_layout.specs.AbstractModule.{Function, NameMaps, AbstractModule}
 use Rattle.wasm_layout.specs.Present.{is_present, is_called}
-use Rattle.wasm_layout.specs.Layout.{contents, pieces, layout}
+use Rattle.wasm_layout.specs.Layout.{Piece, contents, pieces, layout}
 use Rattle.wasm_layout.specs.IsModule.{IsU32, IsModule}
 
--- The size of each section is a number of 32 bits, and with it each count and length inside; so is the count of locals of one type side
--- by side, which takes no more bytes where it is larger.
+-- the size of each section is a number of 32 bits, and with it each count and length inside
+abbrev pub PiecesFit : List Piece → Type 0
+PiecesFit ps = AllByRecursion (λ p. IsU32 (length (contents p))) ps
+
+-- so is the count of locals of one type side by side, which takes no more bytes where it is larger
+abbrev pub RunsFit : Function → Type 0
+RunsFit f = AllByRecursion (λ r. IsU32 r.count) (joined f.body.locals)
+
+-- both are so of a module
 pub record Fits (m : AbstractModule (List ℕ)) : Type 0 where
-  pub sizes : AllByRecursion (λ p. IsU32 (length (contents p))) (pieces m)
-  pub locals : AllByRecursion (λ f. AllByRecursion (λ r. IsU32 r.count) (joined f.body.locals)) m.functions
+  pub sizes : PiecesFit (pieces m)
+  pub locals : AllByRecursion RunsFit m.functions
 
 -- b is the binary of m
 pub record Lays (b : List ℕ) (m : AbstractModule (List ℕ)) : Type 0 where

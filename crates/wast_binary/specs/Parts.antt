@@ -1,14 +1,14 @@
 -- What stands at each stop of a module of resolved fields, and when its numbers are in the ranges of their binary fields.
 use Rattle.std.specs.Prelude.{ℕ, List, Option}
 use Rattle.std.specs.List.{flat_map, AllByRecursion}
-use Rattle.wasm_encoder_code.specs.Body.{joined}
 use Rattle.wast_grammar.specs.Tokens.{Name}
 use Rattle.wast_grammar.specs.Spelling.{same_name}
 use Rattle.wast_parser.specs.Identifiers.{Named}
 use Rattle.wast_module_fields.specs.FieldTree.{Field}
-use Rattle.wasm_layout.specs.AbstractModule.{Function, AbstractModule}
+use Rattle.wasm_layout.specs.AbstractModule.{AbstractModule}
 use Rattle.wasm_layout.specs.IsModule.{IsU32, IfThere, IsEntry, IsImport, IsTable, IsGlobal, IsExport, IsElement, IsData, IsLimits}
 use Rattle.wasm_layout.specs.Layout.{Piece, section}
+use Rattle.wasm_layout.specs.Lays.{RunsFit}
 use Rattle.wasm_layout.specs.Present.{is_present}
 use Rattle.wasm_layout.specs.Section.{SectionKind, Types, Imports, Functions, Tables, Memories, Tags, Globals, Exports, Starts, Elements, DataCount, Hints, Codes, Datas, Names}
 use Rattle.wast_meant.specs.CustomsMeant.{customs_in, at_place, Stop, At, Of}
@@ -26,10 +26,6 @@ module_of given id fs = in_bytes (meant same_name is_made (given_name is_made gi
 -- the pieces at a stop
 abbrev pub pieces_of : List (Field Name ℕ) → AbstractModule (List ℕ) → Stop → List Piece
 pieces_of fs m stop = stop_pieces (at_place (flat_map customs_in fs)) (is_present m) (section m) stop
-
--- the count of locals of one type side by side is a number of 32 bits
-abbrev pub RunsFit : Function → Type 0
-RunsFit f = AllByRecursion (λ r. IsU32 r.count) (joined f.body.locals)
 
 -- the numbers of a section are in the ranges of their binary fields; those of name maps and hints are by what is known of the fields
 abbrev pub KindSound : AbstractModule (List ℕ) → SectionKind → Type 0

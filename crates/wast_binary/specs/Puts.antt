@@ -10,21 +10,17 @@ use Rattle.wasm_encoder_sections.specs.Sections.{start_section, data_count_secti
 use Rattle.wasm_encoder.specs.Module.{numbered}
 use Rattle.wasm_layout.specs.AbstractModule.{NameMaps, AbstractModule}
 use Rattle.wasm_layout.specs.IsModule.{IsU32, AreNames}
-use Rattle.wasm_layout.specs.Layout.{Piece, contents, piece_bytes, name_bytes}
-use Rattle.wasm_layout.specs.Lays.{Fits}
+use Rattle.wasm_layout.specs.Layout.{Piece, piece_bytes, name_bytes}
+use Rattle.wasm_layout.specs.Lays.{PiecesFit, Fits}
 use Rattle.wasm_layout.specs.Present.{has_names}
-
--- the size of each is a number of 32 bits
-abbrev pub SizesFit : List Piece → Type 0
-SizesFit ps = AllByRecursion (λ p. IsU32 (length (contents p))) ps
 
 -- The pieces stand behind what was there before, their sizes fit, and this holds; it was too large only where a size doesn't fit, or the
 -- whole module doesn't.
 pub record Puts (m : AbstractModule (List ℕ)) (ps : List Piece) (Sound : Type 0) (before after : List ℕ) (result : Result (Unit {0}) EncodeError) : Type 0 where
   pub put : OnOk result (after ≡ before ++ flat_map piece_bytes ps)
-  pub sizes : OnOk result (SizesFit ps)
+  pub sizes : OnOk result (PiecesFit ps)
   pub sound : OnOk result Sound
-  pub too_large : IsErrOf result TooLarge → Fits m → SizesFit ps → ⊥
+  pub too_large : IsErrOf result TooLarge → Fits m → PiecesFit ps → ⊥
 
 -- A section that is a list, behind its number, if there are items.
 abbrev pub list_bytes : {A : Type 0} → ℕ → (A → List ℕ) → List A → List ℕ

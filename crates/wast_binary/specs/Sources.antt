@@ -1,5 +1,4 @@
--- What contracts see of what is encoded, an identifier, a `@name` and fields: the module that they stand for, what stands at its stops, and its
--- name maps.
+-- What contracts see of what is encoded, an identifier, a `@name` and fields: the module that they stand for, and what stands at its stops.
 use Rattle.std.specs.Prelude.{ℕ, List, Option, map, option_map}
 use Rattle.wast_grammar.specs.Tokens.{Name}
 use Rattle.wast_parser_base.specs.Identifier.{Identifier}
@@ -9,10 +8,9 @@ use Rattle.wast_signatures.specs.SignatureViews.{name_tree}
 use Rattle.wast_module_fields.specs.FieldTree.{Field}
 use Rattle.wast_module_fields.specs.ModuleFieldViews.{field_tree}
 use Rattle.wast_module_fields.specs.declared.field.ModuleField.{ModuleField}
-use Rattle.wasm_layout.specs.AbstractModule.{NameMaps, AbstractModule}
+use Rattle.wasm_layout.specs.AbstractModule.{AbstractModule}
 use Rattle.wasm_layout.specs.Layout.{Piece}
 use Rattle.wast_meant.specs.CustomsMeant.{Stop}
-use Rattle.wast_name_maps.specs.Maps.{maps_in}
 use Rattle.wast_binary.specs.Parts.{module_of, pieces_of}
 
 abbrev pub fields_in : List ModuleField → List (Field Name ℕ)
@@ -24,6 +22,3 @@ module _ (id : Option Identifier) (name : Option NameAnnotation) (fields : List 
 
   abbrev pub pieces_at : Stop → List Piece
   pieces_at stop = pieces_of (fields_in fields) module_in stop
-
-  abbrev pub maps_of : NameMaps (List ℕ)
-  maps_of = maps_in (option_map name_tree name) (option_map identifier_tree id) (fields_in fields)

@@ -13,12 +13,12 @@ ghost use Rattle.wast_binary.specs.DataCount as spec;
 ghost use Rattle.wast_binary.specs.DataCount.{field_says_data};
 ghost use Rattle.wast_binary.specs.Puts.{PutsCount};
 
-use crate::put::put_section;
 use wasm_encoder::Module;
 use wasm_encoder_base::EncodeError;
 use wasm_encoder_sections::DataCountSection;
 use wast_conversions::as_u32;
 use wast_core_instr::{BulkOp, GcOp, Instruction};
+use wast_custom_sections::add_section;
 use wast_module_fields::{Func, FuncKind, ModuleField};
 
 /// Appends the section of the count of data segments, if a function refers to one.
@@ -40,7 +40,7 @@ fn put_count(count: usize, module: &mut Module) -> Result<(), EncodeError>
     ensures { Encodes (numbered 12 (data_count_section count)) (IsU32 count) «module».old «module».new result }
 {
     let count = as_u32(count)?;
-    put_section(&DataCountSection { count }, module)
+    add_section(&DataCountSection { count }, module)
 }
 
 /// How many data segments there are.

@@ -2,11 +2,10 @@
 ghost use Rattle.std.specs.Prelude.{◌≡◌, IfOk, OnOk, IsErrOf};
 ghost use Rattle.std.specs.List.{flat_map, AllByRecursion};
 ghost use Rattle.wasm_layout.specs.Layout.{piece_bytes, pieces};
-ghost use Rattle.wasm_layout.specs.Lays.{Fits, Lays};
+ghost use Rattle.wasm_layout.specs.Lays.{Fits, Lays, PiecesFit};
 ghost use Rattle.wast_meant.specs.CustomsMeant.{stops};
 ghost use Rattle.wast_binary.specs.Can.{CanEncode};
 ghost use Rattle.wast_binary.specs.Parts.{StopSound};
-ghost use Rattle.wast_binary.specs.Puts.{SizesFit};
 ghost use Rattle.wast_binary.specs.Sources.{fields_in, module_in};
 ghost use Rattle.wast_binary.specs.Weight.{AreFew};
 
@@ -68,7 +67,7 @@ fn sections_of<'n, 'a>(
     requires can { CanEncode (fields_in fields.now) }
     requires few { AreFew (fields_in fields.now) }
     ensures put { IfOk result (λ sections. sections ≡ flat_map piece_bytes (pieces (module_in id.now name.now fields.now))) }
-    ensures sizes { OnOk result (SizesFit (pieces (module_in id.now name.now fields.now))) }
+    ensures sizes { OnOk result (PiecesFit (pieces (module_in id.now name.now fields.now))) }
     ensures sound { OnOk result (AllByRecursion (StopSound (module_in id.now name.now fields.now)) stops) }
     ensures too_large { IsErrOf result EncodeError.TooLarge → ¬ (Fits (module_in id.now name.now fields.now)) }
 {

@@ -5,13 +5,14 @@ ghost use Rattle.wasm_layout.specs.Present.{is_called};
 ghost use Rattle.wast_module_fields.specs.ModuleFieldViews.{field_tree};
 ghost use Rattle.wast_meaning.specs.Settled.{are_settled};
 ghost use Rattle.wast_meant.specs.CustomsMeant.{custom_of, customs_in};
+ghost use Rattle.wast_name_maps.specs.Kinds.{maps_of};
 ghost use Rattle.wast_binary.specs.Puts.{PutsNames};
-ghost use Rattle.wast_binary.specs.Sources.{fields_in, maps_of};
+ghost use Rattle.wast_binary.specs.Sources.{fields_in};
 
-use crate::put::put_section;
 use std::alloc::Global;
 use wasm_encoder::Module;
 use wasm_encoder_base::EncodeError;
+use wast_custom_sections::add_section;
 use wast_module_fields::ModuleField;
 use wast_name_maps::name_section;
 use wast_parser::{Id, NameAnnotation};
@@ -28,7 +29,7 @@ pub(crate) fn put_names<'n, 'a>(
 ) -> Result<(), EncodeError>
     requires customs { flat_map customs_in (fields_in customs.now) ≡ flat_map customs_in (fields_in fields.now) }
     requires settled { are_settled (fields_in fields.now) ≡ true }
-    ensures { PutsNames (is_called (codes "name") (map custom_of (flat_map customs_in (fields_in fields.now)) ∷ [])) (maps_of id.now name.now fields.now) «module».old «module».new result }
+    ensures { PutsNames (is_called (codes "name") (map custom_of (flat_map customs_in (fields_in fields.now)) ∷ [])) (maps_of name.now id.now fields.now) «module».old «module».new result }
 {
     if is_name_taken(customs) {
         Ok(())
@@ -46,10 +47,10 @@ fn put_names_of<'n, 'a>(
     module: &mut Module,
 ) -> Result<(), EncodeError>
     requires { are_settled (fields_in fields.now) ≡ true }
-    ensures { PutsNames false (maps_of id.now name.now fields.now) «module».old «module».new result }
+    ensures { PutsNames false (maps_of name.now id.now fields.now) «module».old «module».new result }
 {
     match name_section(alloc, id, name, fields) {
-        Ok(Some(section)) => put_section(&section, module),
+        Ok(Some(section)) => add_section(&section, module),
         Ok(None) => Ok(()),
         Err(e) => Err(e),
     }

@@ -5,15 +5,7 @@ ghost use Rattle.wast_binary.specs.Puts.{unless, FitsUnless};
 
 use wasm_encoder::Module;
 use wasm_encoder_base::{EncodeError, Section};
-
-/// Appends a section.
-pub(crate) fn put_section<S: Section>(section: &S, module: &mut Module) -> Result<(), EncodeError>
-    requires { S.Encode.can_encode section.now }
-    ensures { Encodes (numbered (S.section_id section.now) (S.Encode.spelling section.now)) (S.Encode.fits section.now) «module».old «module».new result }
-{
-    module.section(section)?;
-    Ok(())
-}
+use wast_custom_sections::add_section;
 
 /// Appends a section, unless it is empty.
 pub(crate) fn put_unless_empty<S: Section>(
@@ -27,6 +19,6 @@ pub(crate) fn put_unless_empty<S: Section>(
     if is_empty {
         Ok(())
     } else {
-        put_section(section, module)
+        add_section(section, module)
     }
 }

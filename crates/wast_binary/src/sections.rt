@@ -18,10 +18,11 @@ ghost use Rattle.wast_section_items.specs.Ready.{FieldReady};
 ghost use Rattle.wast_section_items.specs.Sound.{TypeSound, BodySound};
 ghost use Rattle.wast_binary.specs.Puts.{PutsList, start_bytes};
 
-use crate::put::{put_section, put_unless_empty};
+use crate::put::put_unless_empty;
 use std::alloc::Global;
 use wasm_encoder::Module;
 use wasm_encoder_base::EncodeError;
+use wast_custom_sections::add_section;
 use wast_module_fields::ModuleField;
 use wast_sections::{
     codes, datas, elements, exports, functions, globals, imports, memories, start, tables, tags,
@@ -200,7 +201,7 @@ pub(crate) fn put_start(fields: &[ModuleField<'_>], module: &mut Module) -> Resu
     ensures sound { IfThere IsU32 (slice_get (flat_map starts_of (map field_tree fields.now)) 0) }
 {
     match start(fields) {
-        Some(section) => put_section(&section, module),
+        Some(section) => add_section(&section, module),
         None => Ok(()),
     }
 }

@@ -7,18 +7,18 @@ use Rattle.wast_mnemonics.specs.Heads.{Head, Listed, Unlisted}
 use Rattle.wast_core_instr.specs.InstructionTree.{Instruction}
 use Rattle.wast_conversions.specs.Operands.{operands_meant}
 
--- the opcode of the table's entry, and what it says of operands
+-- the opcode of the table's entry, and what it says of operands; nothing of those of an instruction that the table doesn't list
 abbrev pub opcode_of : Head → List ℕ
 opcode_of (Listed e) = e.opcode
 opcode_of (Unlisted mnemonic) = []
 
-abbrev pub syntax_of : Head → OperandSyntax
-syntax_of (Listed e) = e.operands
-syntax_of (Unlisted mnemonic) = Plain
+abbrev pub listed_syntax_of : Head → OperandSyntax
+listed_syntax_of (Listed e) = e.operands
+listed_syntax_of (Unlisted mnemonic) = Plain
 
 module _ {N P : Type 0} where
   abbrev pub instr_meant : Instruction N P → binary.Instr
-  instr_meant i = record { opcode = opcode_of i.head; operands = operands_meant (syntax_of i.head) i.operands }
+  instr_meant i = record { opcode = opcode_of i.head; operands = operands_meant (listed_syntax_of i.head) i.operands }
 
   abbrev pub instrs_meant : List (Instruction N P) → List binary.Instr
   instrs_meant is = map instr_meant is

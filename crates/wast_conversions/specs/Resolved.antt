@@ -6,14 +6,11 @@ use Rattle.wast_value_types.specs.ValueTree.{HeapType, Abstract, Concrete, Exact
 use Rattle.wast_signatures.specs.TypeTree.{Sig, InnerType, FuncType, StructType, ArrayType, ContType, TypeDef, TypeUse}
 use Rattle.wast_operands.specs.OperandTree.{MemArgTarget, Memory, Array, MemArg, Handle, OnLabel, OnSwitch}
 use Rattle.wast_typed_operands.specs.TypedTree.{Catch, CatchTag, CatchTagRef, CatchAll, CatchAllRef}
-use Rattle.wast_imports.specs.ImportTree.{ExternType, OfFunc, OfExactFunc, OfTable, OfMemory, OfGlobal, OfTag}
+use Rattle.wast_imports.specs.ImportTree.{ExternType, OfFunc, OfExactFunc, OfTable, OfMemory, OfGlobal, OfTag, ImportItems, Single, Group1, Group2}
 use Rattle.wast_core_instr.specs.InstructionTree.{Operands, Instruction}
 use Rattle.wast_core_instr.specs.InstructionTree as instr
-
 -- of what may be left out, where it is there
-abbrev pub IfThere : {X : Type 0} → (X → Type 0) → Option X → Type 0
-IfThere P None = Unit {0}
-IfThere P (Some x) = P x
+pub use Rattle.wasm_layout.specs.IsModule.{IfThere}
 
 module _ {N P : Type 0} where
   abbrev pub IsNumber : Reference N P → Type 0
@@ -60,6 +57,12 @@ module _ {N P : Type 0} where
   ExternResolved (OfMemory t) = Unit {0}
   ExternResolved (OfGlobal t) = ValResolved t.val_type
   ExternResolved (OfTag u) = UseResolved u
+
+  -- what is imported (6.6, imports)
+  abbrev pub ImportResolved : ImportItems N P → Type 0
+  ImportResolved (Single name i) = ExternResolved i.extern_type
+  ImportResolved (Group1 is) = All (λ i. ExternResolved i.1.extern_type) is
+  ImportResolved (Group2 names i) = ExternResolved i.extern_type
 
   -- the type of a block (6.5, control instructions), which needs no index without parameters and with at most one result
   abbrev pub ResultsResolved : List (ValType N P) → Type 0

@@ -12,11 +12,11 @@ use Rattle.wast_core_instr.specs.declared.instruction.Instruction.TheVariants as
 use Rattle.wast_mnemonics.specs.declared.word.Word.{Word}
 use Rattle.wast_mnemonics.specs.Heads.{head}
 use Rattle.wast_mnemonics.specs.Words.{entry_of}
-use Rattle.wast_conversions.specs.Instructions.{syntax_of, instr_meant}
+use Rattle.wast_conversions.specs.Instructions.{listed_syntax_of, instr_meant}
 
 -- the operands of a word's entry; where two entries of the table have it, of the first
 unfoldable pub row_of : Word → OperandSyntax
-row_of w = syntax_of (head (entry_of w) false)
+row_of w = listed_syntax_of (head (entry_of w) false)
 
 -- the instruction is that of the second entry of its mnemonic, or of the first, where there are two
 abbrev pub GcChosen : GcOp → (second : Bool) → Type 0

@@ -1,6 +1,6 @@
 -- The syntax of modules (WebAssembly 3.0, 6.6, modules).
-use Rattle.std.specs.Prelude.{false, List, [], ◌∷◌, None, codes}
-use Rattle.wast_parser.specs.Look.{On, AString, Any, this_word, this_group}
+use Rattle.std.specs.Prelude.{List, [], ◌∷◌, None, codes}
+use Rattle.wast_parser.specs.Look.{this_word, this_group, string_starts}
 use Rattle.wast_parser.specs.Grammar.{Syntax, word, string, seen, only, seq, many, either, led, paren}
 use Rattle.wast_imports.specs.ImportSyntax.{Head, head}
 use Rattle.wast_module_fields.specs.FieldTree.{Field, field_place, one_start, Content, Fields, Pieces, Module}
@@ -12,7 +12,7 @@ module _ {N P : Type 0} where
   fields = only one_start (many field_starts field)
 
   abbrev pub content : Syntax N P (Content N P)
-  content = either (this_word (codes "binary") ∷ []) (seen Pieces (led (codes "binary") (many (On false AString Any ∷ []) string))) (seen Fields fields)
+  content = either (this_word (codes "binary") ∷ []) (seen Pieces (led (codes "binary") (many string_starts string))) (seen Fields fields)
 
   abbrev pub as_module : P × (Head N P × Content N P) → Module N P
   as_module m = record { place = m.0; id = m.1.0.0; given = m.1.0.1; content = m.1.1; refusal = None }

@@ -2,12 +2,12 @@
 use Rattle.std.specs.Prelude.{true, false, List, [], ◌∷◌, map}
 use Rattle.wasm_encoder_base.specs.OperandSyntax.{OperandSyntax}
 use Rattle.wasm_encoder_base.specs.OperandSyntax as rows
-use Rattle.wast_typed_operands.specs.Look.{Test, On, AWord, OneOf, join, faults}
+use Rattle.wast_typed_operands.specs.Look.{Test, On, AWord, OneOf, join, faults, id_starts, index_starts}
 use Rattle.wast_typed_operands.specs.Grammar.{Syntax, among, nothing, next, seen, maybe}
 use Rattle.wast_typed_operands.specs.Identifiers.{identifier, index}
-use Rattle.wast_typed_operands.specs.ValueSyntax.{index_starts, heap_starts, ref_starts, heap_type, ref_type}
+use Rattle.wast_typed_operands.specs.ValueSyntax.{heap_starts, ref_starts, heap_type, ref_type}
 use Rattle.wast_vector_operands.specs.VectorSyntax.{float_starts, shape_starts, signed_literal, float_literal, lane, shuffle, vector}
-use Rattle.wast_operands.specs.OperandSyntax.{id_starts, lane_starts, handle_starts, two_indices, index_count, label_table, optional_index, optional_indices, one_or_two, optional_ordering, mem_arg, mem_arg_lane, resume, resume_throw}
+use Rattle.wast_operands.specs.OperandSyntax.{lane_starts, handle_starts, two_indices, index_count, label_table, optional_index, optional_indices, one_or_two, optional_ordering, mem_arg, mem_arg_lane, resume, resume_throw}
 use Rattle.wast_operands.specs.OperandSyntax as behind
 use Rattle.wast_typed_operands.specs.TypedSyntax.{use_starts, catch_starts, block, try_table, indirect, cast, select_types}
 use Rattle.wast_mnemonics.specs.TextTable.{TextOperands, TextEntry, text_table}

@@ -105,7 +105,8 @@ impl<'a> Expression<'a> {
     }
 
     /// Reads `(instruction plain*)`: the operands' instructions in order, and then the one that heads the group. The word of a block
-    /// is read as any other: it opens nothing, and no `end` is put behind it. No hint may stand among them. Refused where none is spelled here, or for want of memory.
+    /// is read as any other: it opens nothing, and no `end` is put behind it. No hint may stand among them. Refused where none is spelled here, or
+    /// for want of memory.
     pub fn parse_plain(parser: &mut Parser<'a>) -> Result<Self, Error>
         ensures read { Gives expression_tree result parser.new ((seen (without_hints instruction instruction_heads) (plain instruction instruction_heads)).reads (ahead parser.old)) }
         ensures keeps { Keeps parser.old parser.new }

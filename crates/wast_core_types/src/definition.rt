@@ -1,7 +1,7 @@
 //! Type definitions.
 ghost use Rattle.std.specs.Prelude.{◌≡◌, ℕ, List, Option, option_map, refl};
 ghost use Rattle.wast_grammar.specs.Tokens.{Name};
-ghost use Rattle.wast_parser.specs.Look.{ask};
+ghost use Rattle.wast_parser.specs.Look.{ask, type_starts};
 ghost use Rattle.wast_parser.specs.Lawful.{Lawful, Leads};
 ghost use Rattle.wast_parser.specs.Significant.{TextToken};
 ghost use Rattle.wast_parser.specs.State.{ahead};
@@ -9,7 +9,7 @@ ghost use Rattle.wast_parser.specs.Reading.{Asks};
 ghost use Rattle.wast_parser.specs.Cursors.{stands};
 ghost use Rattle.wast_parser.specs.Identifiers.{Reference, index_tree};
 ghost use Rattle.wast_signatures.specs.TypeTree as spec;
-ghost use Rattle.wast_signatures.specs.TypeSyntax.{type_starts, described, sub_type, type_def, type_body, type_item, rec_group, as_definition};
+ghost use Rattle.wast_signatures.specs.TypeSyntax.{described, sub_type, type_def, type_body, type_item, rec_group, as_definition};
 ghost use Rattle.wast_core_types.specs.TypeViews.{comp_tree, definition_tree, item_tree, rec_tree};
 
 use crate::composite::{CompositeType, InnerTypeKind};

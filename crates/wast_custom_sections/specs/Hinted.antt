@@ -1,5 +1,5 @@
 -- What private contracts say of bodies: where their instructions begin, and the functions that have hints.
-use Rattle.std.specs.Prelude.{ℕ, suc, ◌≡◌, ◌+◌, ◌-◌, ◌<◌, ◌^◌, min, List, [], ◌∷◌, ◌++◌, map, length, Option, Some, None, Result, OnOk, IsErrOf, slice_index, All}
+use Rattle.std.specs.Prelude.{ℕ, ◌≡◌, ◌+◌, ◌-◌, ◌<◌, ◌^◌, min, List, [], map, length, Option, Some, None, Result, OnOk, IsErrOf, slice_index, All}
 use Rattle.std.specs.List.{flat_map, range_with_len}
 use Rattle.wasm_encoder_base.specs.EncodeError.{EncodeError}
 use Rattle.wasm_encoder_base.specs.EncodeError.TheVariants.{TooLarge}
@@ -16,6 +16,7 @@ use Rattle.wast_conversions.specs.Instructions.{instrs_meant}
 use Rattle.wasm_layout.specs.IsModule.{IsU32}
 use Rattle.wasm_layout.specs.Present.{has_any}
 use Rattle.wasm_layout.specs.Layout.{if_there}
+use Rattle.wast_meant.specs.NamesMeant.{entries}
 use Rattle.wast_custom_sections.specs.Parts.{joined}
 use Rattle.wast_custom_sections.specs.Hints.{PlacesFit}
 
@@ -61,8 +62,7 @@ module _ {N P : Type 0} where
   hinted n (Some f) = if_there (has_any f.body.hints) (with_hints n f.locals f.body)
 
   abbrev pub hinted_from : ℕ → List (Option (Function N P)) → List Hinted
-  hinted_from n [] = []
-  hinted_from n (o ∷ os) = hinted n o ++ hinted_from (suc n) os
+  hinted_from n os = entries hinted n os
 
 -- These stand behind what the list had before, and they fit; it was too large only where one doesn't, or where all bytes are past 32 bits.
 pub record AddsHinted (hs : List Hinted) (before after : Listed) (result : Result (Unit {0}) EncodeError) : Type 0 where

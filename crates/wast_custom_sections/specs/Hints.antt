@@ -17,9 +17,9 @@ use Rattle.wasm_layout.specs.IsModule.{IsU32, IfThere}
 use Rattle.wasm_layout.specs.Present.{has_any}
 use Rattle.wasm_layout.specs.Section.{Hints}
 use Rattle.wasm_layout.specs.Layout.{Section, Piece, Known, if_there, placed_hints}
+use Rattle.wasm_layout.specs.Lays.{PiecesFit}
 use Rattle.wast_meant.specs.FieldsMeant.{function_of}
 use Rattle.wast_meant.specs.NamesMeant.{bodies_in, hints_from}
-use Rattle.wast_custom_sections.specs.Parts.{PiecesFit}
 
 -- PLACES: that of the end of a body, and so each, is a number of 32 bits, and so are the counts of its locals
 pub record PlacesFit (b : Body) : Type 0 where
@@ -63,11 +63,11 @@ module _ {N P : Type 0} where
     pub covered : instrs_forms e.instrs ≡ []
     pub aligned : All (λ i. OperandsAligned i.operands) e.instrs
 
-  abbrev pub DefinedReady : Defined N P → Type 0
-  DefinedReady (Func f) = BodyReady f.locals f.body
-  DefinedReady d = Unit {0}
+  abbrev pub DefinedHintReady : Defined N P → Type 0
+  DefinedHintReady (Func f) = BodyReady f.locals f.body
+  DefinedHintReady d = Unit {0}
 
   -- a field that is a function has such a body
-  abbrev pub FieldReady : Field N P → Type 0
-  FieldReady (Define d) = DefinedReady d.defined
-  FieldReady f = Unit {0}
+  abbrev pub HintReady : Field N P → Type 0
+  HintReady (Define d) = DefinedHintReady d.defined
+  HintReady f = Unit {0}

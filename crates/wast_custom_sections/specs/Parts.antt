@@ -1,12 +1,11 @@
 -- Parts of custom sections, and sections, in bytes.
-use Rattle.std.specs.Prelude.{ℕ, ◌≡◌, ◌+◌, List, [], ◌∷◌, ◌++◌, length}
-use Rattle.std.specs.List.{flat_map, AllByRecursion}
+use Rattle.std.specs.Prelude.{ℕ, ◌≡◌, ◌+◌, List, [], ◌∷◌, ◌++◌}
+use Rattle.std.specs.List.{flat_map}
 use Rattle.wasm_encoder_base.specs.Lists.{Listed}
 use Rattle.wasm_encoder_custom.specs.Custom.{Custom, subsection}
 use Rattle.wasm_encoder_custom.specs.Producers.{Field}
 use Rattle.wasm_layout.specs.Present.{has_any}
-use Rattle.wasm_layout.specs.Layout.{Piece, Free, if_there, contents, piece_bytes}
-use Rattle.wasm_layout.specs.IsModule.{IsU32}
+use Rattle.wasm_layout.specs.Layout.{Free, if_there, piece_bytes}
 use Rattle.wast_customs.specs.CustomTree.{CustomPlace, Producer, ProducerKind, Subsection}
 use Rattle.wast_customs.specs.Dylink.{subsection_id, payload}
 use Rattle.wast_module_fields.specs.FieldTree.{Field as ModuleField}
@@ -15,10 +14,6 @@ use Rattle.wast_meant.specs.CustomsMeant.{at_place, customs_in, of_kind, produce
 -- the custom sections that fields have at a place, in the order of the fields
 abbrev pub sections_at : {N P : Type 0} → List (ModuleField N P) → CustomPlace → List Custom
 sections_at fs place = at_place (flat_map customs_in fs) place
-
--- the size of each is a number of 32 bits
-abbrev pub PiecesFit : List Piece → Type 0
-PiecesFit pieces = AllByRecursion (λ p. IsU32 (length (contents p))) pieces
 
 -- one list behind another
 abbrev pub joined : Listed → Listed → Listed

@@ -4,10 +4,11 @@ ghost use Rattle.std.specs.List.{flat_map};
 ghost use Rattle.wasm_encoder_base.specs.Encodes.{Encodes};
 ghost use Rattle.wasm_encoder_custom.specs.Custom.{CustomFits};
 ghost use Rattle.wasm_layout.specs.Layout.{Free, piece_bytes};
+ghost use Rattle.wasm_layout.specs.Lays.{PiecesFit};
 ghost use Rattle.wast_customs.specs.CustomViews.{custom_tree, place_tree};
 ghost use Rattle.wast_module_fields.specs.ModuleFieldViews.{field_tree};
 ghost use Rattle.wast_meant.specs.CustomsMeant.{at_place};
-ghost use Rattle.wast_custom_sections.specs.Parts.{section_bytes, sections_at, PiecesFit};
+ghost use Rattle.wast_custom_sections.specs.Parts.{section_bytes, sections_at};
 
 use crate::custom::put_custom;
 use crate::place::is_same_place;

@@ -11,7 +11,7 @@ ghost use Rattle.wast_module_fields.specs.FuncViews.{local_tree, func_definition
 ghost use Rattle.wast_core_instr.specs.ExpressionViews.{expression_tree};
 ghost use Rattle.wast_module_fields.specs.ModuleFieldViews.{field_tree};
 ghost use Rattle.wast_meant.specs.NamesMeant.{bodies_in, defined_function};
-ghost use Rattle.wast_custom_sections.specs.Hints.{hint_pieces, HintsFit, BodyReady, DefinedReady, FieldReady};
+ghost use Rattle.wast_custom_sections.specs.Hints.{hint_pieces, HintsFit, BodyReady, DefinedHintReady, HintReady};
 ghost use Rattle.wast_custom_sections.specs.Hinted.{AddsHinted, HintedFits, hinted_bytes, hinted_from, with_hints};
 
 use crate::bodies::placed_hints;
@@ -36,7 +36,7 @@ pub fn put_hints(
     fields: &[ModuleField<'_>],
     module: &mut Module,
 ) -> Result<(), EncodeError>
-    requires { All FieldReady (map field_tree fields.now) }
+    requires { All HintReady (map field_tree fields.now) }
     ensures { Encodes (flat_map piece_bytes (hint_pieces (map field_tree fields.now))) (HintsFit (map field_tree fields.now)) «module».old «module».new result }
 {
     let section = hints_of(alloc, fields)?;
@@ -49,7 +49,7 @@ pub fn put_hints(
 
 /// The hints of the functions of fields. The number of a function past all numbers of 64 bits stays the last of them.
 fn hints_of(alloc: Global, fields: &[ModuleField<'_>]) -> Result<BranchHints, EncodeError>
-    requires { All FieldReady (map field_tree fields.now) }
+    requires { All HintReady (map field_tree fields.now) }
     ensures made { IfOk result (λ section. section ≡ listed hinted_bytes (hinted_from 0 (flat_map bodies_in (map field_tree fields.now)))) }
     ensures fits { OnOk result (All HintedFits (hinted_from 0 (flat_map bodies_in (map field_tree fields.now)))) }
     ensures too_large { IsErrOf result EncodeError.TooLarge → All HintedFits (hinted_from 0 (flat_map bodies_in (map field_tree fields.now))) → length (flat_map hinted_bytes (hinted_from 0 (flat_map bodies_in (map field_tree fields.now)))) < 2 ^ 32 → ⊥ }
@@ -70,7 +70,7 @@ fn put_field(
     number: usize,
     section: &mut BranchHints,
 ) -> Result<(), EncodeError>
-    requires { FieldReady (field_tree field.now) }
+    requires { HintReady (field_tree field.now) }
     ensures { AddsHinted (hinted_from number (bodies_in (field_tree field.now))) section.old section.new result }
 {
     match field {
@@ -86,7 +86,7 @@ fn put_func(
     number: usize,
     section: &mut BranchHints,
 ) -> Result<(), EncodeError>
-    requires { DefinedReady (func_definition func.now).defined }
+    requires { DefinedHintReady (func_definition func.now).defined }
     ensures { AddsHinted (hinted_from number (defined_function (func_definition func.now).defined)) section.old section.new result }
 {
     match &func.kind {

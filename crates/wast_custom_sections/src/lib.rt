@@ -13,11 +13,13 @@
 //!
 //! it says that function 1 has one hint, 1, at byte 3 of its body, behind the count of its locals and `local.get 0`.
 //!
+//! [`add_section`] appends one section, whichever it is.
+//!
 //! # What has to be believed
 //!
 //! | File of `specs/` | Says |
 //! |---|---|
-//! | `Parts` | the custom sections that fields have at a place, and pieces of a module whose sizes fit |
+//! | `Parts` | the custom sections that fields have at a place |
 //! | `Hints` | the section of branch hints that fields have; which numbers in it fit; bodies that can be encoded |
 //!
 //! The pieces are those that the module meant has at its stops (`CustomsMeant` of `wast_meant`, `Layout` of `wasm_layout`). `Hinted`, and the
@@ -41,3 +43,4 @@ mod section;
 pub use custom::joined;
 pub use customs::put_customs;
 pub use hints::put_hints;
+pub use section::add_section;

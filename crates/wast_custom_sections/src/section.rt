@@ -28,7 +28,7 @@ pub(crate) fn put_sections(sections: &[u8], module: &mut Module) -> Result<(), E
 }
 
 /// Appends a section to those of a module.
-pub(crate) fn add_section<S: Section>(section: &S, module: &mut Module) -> Result<(), EncodeError>
+pub fn add_section<S: Section>(section: &S, module: &mut Module) -> Result<(), EncodeError>
     requires { S.Encode.can_encode section.now }
     ensures { Encodes (numbered (S.section_id section.now) (S.Encode.spelling section.now)) (S.Encode.fits section.now) «module».old «module».new result }
 {

@@ -1,6 +1,6 @@
 -- The syntax of custom fields (WebAssembly 3.0, appendix "Custom Sections and Annotations", and the tool conventions).
 use Rattle.std.specs.Prelude.{ℕ, true, false, List, [], ◌∷◌, Option, map, codes, unwrap_or}
-use Rattle.wast_parser.specs.Look.{Test, On, OneOf, Any, AWord, AString, this_word, this_annotation}
+use Rattle.wast_parser.specs.Look.{Test, On, OneOf, AWord, this_word, this_annotation, string_starts}
 use Rattle.wast_parser.specs.Grammar.{Syntax, among, word, mark, string, next, seq, seen, maybe, many, either, paren}
 use Rattle.wast_parser.specs.Productions.{name}
 use Rattle.wast_customs.specs.CustomTree.{Anchor, TypeItem, Import, Func, Table, Memory, Global, Export, Start, Elem, Code, Data, Tag, CustomPlace, BeforeFirst, Before, After, AfterLast, RawSection, ProducerKind, Language, Sdk, ProcessedBy, Producer, Producers, Subsection, Dylink, Custom, Raw, ProducersField, DylinkField}
@@ -67,7 +67,7 @@ module _ {N P : Type 0} where
 
   -- (@custom name place? string*)
   abbrev pub raw_body : Syntax N P (RawSection P)
-  raw_body = seen as_raw (seq (mark (codes "custom")) (seq name (seq (maybe place_starts custom_place) (many (On false AString Any ∷ []) string))))
+  raw_body = seen as_raw (seq (mark (codes "custom")) (seq name (seq (maybe place_starts custom_place) (many string_starts string))))
 
   abbrev pub raw_section : Syntax N P (RawSection P)
   raw_section = paren raw_body

@@ -1,8 +1,8 @@
 -- The syntax of what stands in `(@dylink.0 ..)` (tool conventions, dynamic linking).
-use Rattle.std.specs.Prelude.{ℕ, ◌-◌, ◌^◌, true, false, List, [], ◌∷◌, Option, None, map, codes, unwrap_or, bit_or}
-use Rattle.wast_parser.specs.Look.{Test, On, OneOf, Any, AWord, AString, AnInteger, this_group, join, faults}
+use Rattle.std.specs.Prelude.{ℕ, true, false, List, [], ◌∷◌, Option, map, codes, unwrap_or, bit_or}
+use Rattle.wast_parser.specs.Look.{Test, On, OneOf, Any, AWord, AnInteger, this_group, join, faults, string_starts, integer_starts}
 use Rattle.wast_parser.specs.Grammar.{Syntax, among, next, seq, seen, maybe, many, either, led, paren}
-use Rattle.wast_parser.specs.Integers.{number_in, unsigned}
+use Rattle.wast_parser.specs.Integers.{u32}
 use Rattle.wast_parser.specs.Productions.{name}
 use Rattle.wast_customs.specs.CustomTree.{Subsection, MemInfo, Needed, ExportInfo, ImportInfo, RuntimePath}
 
@@ -63,9 +63,6 @@ group_kinds = MemInfoGroup ∷ NeededGroup ∷ ExportInfoGroup ∷ ImportInfoGro
 abbrev pub group_starts : List Test
 group_starts = On true AWord (OneOf (map group_word group_kinds) []) ∷ []
 
-abbrev pub name_starts : List Test
-name_starts = On false AString Any ∷ []
-
 abbrev pub flag_starts : List Test
 flag_starts = On false AnInteger Any ∷ On false AWord (OneOf (map flag_word symbol_flags) []) ∷ []
 
@@ -74,22 +71,19 @@ extent_starts = this_group (codes "memory") ∷ this_group (codes "table") ∷ [
 
 -- what any of them begins with behind its word, and what may not follow it
 abbrev pub within_starts : List Test
-within_starts = join extent_starts name_starts
+within_starts = join extent_starts string_starts
 
 abbrev pub within_stops : List Test
-within_stops = join (faults extent_starts) (join extent_starts (join name_starts flag_starts))
+within_stops = join (faults extent_starts) (join extent_starts (join string_starts flag_starts))
 
 -- sizes and alignments of memory and table: 0 where they aren't written
 abbrev pub as_mem_info : Option (ℕ × ℕ) × Option (ℕ × ℕ) → Subsection
 as_mem_info m = MemInfo (unwrap_or m.0 (0, 0)).0 (unwrap_or m.0 (0, 0)).1 (unwrap_or m.1 (0, 0)).0 (unwrap_or m.1 (0, 0)).1
 
 module _ {N P : Type 0} where
-  abbrev pub u32 : Syntax N P ℕ
-  u32 = seen (λ n. n.0) (number_in (2 ^ 32 - 1) None unsigned)
-
   -- a u32 or a word
   abbrev pub flag : Syntax N P ℕ
-  flag = either (On false AnInteger Any ∷ []) u32 (seen (λ f. flag_bit f.0) (among flag_word symbol_flags []))
+  flag = either integer_starts u32 (seen (λ f. flag_bit f.0) (among flag_word symbol_flags []))
 
   abbrev pub flags : Syntax N P ℕ
   flags = seen (with_flags 0) (many flag_starts flag)
@@ -104,10 +98,10 @@ module _ {N P : Type 0} where
   -- what stands behind each word
   abbrev pub within : GroupKind → Syntax N P Subsection
   within MemInfoGroup = seen as_mem_info (seq (maybe (this_group (codes "memory") ∷ []) (extent (codes "memory"))) (maybe (this_group (codes "table") ∷ []) (extent (codes "table"))))
-  within NeededGroup = seen Needed (many name_starts name)
+  within NeededGroup = seen Needed (many string_starts name)
   within ExportInfoGroup = seen (λ e. ExportInfo (e ∷ [])) (seq name flags)
   within ImportInfoGroup = seen (λ i. ImportInfo (i ∷ [])) (seq name (seq name flags))
-  within RuntimePathGroup = seen RuntimePath (many name_starts name)
+  within RuntimePathGroup = seen RuntimePath (many string_starts name)
 
   abbrev pub group_body : Syntax N P Subsection
   group_body = seen (λ g. g.1) (next (among group_word group_kinds []) (λ k. within k.0) within_starts true within_stops)

@@ -2,9 +2,9 @@
 use Rattle.std.specs.Prelude.{ℕ, ◌*◌, true, false, List, [], ◌∷◌, map, length, codes}
 use Rattle.std.specs.Int.{Width, w8, w16, w32, w64, byte_len}
 use Rattle.std.specs.List.{flat_map}
-use Rattle.wast_parser.specs.Look.{Test, On, OneOf, Any, AWord, AString, join, faults}
+use Rattle.wast_parser.specs.Look.{Test, On, OneOf, AWord, join, faults, integer_starts, string_starts}
 use Rattle.wast_parser.specs.Grammar.{Syntax, among, next, seen, many, either, paren, string}
-use Rattle.wast_vector_operands.specs.VectorSyntax.{integer_starts, float_starts, shape_starts, signed_literal, float_literal, vector}
+use Rattle.wast_vector_operands.specs.VectorSyntax.{float_starts, shape_starts, signed_literal, float_literal, vector}
 use Rattle.wast_vector_operands.specs.VectorViews.{lane_bytes}
 use Rattle.wast_data.specs.DataTree.{DataVal, Text, Integral, Float, of_vectors}
 
@@ -31,9 +31,6 @@ abbrev pub number_types : List NumberType
 number_types = I8 ∷ I16 ∷ I32 ∷ I64 ∷ F32 ∷ F64 ∷ V128 ∷ []
 
 -- what they begin with
-abbrev pub string_starts : List Test
-string_starts = On false AString Any ∷ []
-
 abbrev pub word_starts : List Test
 word_starts = On false AWord (OneOf (map number_word number_types) []) ∷ []
 

@@ -29,9 +29,9 @@ use wast_spaces::{Spaces, check_order};
 ///
 /// Refuses the first import behind a definition, else the first item that bears the name of an earlier one, segments aside, or field that
 /// bears that of an earlier one of its structure, else the first name that means nothing, signature that isn't that of the type beside it,
-/// parameter or local that bears the name of an earlier one, or repeated name that isn't its block's; else only where no memory is found, or there are
-/// more than 4294967295 items of a kind, types with those that uses imply, fields of a structure, parameters and locals of a function, or
-/// blocks inside each other, which is told as want of memory.
+/// parameter or local that bears the name of an earlier one, or repeated name that isn't its block's; else only where no memory is found, or there
+/// are more than 4294967295 items of a kind, types with those that uses imply, fields of a structure, parameters and locals of a function, or blocks
+/// inside each other, which is told as want of memory.
 pub fn check_names<'a>(alloc: Global, fields: &[ModuleField<'a>]) -> Result<(), Error>
     ensures { Answers result (demands same_name (map field_tree fields.now)) }
 {

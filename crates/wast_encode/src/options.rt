@@ -38,8 +38,8 @@ impl EncodeOptions {
         EncodeOptions {}
     }
 
-    /// The binary of a module (5.5.17, and 6.6, modules), which is well formed; the pieces of a binary are joined. A field that is referred to and has no
-    /// name takes the next one of `gensym`, and there is room for one a field. Of a module that was refused before nothing is asked.
+    /// The binary of a module (5.5.17, and 6.6, modules), which is well formed; the pieces of a binary are joined. A field that is referred to and
+    /// has no name takes the next one of `gensym`, and there is room for one a field. Of a module that was refused before nothing is asked.
     ///
     /// A name that is taken is fresh where each name of the module that was made is one that `gensym` made since its last reset, as after
     /// a call with the same `gensym`; else it may be that of another item, which is refused as a duplicate.

@@ -1,9 +1,8 @@
 -- Fields that are resolved: nothing stands inline, each index that is encoded is a number, and each use of a type has its index, but for that
 -- of a short block (WebAssembly 3.0, 6.1.3 and 6.6).
 use Rattle.std.specs.Prelude.{◌≡◌, [], All}
-use Rattle.wast_imports.specs.ImportTree.{ImportItems, Single, Group1, Group2}
 use Rattle.wast_module_fields.specs.FieldTree.{Expr, Function, Elements, Indices, Expressions, Defined, Imported, Func, Table, TableOf, Memory, MemoryOf, Global, Tag, ElemMode, PassiveElem, DeclaredElem, ActiveElem, DataMode, PassiveData, ActiveData, Field, TypeField, RecField, ImportField, Define, ExportField, StartField, ElemField, DataField, CustomField}
-use Rattle.wast_conversions.specs.Resolved.{IfThere, IsNumber, RefResolved, ValResolved, TypeResolved, UseResolved, ExternResolved, InstrsResolved}
+use Rattle.wast_conversions.specs.Resolved.{IfThere, IsNumber, RefResolved, ValResolved, TypeResolved, UseResolved, ImportResolved, InstrsResolved}
 
 module _ {N P : Type 0} where
   abbrev pub ExprResolved : Expr N P → Type 0
@@ -39,12 +38,6 @@ module _ {N P : Type 0} where
   DefinedResolved (MemoryOf wide page vs) = ⊥
   DefinedResolved (Global t init) = ValResolved t.val_type × ExprResolved init
   DefinedResolved (Tag u) = UseResolved u
-
-  -- imports (6.6, imports)
-  abbrev pub ImportResolved : ImportItems N P → Type 0
-  ImportResolved (Single name i) = ExternResolved i.extern_type
-  ImportResolved (Group1 is) = All (λ i. ExternResolved i.1.extern_type) is
-  ImportResolved (Group2 names i) = ExternResolved i.extern_type
 
   -- FIELDS (6.6, modules), without exports inline
   abbrev pub FieldResolved : Field N P → Type 0

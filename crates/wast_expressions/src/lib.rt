@@ -2,10 +2,10 @@
 //!
 //! An instruction type says by [`Operation`] which tokens spell it, which group it heads, and what would go on with it, and by
 //! [`ParseOperation`] that it is read so. Over it [`parse_items`] reads items up to an
-//! end, [`parse_folded_instruction`] an instruction behind its operands, [`parse_plain`] the same with no word that opens a block, and
-//! [`parse_offset`] the offset of data. What they answer are [`Instructions`]: in the order in which they are carried out, with an `end` for each block and an `else` for each
-//! second arm, and the hints by the indices of the instructions that bear them. All are read by loops with a stack of their own,
-//! so no depth of groups is too deep; [`parse_counted`] counts the turns.
+//! end, [`parse_folded_instruction`] an instruction behind its operands, [`parse_plain`] the same, where the word of a block opens nothing, and
+//! [`parse_offset`] the offset of data. What they answer are [`Instructions`]: in the order in which they are carried out, with an `end` for each
+//! block and an `else` for each second arm, and the hints by the indices of the instructions that bear them. All are read by loops with a stack of
+//! their own, so no depth of groups is too deep; [`parse_counted`] counts the turns.
 //!
 //! Hints are shown only where the annotation `metadata.code.branch_hint` is registered.
 //!

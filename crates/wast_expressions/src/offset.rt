@@ -57,8 +57,8 @@ fn head<'a, I: ParseOperation<'a>>(
 }
 
 /// Reads `(instruction plain*)`: the operands' instructions in order, and then the one that heads the group. The word of a block is read as any
-/// other: it opens nothing, and no `end` is put behind it. No hint may stand among them. Refused where the grammar reads none, and for want of memory. Depth and registered names are as they were on
-/// both outcomes, and the parser stands where it did or behind what it read.
+/// other: it opens nothing, and no `end` is put behind it. No hint may stand among them. Refused where the grammar reads none, and for want of
+/// memory. Depth and registered names are as they were on both outcomes, and the parser stands where it did or behind what it read.
 pub fn parse_plain<'a, I: ParseOperation<'a>>(
     parser: &mut Parser<'a>,
 ) -> Result<Instructions<I>, Error>

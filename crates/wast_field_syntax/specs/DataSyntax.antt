@@ -1,17 +1,17 @@
 -- The syntax of data segments (WebAssembly 3.0, 6.6, data segments).
 use Rattle.std.specs.Prelude.{List, [], ◌∷◌, Option, codes}
-use Rattle.wast_parser.specs.Look.{Test, this_group, join}
+use Rattle.wast_parser.specs.Look.{Test, this_group, join, integer_starts}
 use Rattle.wast_parser.specs.Grammar.{Syntax, word, seen, seq, maybe, many, either, paren}
 use Rattle.wast_parser.specs.Identifiers.{Reference}
 use Rattle.wast_imports.specs.ImportSyntax.{Head, head}
 use Rattle.wast_data.specs.DataTree.{DataVal}
 use Rattle.wast_data.specs.DataSyntax.{value_starts, value}
 use Rattle.wast_field_syntax.specs.FieldTree.{Expr, DataMode, PassiveData, ActiveData, Data}
-use Rattle.wast_field_syntax.specs.DefinitionSyntax.{int_starts, plain_starts, segment_offset}
+use Rattle.wast_field_syntax.specs.DefinitionSyntax.{plain_starts, segment_offset}
 use Rattle.wast_field_syntax.specs.ElemSyntax.{use_of}
 
 abbrev pub memory_use_starts : List Test
-memory_use_starts = this_group (codes "memory") ∷ int_starts
+memory_use_starts = this_group (codes "memory") ∷ integer_starts
 
 abbrev pub active_starts : List Test
 active_starts = join memory_use_starts (join (this_group (codes "offset") ∷ []) plain_starts)

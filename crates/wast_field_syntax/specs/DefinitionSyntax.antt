@@ -1,6 +1,6 @@
 -- What fields that define something have in common (WebAssembly 3.0, 6.6), and the expressions in fields.
-use Rattle.std.specs.Prelude.{ℕ, true, false, List, [], ◌∷◌, map, codes}
-use Rattle.wast_parser.specs.Look.{Test, On, AWord, AnInteger, OneOf, Any}
+use Rattle.std.specs.Prelude.{ℕ, true, List, [], ◌∷◌, map, codes}
+use Rattle.wast_parser.specs.Look.{Test, On, AWord, OneOf}
 use Rattle.wast_parser.specs.Grammar.{Syntax, among, word, seen, seq, either, paren}
 use Rattle.wast_mnemonics.specs.TextTable.{text_table}
 use Rattle.wast_expressions.specs.Expressions.{expression, led_or_plain, data_offset}
@@ -12,9 +12,6 @@ use Rattle.wast_imports.specs.ImportSyntax.{Head, head}
 use Rattle.wast_field_syntax.specs.FieldTree.{Expr, Defined, Imported, Definition}
 
 -- WHERE THEY BEGIN
-abbrev pub int_starts : List Test
-int_starts = On false AnInteger Any ∷ []
-
 -- what a group of an instruction begins with
 abbrev pub plain_starts : List Test
 plain_starts = On true AWord (OneOf (map (λ t. t.mnemonic) text_table) []) ∷ []

@@ -1,14 +1,14 @@
 -- The syntax of element segments (WebAssembly 3.0, 6.6, element segments).
 use Rattle.std.specs.Prelude.{ℕ, ◌-◌, ◌^◌, List, [], ◌∷◌, Option, None, codes}
-use Rattle.wast_parser.specs.Look.{Test, this_word, this_group}
+use Rattle.wast_parser.specs.Look.{Test, this_word, this_group, index_starts, integer_starts}
 use Rattle.wast_parser.specs.Grammar.{Syntax, word, seen, seq, maybe, many, either, led, group, paren}
 use Rattle.wast_parser.specs.Integers.{number_in, unsigned}
 use Rattle.wast_parser.specs.Identifiers.{Reference, ByNumber, index}
 use Rattle.wast_value_types.specs.ValueTree.{RefType}
-use Rattle.wast_value_types.specs.ValueSyntax.{index_starts, ref_starts, ref_type}
+use Rattle.wast_value_types.specs.ValueSyntax.{ref_starts, ref_type}
 use Rattle.wast_imports.specs.ImportSyntax.{Head, head}
 use Rattle.wast_field_syntax.specs.FieldTree.{Expr, Elements, Indices, Expressions, ElemMode, PassiveElem, DeclaredElem, ActiveElem, Elem}
-use Rattle.wast_field_syntax.specs.DefinitionSyntax.{int_starts, plain_starts, element, elem_offset}
+use Rattle.wast_field_syntax.specs.DefinitionSyntax.{plain_starts, element, elem_offset}
 
 abbrev pub list_starts : List Test
 list_starts = this_word (codes "func") ∷ ref_starts
@@ -17,7 +17,7 @@ abbrev pub element_starts : List Test
 element_starts = this_group (codes "item") ∷ plain_starts
 
 abbrev pub table_use_starts : List Test
-table_use_starts = this_group (codes "table") ∷ int_starts
+table_use_starts = this_group (codes "table") ∷ integer_starts
 
 module _ {N P : Type 0} where
   -- (word index) or u32: the table or the memory of a segment

@@ -1,6 +1,6 @@
 -- The syntax of tables and memories (WebAssembly 3.0, 6.6).
 use Rattle.std.specs.Prelude.{ℕ, Bool, true, false, List, [], ◌∷◌, Option, Some, None, codes}
-use Rattle.wast_parser.specs.Look.{Test, this_word, this_group, join}
+use Rattle.wast_parser.specs.Look.{Test, this_word, this_group, join, integer_starts}
 use Rattle.wast_parser.specs.Grammar.{Syntax, seen, next, seq, maybe, many, either, led, group}
 use Rattle.wast_value_types.specs.ValueTree.{Limits, RefType}
 use Rattle.wast_value_types.specs.WordSyntax.{optional}
@@ -8,19 +8,19 @@ use Rattle.wast_value_types.specs.ValueSyntax.{page_starts, as_limits, u64, ref_
 use Rattle.wast_imports.specs.ImportTree.{OfTable, OfMemory}
 use Rattle.wast_data.specs.DataTree.{DataVal}
 use Rattle.wast_field_syntax.specs.FieldTree.{Expr, Elements, Indices, Expressions, Defined, Table, TableOf, Memory, MemoryOf, Definition}
-use Rattle.wast_field_syntax.specs.DefinitionSyntax.{int_starts, expr, element, definition, imported_or}
+use Rattle.wast_field_syntax.specs.DefinitionSyntax.{expr, element, definition, imported_or}
 use Rattle.wast_field_syntax.specs.ElemSyntax.{element_starts, indices}
 use Rattle.wast_field_syntax.specs.DataSyntax.{values}
 
 -- what stands behind the address type of a table, or of a memory
 abbrev pub table_starts : List Test
-table_starts = join int_starts ref_starts
+table_starts = join integer_starts ref_starts
 
 abbrev pub inline_data_starts : List Test
 inline_data_starts = this_group (codes "data") ∷ []
 
 abbrev pub memory_starts : List Test
-memory_starts = join int_starts (join page_starts inline_data_starts)
+memory_starts = join integer_starts (join page_starts inline_data_starts)
 
 -- none where there is no instruction
 abbrev pub where_any : {A B : Type 0} → List A → B → Option B
@@ -30,7 +30,7 @@ where_any (x ∷ xs) b = Some b
 module _ {N P : Type 0} where
   -- the limits of which the address type is read
   abbrev pub sizes : Syntax N P (ℕ × Option ℕ)
-  sizes = seq u64 (maybe int_starts u64)
+  sizes = seq u64 (maybe integer_starts u64)
 
   -- MEMORIES: (memory id? (@name ..)? (export name)* type), the same imported, and with a segment that gives the size:
   -- .. (i32|i64)? (pagesize u32)? (data value*)
@@ -41,7 +41,7 @@ module _ {N P : Type 0} where
   as_filled_memory wide m = MemoryOf wide m.0 m.1
 
   abbrev pub memory_with : Bool → Syntax N P (Defined N P)
-  memory_with wide = either int_starts (seen (as_sized_memory wide) (seq sizes (seq (optional (codes "shared")) page_size))) (seen (as_filled_memory wide) (seq page_size (group (codes "data") values)))
+  memory_with wide = either integer_starts (seen (as_sized_memory wide) (seq sizes (seq (optional (codes "shared")) page_size))) (seen (as_filled_memory wide) (seq page_size (group (codes "data") values)))
 
   abbrev pub memory_defined : Syntax N P (Defined N P)
   memory_defined = imported_or (seen OfMemory memory_type) (seen (λ m. m.1) (next address_type memory_with memory_starts false (memory_with false).stops))
@@ -74,7 +74,7 @@ module _ {N P : Type 0} where
   filled_table = next ref_type (λ t. group (codes "elem") (elements t)) (this_group (codes "elem") ∷ []) false []
 
   abbrev pub table_with : Bool → Syntax N P (Defined N P)
-  table_with wide = either int_starts (seen (as_sized_table wide) (seq sizes typed)) (seen (as_filled_table wide) filled_table)
+  table_with wide = either integer_starts (seen (as_sized_table wide) (seq sizes typed)) (seen (as_filled_table wide) filled_table)
 
   abbrev pub table_defined : Syntax N P (Defined N P)
   table_defined =

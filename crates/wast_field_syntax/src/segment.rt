@@ -1,14 +1,13 @@
 //! The tables and memories of segments.
 ghost use Rattle.std.specs.Prelude.{ℕ, ◌∷◌, option_map, refl};
 ghost use Rattle.wast_grammar.specs.Tokens.{Name};
-ghost use Rattle.wast_parser.specs.Look.{ask, this_group};
+ghost use Rattle.wast_parser.specs.Look.{ask, this_group, integer_starts};
 ghost use Rattle.wast_parser.specs.Grammar.{maybe};
 ghost use Rattle.wast_parser.specs.Lawful.{Lawful, Leads};
 ghost use Rattle.wast_parser.specs.State.{ahead, Keeps};
 ghost use Rattle.wast_parser.specs.Reading.{Asks, Gives};
 ghost use Rattle.wast_parser.specs.Cursors.{stands};
 ghost use Rattle.wast_parser.specs.Identifiers.{Reference, index_tree};
-ghost use Rattle.wast_field_syntax.specs.DefinitionSyntax.{int_starts};
 ghost use Rattle.wast_field_syntax.specs.ElemSyntax.{use_of};
 
 use std::marker::PhantomData;
@@ -63,11 +62,11 @@ impl<'a, N: KeywordName> Peek for UseOf<'a, N> {
     ghost sure = { refl };
 
     fn leads()
-        ensures { Leads (use_of {N = Name} {P = ℕ} N.word).spells (this_group N.word ∷ int_starts) }
+        ensures { Leads (use_of {N = Name} {P = ℕ} N.word).spells (this_group N.word ∷ integer_starts) }
     {}
 
     fn peek(cursor: Cursor<'_, '_>) -> Result<bool, Error>
-        ensures { Asks result (stands cursor.entry).source (ask (this_group N.word ∷ int_starts) (ahead (stands cursor.entry))) }
+        ensures { Asks result (stands cursor.entry).source (ask (this_group N.word ∷ integer_starts) (ahead (stands cursor.entry))) }
     {
         or_peek::<u32>(Group::<N>::peek(cursor), cursor)
     }
@@ -80,7 +79,7 @@ impl<'a, N: KeywordName> Peek for UseOf<'a, N> {
 /// Reads the table or the memory of a segment where one is written. Refused where one that begins isn't read, where no token can be read,
 /// or for want of memory.
 pub fn parse_use<'a, N: KeywordName>(parser: &mut Parser<'a>) -> Result<Option<Index<'a>>, Error>
-    ensures read { Gives (option_map index_tree) result parser.new ((maybe (this_group N.word ∷ int_starts) (use_of N.word)).reads (ahead parser.old)) }
+    ensures read { Gives (option_map index_tree) result parser.new ((maybe (this_group N.word ∷ integer_starts) (use_of N.word)).reads (ahead parser.old)) }
     ensures keeps { Keeps parser.old parser.new }
 {
     if parser.peek::<UseOf<'a, N>>()? {

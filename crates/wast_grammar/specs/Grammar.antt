@@ -6,7 +6,7 @@ use Rattle.wast_grammar.specs.Spelling as spelling
 use Rattle.wast_grammar.specs.Spelling.{Spells, ◌>>=◌, find_but, after, that_word, that_one, that_mark, that_id, that_integer, that_float, that_text, that_open, that_close}
 use Rattle.wast_grammar.specs.Twins as twins
 use Rattle.wast_grammar.specs.Twins.{Pairs}
-use Rattle.wast_grammar.specs.Look.{Test, On, AWord, AMark, AnId, AnInteger, AFloat, AString, Texts, This, OneOf, Begun, Any, this_word, join, faults, ask, unders}
+use Rattle.wast_grammar.specs.Look.{Test, On, AWord, AMark, AnInteger, AFloat, Texts, This, OneOf, Begun, Any, this_word, join, faults, ask, unders, id_starts, integer_starts, string_starts}
 
 -- a value and the tokens after it, or nothing
 abbrev pub Reader : Type 0 → Type 0 → Type 0 → Type 0
@@ -64,11 +64,11 @@ module _ {N P : Type 0} where
 
   -- an identifier (6.3.5)
   abbrev pub id : Syntax N P (N × P)
-  id = token that_id (On false AnId Any ∷ [])
+  id = token that_id id_starts
 
   -- an integer (6.3.1)
   abbrev pub integer : Syntax N P (Literal × P)
-  integer = token that_integer (On false AnInteger Any ∷ [])
+  integer = token that_integer integer_starts
 
   -- what may stand for a float, as it is written (6.3.2)
   abbrev pub float : Syntax N P (List ℕ × P)
@@ -76,7 +76,7 @@ module _ {N P : Type 0} where
 
   -- a string (6.3.3)
   abbrev pub string : Syntax N P (List ℕ)
-  string = token that_text (On false AString Any ∷ [])
+  string = token that_text string_starts
 
   -- no token
   abbrev pub nothing : Syntax N P (Unit {0})

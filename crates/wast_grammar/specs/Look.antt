@@ -1,5 +1,5 @@
 -- How a reader decides: what it sees in front of it, and what it asks of that.
-use Rattle.std.specs.Prelude.{Bool, true, false, not, ◌&&◌, ◌||◌, if◌then◌else◌, List, [], ◌∷◌, Option, Some, None, ℕ, nat_eq}
+use Rattle.std.specs.Prelude.{Bool, true, false, not, ◌&&◌, ◌||◌, if◌then◌else◌, List, [], ◌∷◌, Option, Some, None, ℕ, nat_eq, codes}
 use Rattle.wast_grammar.specs.Tokens.{SignificantToken, Open, Close, Id, Word, Mark, Integer, Float, Text, Reserved, Broken}
 use Rattle.wast_grammar.specs.Spelling.{same_text, any_is}
 
@@ -144,6 +144,22 @@ this_group v = On true AWord (This v)
 -- the name of an annotation behind a parenthesis
 abbrev pub this_annotation : List ℕ → Test
 this_annotation v = On true AMark (This v)
+
+-- an identifier, an integer, an index, a string, a use of a type
+abbrev pub id_starts : List Test
+id_starts = On false AnId Any ∷ []
+
+abbrev pub integer_starts : List Test
+integer_starts = On false AnInteger Any ∷ []
+
+abbrev pub index_starts : List Test
+index_starts = On false AnInteger Any ∷ On false AnId Any ∷ []
+
+abbrev pub string_starts : List Test
+string_starts = On false AString Any ∷ []
+
+abbrev pub type_starts : List Test
+type_starts = this_group (codes "type") ∷ []
 
 abbrev pub is_end : Shape → Bool
 is_end AnEnd = true

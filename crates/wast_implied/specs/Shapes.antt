@@ -4,6 +4,7 @@ use Rattle.std.specs.Cmp.Lexicographic.{pointwise}
 use Rattle.wast_grammar.specs.Tokens.{Name}
 use Rattle.wast_parser.specs.Spelling.{same_name}
 use Rattle.wast_parser.specs.Identifiers.{Reference, ByNumber, ByName}
+use Rattle.wast_value_types.specs.Unplaced.{unplaced_index}
 use Rattle.wast_value_types.specs.ValueTree.{HeapType, Abstract, Concrete, Exact, ValType, Number, Ref}
 use Rattle.wast_signatures.specs.TypeTree.{Sig}
 use Rattle.wast_meaning.specs.Implied.{number_code, word_code, same_flag, same_written}
@@ -38,14 +39,10 @@ abbrev pub same_shape : Shape → Shape → Bool
 same_shape s t = pointwise same_value s.params t.params && pointwise same_value s.results t.results
 
 -- OF TREES
-abbrev pub index_shape : Reference Name ℕ → Unplaced
-index_shape (ByNumber n p) = ByNumber n tt
-index_shape (ByName id) = ByName (id.0, tt)
-
 abbrev pub heap_shape : Bool → HeapType Name ℕ → ValueShape
 heap_shape nullable (Abstract shared w) = OfWord nullable shared (word_code w)
-heap_shape nullable (Concrete i) = OfIndex nullable false (index_shape i)
-heap_shape nullable (Exact i) = OfIndex nullable true (index_shape i)
+heap_shape nullable (Concrete i) = OfIndex nullable false (unplaced_index i)
+heap_shape nullable (Exact i) = OfIndex nullable true (unplaced_index i)
 
 abbrev pub value_shape : ValType Name ℕ → ValueShape
 value_shape (Number t) = OfNumber (number_code t)

@@ -1,10 +1,11 @@
 //! Signatures as keys: what is the same in two of them that are equal, in an order.
 ghost use Rattle.std.specs.Prelude.{◌≡◌, map, IfOk};
 ghost use Rattle.wast_parser.specs.Identifiers.{index_tree};
+ghost use Rattle.wast_value_types.specs.Unplaced.{unplaced_index};
 ghost use Rattle.wast_value_types.specs.ValueViews.{heap_word, heap_tree, val_tree};
 ghost use Rattle.wast_signatures.specs.SignatureViews.{param_tree, sig_tree};
 ghost use Rattle.wast_meaning.specs.Implied.{word_code};
-ghost use Rattle.wast_implied.specs.Shapes.{heap_shape, index_of_key, index_shape, shape, shape_of_key, value_of_key, value_shape};
+ghost use Rattle.wast_implied.specs.Shapes.{heap_shape, index_of_key, shape, shape_of_key, value_of_key, value_shape};
 
 use std::alloc::{AllocError, Global};
 use wast_parser::{Id, Index};
@@ -124,7 +125,7 @@ fn key_of_heap<'a>(
 
 /// That of an index.
 fn key_of_index<'a>(alloc: Global, index: &Index<'a>) -> Result<IndexKey<'a>, AllocError>
-    ensures { IfOk result (λ key. index_of_key key ≡ index_shape (index_tree index.now)) }
+    ensures { IfOk result (λ key. index_of_key key ≡ unplaced_index (index_tree index.now)) }
 {
     match index {
         Index::Num(number, _) => Ok(IndexKey::Num(*number)),

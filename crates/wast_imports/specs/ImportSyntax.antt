@@ -1,12 +1,12 @@
 -- The syntax of imports, and of what they and exports are of (WebAssembly 3.0, 6.4.13 and 6.6, imports).
-use Rattle.std.specs.Prelude.{ℕ, true, false, List, [], ◌∷◌, map, Option, Some, None, codes}
-use Rattle.wast_signatures.specs.Look.{Test, On, OneOf, AString, AWord, Any, this_group, join, faults}
+use Rattle.std.specs.Prelude.{ℕ, true, List, [], ◌∷◌, map, Option, Some, None, codes}
+use Rattle.wast_signatures.specs.Look.{Test, On, OneOf, AWord, this_group, join, faults, id_starts, string_starts}
 use Rattle.wast_signatures.specs.Grammar.{Syntax, among, word, nothing, next, seq, seen, maybe, many, either, group, paren}
 use Rattle.wast_signatures.specs.Productions.{name}
 use Rattle.wast_signatures.specs.Identifiers.{Named, identifier}
 use Rattle.wast_value_types.specs.ValueSyntax.{table_type, memory_type, global_type}
 use Rattle.wast_signatures.specs.TypeTree.{TypeUse}
-use Rattle.wast_signatures.specs.TypeSyntax.{id_starts, given_starts, given_name, type_use}
+use Rattle.wast_signatures.specs.TypeSyntax.{given_starts, given_name, type_use}
 use Rattle.wast_exports.specs.Exports.{ExportKind, Func, Table, Memory, Global, Tag, export_word, export_kinds}
 use Rattle.wast_imports.specs.ImportTree.{ExternType, OfFunc, OfExactFunc, OfTable, OfMemory, OfGlobal, OfTag, Item, ImportItems, Single, Group1, Group2, Imports, ExportType}
 
@@ -19,9 +19,6 @@ item_starts = On true AWord (OneOf (map export_word export_kinds) []) ∷ []
 
 abbrev pub member_starts : List Test
 member_starts = this_group (codes "item") ∷ []
-
-abbrev pub name_starts : List Test
-name_starts = On false AString Any ∷ []
 
 -- what stands behind the first member of a group, and what may not stand behind that
 abbrev pub rest_starts : List Test
@@ -96,7 +93,7 @@ module _ {N P : Type 0} where
 
   -- IMPORTS (6.6, imports): (import name name item), (import name group)
   abbrev pub import_items : Syntax N P (ImportItems N P)
-  import_items = either name_starts (seen (λ s. Single s.0 s.1) (seq name item)) import_group
+  import_items = either string_starts (seen (λ s. Single s.0 s.1) (seq name item)) import_group
 
   abbrev pub as_imports : P × (List ℕ × ImportItems N P) → Imports N P
   as_imports i = record { place = i.0; from = i.1.0; items = i.1.1 }

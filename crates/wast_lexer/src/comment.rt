@@ -59,6 +59,7 @@ pub(crate) fn may_stand(word: &[u8], allow: bool) -> bool
     allow || is_clean(word)
 }
 
+/// Whether none of the refused characters stands in the text: U+202A, U+202B, U+202D, U+202E, U+2066 to U+2069 and U+206C.
 fn is_clean(text: &[u8]) -> bool
     ensures { result ≡ is_clean text.now }
 {
@@ -75,6 +76,7 @@ fn is_clean(text: &[u8]) -> bool
     true
 }
 
+/// Whether one stands here.
 fn is_refused_at(text: &[u8], at: usize) -> bool
     requires { at ≤ length text.now }
     ensures { result ≡ starts_refused (drop at text.now) }
@@ -82,12 +84,13 @@ fn is_refused_at(text: &[u8], at: usize) -> bool
     at + 2 < text.len() && is_refused(text[at], text[at + 1], text[at + 2])
 }
 
-fn is_refused(a: u8, b: u8, c: u8) -> bool
-    ensures { result ≡ is_refused a b c }
+/// Whether these are the bytes of one.
+fn is_refused(first: u8, second: u8, third: u8) -> bool
+    ensures { result ≡ is_refused first second third }
 {
-    a == 0xe2
-        && (b == 0x80 && matches!(c, 0xaa | 0xab | 0xad | 0xae)
-            || b == 0x81 && matches!(c, 0xa6..=0xa9 | 0xac))
+    first == 0xe2
+        && (second == 0x80 && matches!(third, 0xaa | 0xab | 0xad | 0xae)
+            || second == 0x81 && matches!(third, 0xa6..=0xa9 | 0xac))
 }
 
 /// Whether these two bytes come next.

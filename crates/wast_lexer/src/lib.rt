@@ -2,8 +2,8 @@
 //!
 //! [`Lexer`] cuts a text into tokens, which lie end to end: [`Lexer::parse`] answers the one at a position, and
 //! [`Lexer::iter`] one after the other. A [`Token`] is a kind and a place; its readers answer what it stands for, and want
-//! no memory where nothing is escaped; [`Token::annotation_is`] never wants any. [`TokenTable`] keeps the tokens of a text, and tells where groups of parentheses
-//! end. Texts have fewer than 2^32 bytes; places are byte offsets.
+//! no memory where nothing is escaped; [`Token::annotation_is`] never wants any. [`TokenTable`] keeps the tokens of a text, and tells where groups of
+//! parentheses end. Texts have fewer than 2^32 bytes; places are byte offsets.
 //!
 //! An example: `(a (b)) x` is nine tokens, `(`, `a`, a space, `(`, `b`, `)`, `)`, a space and `x`. The group of the first
 //! ends at the token with index 6, and that of the fourth at the one with index 5. The program `wast_rows` has this text

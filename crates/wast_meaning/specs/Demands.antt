@@ -102,9 +102,12 @@ module _ {N P : Type 0} (eq : N → N → Bool) where
   mention_demands s (UsesInBlock u) = use_demands s u
   mention_demands s m = says_demands s m
 
-  -- each instruction where it stands, after those before it, the nearest first
+  -- an instruction where it stands, after those before it, the nearest first
+  abbrev pub instr_demands : Scope N P → List (Instruction N P) → Instruction N P → List (Demand N P)
+  instr_demands s before i = flat_map (mention_demands (scope_at eq s before i)) (instr_mentions i)
+
   abbrev pub instrs_demands : Scope N P → List (Instruction N P) → List (Instruction N P) → List (Demand N P)
-  instrs_demands s before is = walked (λ earlier i. flat_map (mention_demands (scope_at eq s earlier i)) (instr_mentions i)) (λ earlier i. i ∷ earlier) before is
+  instrs_demands s before is = walked (instr_demands s) (λ earlier i. i ∷ earlier) before is
 
   -- a function: its use, the types of locals, the names of parameters and locals, the instructions
   abbrev pub func_demands : Scope N P → Function N P → List (Demand N P)

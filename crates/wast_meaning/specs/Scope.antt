@@ -32,11 +32,19 @@ labels_left Opens label labels = label ∷ labels
 labels_left Closes label labels = drop 1 labels
 labels_left Stays label labels = labels
 
+-- and those among which it looks labels up: what closes a block, as `delegate`, looks outside it
+abbrev pub labels_found : {A : Type 0} → Turn → List A → List A
+labels_found Closes labels = drop 1 labels
+labels_found _ labels = labels
+
 module _ {N P : Type 0} where
   abbrev pub own_label : Operands N P → Option (Named N P)
   own_label (Block b) = b.label
   own_label (TryTable t) = t.block.label
   own_label _ = None
+
+  abbrev pub labels_after : List (Option (Named N P)) → Instruction N P → List (Option (Named N P))
+  labels_after labels i = labels_left (turn_of_head i.head) (own_label i.operands) labels
 
   -- The labels of the openers that are still open, the innermost first, counting backward over the instructions before a place,
   -- the nearest first: so many openers to come are closed again.

@@ -1,9 +1,9 @@
 //! What the fields of a module mean before they are encoded (WebAssembly Core Specification 3.0, 6.1.3, 6.5 and 6.6): the
 //! definitions that resolving names rests on. Of code there is [`Space`] alone.
 //!
-//! All of it but what a module is refused with is over names of any type with a test, and over places of any type. Names are compared
-//! by the test alone, and places not at all. Names that are made up come from a function that is given: the name for the field at a
-//! position.
+//! All of it but `Made` and what a module is refused with is over names of any type with a test, and over places of any type. Names are
+//! compared by the test alone, and places not at all. Names that are made up come from a function that is given: the name for the field
+//! at a position.
 //!
 //! Demands and complaints, the places of names, index spaces, and what an index means in one, are those of `wast_names`.
 //!

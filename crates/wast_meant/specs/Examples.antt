@@ -113,7 +113,7 @@ pub record MeaningExamples : Type 0 where
   -- (module (@custom "b" (before first)) (@dylink.0 (needed "a")))
   pub dylink : Assembles (custom "b" BeforeFirst [] ∷ CustomField (DylinkField (record { place = 0; subsections = Needed (codes "a" ∷ []) ∷ [] })) ∷ [])
       ((0x00 ∷ 0x02 ∷ 0x01 ∷ 0x62 ∷ 0x00 ∷ 0x0E ∷ 0x08 ∷ []) ++ codes "dylink.0" ++ (0x02 ∷ 0x03 ∷ 0x01 ∷ 0x01 ∷ 0x61 ∷ []))
-  -- (module (@custom "h" (before code)) (func nop) (@custom "k" (after data)) (@custom "g" (after elem))), the function with a hint and a name
+  -- (module (@custom "h" (before code)) (func nop) (@custom "k" (after data)) (@custom "g" (after elem)) (@custom "z")), the function with a hint and a name
   pub gaps : Assembles (custom "h" (Before CodeAnchor) [] ∷ define (id "f") (func_of no_use [] (plain 0x01 "nop" ∷ []) (record { index = 0; value = 0 } ∷ [])) ∷ custom "k" (After DataAnchor) [] ∷ custom "g" (After ElemAnchor) [] ∷ custom "z" AfterLast [] ∷ [])
       (one_function ++ (0x00 ∷ 0x02 ∷ 0x01 ∷ 0x67 ∷ 0x00 ∷ 0x02 ∷ 0x01 ∷ 0x68 ∷ 0x00 ∷ 0x20 ∷ 0x19 ∷ []) ++ codes "metadata.code.branch_hint" ++ (0x01 ∷ 0x00 ∷ 0x01 ∷ 0x01 ∷ 0x01 ∷ 0x00 ∷ 0x0A ∷ 0x05 ∷ 0x01 ∷ 0x03 ∷ 0x00 ∷ 0x01 ∷ 0x0B ∷ 0x00 ∷ 0x02 ∷ 0x01 ∷ 0x6B ∷ []) ++ names 0x0B (0x01 ∷ 0x04 ∷ 0x01 ∷ 0x00 ∷ 0x01 ∷ 0x66 ∷ []) ++ (0x00 ∷ 0x02 ∷ 0x01 ∷ 0x7A ∷ []))
   -- (module (func) (elem (table 0) (i32.const 0) func 0)) with a table, and the same without (table 0)

@@ -5,7 +5,7 @@ use Rattle.std.specs.List.{flat_map}
 use Rattle.wast_grammar.specs.Tokens.{Name}
 use Rattle.wast_grammar.specs.Spelling.{same_name}
 use Rattle.wast_field_syntax.specs.FieldTree as fields
-use Rattle.wast_field_syntax.specs.FieldTree.{Module}
+use Rattle.wast_field_syntax.specs.FieldTree.{Field, Module}
 use Rattle.wast_meaning.specs.Modules.{content_fields}
 use Rattle.wast_meaning.specs.Written.{by_counter}
 use Rattle.wast_meaning.specs.Made.{made, is_made}
@@ -14,9 +14,13 @@ use Rattle.wast_meant.specs.NamesMeant.{GivenName}
 use Rattle.wast_meant.specs.Meaning.{Meaning}
 use Rattle.wast_meant.specs.Binary.{in_bytes}
 
--- the names that a new counter makes for a tree
+-- The names that are made for fields: a new counter makes them, one for each that takes one, in order. No name that is read is such a name.
+abbrev pub naming : {P : Type 0} → List (Field Name P) → ℕ → Name
+naming fs = by_counter made 0 fs
+
+-- those for a tree
 abbrev pub naming_of : Module Name ℕ → ℕ → Name
-naming_of t = by_counter made 0 (content_fields t.content)
+naming_of t = naming (content_fields t.content)
 
 -- the text spells a tree, and that stands for m
 pub record Means {T : Type 0} (Spells : T → Module Name ℕ → Type 0) (text : T) (m : AbstractModule (List ℕ)) : Type 0 where

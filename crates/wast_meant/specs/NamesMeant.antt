@@ -19,14 +19,18 @@ pub data GivenName (N : Type 0) : Type 0 where
   Identifier : N → GivenName N
   Bytes : List ℕ → GivenName N
 
+-- what each has, where they are numbered from a number on
+abbrev pub entries : {A B : Type 0} → (ℕ → A → List B) → ℕ → List A → List B
+entries one n [] = []
+entries one n (x ∷ xs) = one n x ++ entries one (suc n) xs
+
 -- MAPS: those that have a name, by their numbers; of what is inside, those that have any
 abbrev pub naming : {A : Type 0} → ℕ → Option A → List (Naming A)
 naming n None = []
 naming n (Some name) = record { index = n; name = name } ∷ []
 
 abbrev pub named_from : {A : Type 0} → ℕ → List (Option A) → List (Naming A)
-named_from n [] = []
-named_from n (o ∷ os) = naming n o ++ named_from (suc n) os
+named_from n os = entries naming n os
 
 abbrev pub named : {A : Type 0} → List (Option A) → List (Naming A)
 named os = named_from 0 os
@@ -35,9 +39,11 @@ abbrev pub inner_naming : {A : Type 0} → ℕ → List (Naming A) → List (Inn
 inner_naming n [] = []
 inner_naming n (x ∷ xs) = record { index = n; names = x ∷ xs } ∷ []
 
+abbrev pub group_naming : {A : Type 0} → ℕ → List (Option A) → List (InnerNaming A)
+group_naming n os = inner_naming n (named os)
+
 abbrev pub inner_from : {A : Type 0} → ℕ → List (List (Option A)) → List (InnerNaming A)
-inner_from n [] = []
-inner_from n (os ∷ rest) = inner_naming n (named os) ++ inner_from (suc n) rest
+inner_from n groups = entries group_naming n groups
 
 abbrev pub inner_named : {A : Type 0} → List (List (Option A)) → List (InnerNaming A)
 inner_named groups = inner_from 0 groups
@@ -100,8 +106,7 @@ module _ {N P : Type 0} where
   body_hints (Some f) = map (λ h. record { index = h.index; value = h.value }) f.body.hints
 
   abbrev pub hints_from : ℕ → List (Option (Function N P)) → List FunctionHints
-  hints_from n [] = []
-  hints_from n (o ∷ os) = function_hints n (body_hints o) ++ hints_from (suc n) os
+  hints_from n os = entries (λ k o. function_hints k (body_hints o)) n os
 
 module _ {N P : Type 0} (is_made : N → Bool) where
   -- `@name` wins; a name that is made up is none

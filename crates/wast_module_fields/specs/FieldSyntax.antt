@@ -1,9 +1,9 @@
 -- The syntax of fields (WebAssembly 3.0, 6.6, the start function and modules).
 use Rattle.std.specs.Prelude.{List, [], ◌∷◌, codes}
-use Rattle.wast_parser.specs.Look.{Test, this_group, join}
+use Rattle.wast_parser.specs.Look.{Test, this_group, join, type_starts}
 use Rattle.wast_parser.specs.Grammar.{Syntax, word, seen, seq, either, paren}
 use Rattle.wast_parser.specs.Identifiers.{Reference, index}
-use Rattle.wast_signatures.specs.TypeSyntax.{type_starts, type_item, rec_group}
+use Rattle.wast_signatures.specs.TypeSyntax.{type_item, rec_group}
 use Rattle.wast_exports.specs.Exports.{export_starts, import_starts, export}
 use Rattle.wast_customs.specs.CustomSyntax.{custom_starts, custom}
 use Rattle.wast_imports.specs.ImportSyntax.{imports}

@@ -1,11 +1,11 @@
 -- What is numbered in its order, where some of it is written: at most one entry of each, with its number.
-use Rattle.std.specs.Prelude.{ℕ, suc, ◌≡◌, ◌+◌, ◌<◌, ◌^◌, List, [], ◌∷◌, ◌++◌, length, Option, Result, Ok, Err}
+use Rattle.std.specs.Prelude.{ℕ, ◌≡◌, ◌+◌, ◌<◌, ◌^◌, List, length, Option, Result, Ok, Err}
 use Rattle.std.specs.List.{AllByRecursion}
 use Rattle.wasm_encoder_bytes.specs.declared.error.EncodeError.{EncodeError}
 use Rattle.wasm_encoder_bytes.specs.declared.error.EncodeError.TheVariants.{TooLarge}
 use Rattle.wasm_encoder_base.specs.Lists.{Listed, no_items, with_items}
 use Rattle.wasm_layout.specs.AbstractModule.{Naming, InnerNaming}
-use Rattle.wast_meant.specs.NamesMeant.{naming, named, inner_naming}
+use Rattle.wast_meant.specs.NamesMeant.{entries, naming, group_naming}
 use Rattle.wast_name_maps.specs.Listed.{name_item, inner_item}
 
 -- the list so far, and the number of what comes next
@@ -15,11 +15,6 @@ pub record Numbered : Type 0 where
 
 abbrev pub none_yet : Numbered
 none_yet = record { list = no_items; next = 0 }
-
--- the entries from a number on
-abbrev pub entries : {A B : Type 0} → (ℕ → A → List B) → ℕ → List A → List B
-entries one n [] = []
-entries one n (x ∷ xs) = one n x ++ entries one (suc n) xs
 
 -- behind some more
 abbrev pub behind : {A B : Type 0} → (ℕ → A → List B) → (B → List ℕ) → Numbered → List A → Numbered
@@ -64,9 +59,6 @@ pub record GroupFits (n : InnerNaming (List ℕ)) : Type 0 where
   pub index : n.index < 2 ^ 32
   pub each : AllByRecursion NameFits n.names
   pub count : length n.names < 2 ^ 32
-
-abbrev pub group_naming : ℕ → List (Option (List ℕ)) → List (InnerNaming (List ℕ))
-group_naming n names = inner_naming n (named names)
 
 abbrev pub GroupsJoined : Numbered → Numbered → List (List (Option (List ℕ))) → Type 0
 GroupsJoined old new groups = Joined group_naming inner_item GroupFits old new groups

@@ -1,5 +1,5 @@
 -- What is known where indices become numbers.
-use Rattle.std.specs.Prelude.{ℕ, zero, suc, List, [], ◌∷◌, Option, Some, None, option_map, unwrap_or, slice_get}
+use Rattle.std.specs.Prelude.{ℕ, List, [], replicate, Option, Some, None, option_map, unwrap_or, slice_get}
 use Rattle.wasm_encoder_base.specs.Table as table
 use Rattle.wast_grammar.specs.Tokens.{Name}
 use Rattle.wast_grammar.specs.Spelling.{same_name}
@@ -19,18 +19,13 @@ use Rattle.wast_spaces.specs.Views.{spaces_of, fields_of_types}
 use Rattle.wast_numbered.specs.declared.place.Numbering.{Numbering}
 use Rattle.wast_numbered.specs.declared.place.Place.{Place}
 
--- so many that are alike
-abbrev pub so_many : {A : Type 0} → A → ℕ → List A
-so_many a zero = []
-so_many a (suc n) = a ∷ so_many a n
-
 -- a parameter without a name
 abbrev pub nameless : Local Name ℕ
 nameless = record { id = None; given = None; val_type = Number I32 }
 
 -- a signature with so many parameters, of which nothing else counts
 abbrev pub sig_with : ℕ → Sig Name ℕ
-sig_with count = record { params = so_many nameless count; results = [] }
+sig_with count = record { params = replicate count nameless; results = [] }
 
 -- the names of the fields of a type, and of that which an index names
 abbrev pub fields_in : Spaces → ℕ → names.Space Name

@@ -7,11 +7,12 @@ ghost use Rattle.wast_core_instr.specs.ExpressionViews.{expression_tree};
 ghost use Rattle.wast_names.specs.Views.{space};
 ghost use Rattle.wast_meaning.specs.Changed.{instr_changed, instrs_changed};
 ghost use Rattle.wast_meaning.specs.Numbered.{numbering};
+ghost use Rattle.wast_meaning.specs.Scope.{labels_found};
 ghost use Rattle.wast_meaning.specs.Spaces.{listed};
 ghost use Rattle.wast_well_formed.specs.Views.{turn_view};
 ghost use Rattle.wast_changed.specs.Rewritten.{expr_changed};
 ghost use Rattle.wast_numbered.specs.Place.{by_place, here};
-ghost use Rattle.wast_numbered.specs.Steps.{behind, seen, step_of, step_view};
+ghost use Rattle.wast_numbered.specs.Steps.{behind, step_of, step_view};
 
 use crate::place::Place;
 use crate::step::Step;
@@ -60,8 +61,8 @@ fn number_next<'a>(
     labels: &mut Labels<'a>,
     instr: &mut Instruction<'a>,
 ) -> Result<(), AllocError>
-    ensures tree { OnOk result (instruction_tree instr.new ≡ instr_changed (numbering (here spaces.now (space locals.now) (listed same_name (seen (step_of (instruction_tree instr.old)).0 labels.old)))) (instruction_tree instr.old)) }
-    ensures labels { OnOk result (labels.new ≡ behind (step_of (instruction_tree instr.old)).0 (step_of (instruction_tree instr.old)).1 (seen (step_of (instruction_tree instr.old)).0 labels.old)) }
+    ensures tree { OnOk result (instruction_tree instr.new ≡ instr_changed (numbering (here spaces.now (space locals.now) (listed same_name (labels_found (step_of (instruction_tree instr.old)).0 labels.old)))) (instruction_tree instr.old)) }
+    ensures labels { OnOk result (labels.new ≡ behind (step_of (instruction_tree instr.old)).0 (step_of (instruction_tree instr.old)).1 (labels_found (step_of (instruction_tree instr.old)).0 labels.old)) }
 {
     match Step::of(alloc, instr) {
         Ok(step) => number_by(spaces, locals, &step, labels, instr),
@@ -77,8 +78,8 @@ fn number_by<'a>(
     labels: &mut Labels<'a>,
     instr: &mut Instruction<'a>,
 ) -> Result<(), AllocError>
-    ensures tree { OnOk result (instruction_tree instr.new ≡ instr_changed (numbering (here spaces.now (space locals.now) (listed same_name (seen (step_view step.now).0 labels.old)))) (instruction_tree instr.old)) }
-    ensures labels { OnOk result (labels.new ≡ behind (step_view step.now).0 (step_view step.now).1 (seen (step_view step.now).0 labels.old)) }
+    ensures tree { OnOk result (instruction_tree instr.new ≡ instr_changed (numbering (here spaces.now (space locals.now) (listed same_name (labels_found (step_view step.now).0 labels.old)))) (instruction_tree instr.old)) }
+    ensures labels { OnOk result (labels.new ≡ behind (step_view step.now).0 (step_view step.now).1 (labels_found (step_view step.now).0 labels.old)) }
 {
     see(step, labels);
     number_one(spaces, locals, labels, instr)?;
@@ -104,7 +105,7 @@ fn number_one<'a>(
 
 /// Goes to where an instruction sees labels: one that closes a block, outside that.
 fn see<'a>(step: &Step<'a>, labels: &mut Labels<'a>)
-    ensures { labels.new ≡ seen (turn_view step.now.turn) labels.old }
+    ensures { labels.new ≡ labels_found (turn_view step.now.turn) labels.old }
 {
     if step.turn == Turn::Closes {
         labels.close();

@@ -1,5 +1,5 @@
 //! The locals of a function.
-ghost use Rattle.std.specs.Prelude.{◌≡◌, ◌++◌, IfOk, OnOk, Some, None, map, option_map};
+ghost use Rattle.std.specs.Prelude.{◌≡◌, ◌++◌, IfOk, OnOk, Some, None, map, option_map, replicate};
 ghost use Rattle.wast_grammar.specs.Spelling.{same_name};
 ghost use Rattle.wast_parser.specs.Identifiers.{identifier_tree};
 ghost use Rattle.wast_signatures.specs.SignatureViews.{param_tree, use_tree};
@@ -7,7 +7,7 @@ ghost use Rattle.wast_module_fields.specs.FuncViews.{local_tree};
 ghost use Rattle.wast_names.specs.Space.{empty, grown, name_in};
 ghost use Rattle.wast_names.specs.Views.{space};
 ghost use Rattle.wast_meaning.specs.Scope.{params_of};
-ghost use Rattle.wast_numbered.specs.Place.{joined, scope, so_many};
+ghost use Rattle.wast_numbered.specs.Place.{joined, scope};
 
 use crate::place::Numbering;
 use std::alloc::{AllocError, Global};
@@ -72,7 +72,7 @@ fn add_written<'a>(
 
 /// So many without names.
 fn add_nameless(count: usize, names: &mut Namespace<'_>) -> Result<(), AllocError>
-    ensures { OnOk result (space names.new ≡ joined (space names.old) (so_many None count)) }
+    ensures { OnOk result (space names.new ≡ joined (space names.old) (replicate count None)) }
 {
     for _number in 0..count {
         match add_one(names) {

@@ -1,5 +1,5 @@
 //! What indices mean, outside of instructions and at each.
-ghost use Rattle.std.specs.Prelude.{◌≡◌, Some, None, option_map};
+ghost use Rattle.std.specs.Prelude.{◌≡◌, Some, None, option_map, replicate};
 ghost use Rattle.wasm_encoder_base.specs.Table.{Types};
 ghost use Rattle.wast_grammar.specs.Tokens.{Name};
 ghost use Rattle.wast_parser.specs.Identifiers.{identifier_tree, index_tree};
@@ -9,7 +9,7 @@ ghost use Rattle.wast_meaning.specs.Numbered.{numbering};
 ghost use Rattle.wast_meaning.specs.Scope.{params_of_index};
 ghost use Rattle.wast_meaning.specs.Views.{space_view};
 ghost use Rattle.wast_spaces.specs.Views.{spaces_of};
-ghost use Rattle.wast_numbered.specs.Place.{fields_in, members_in, scope, scope_here, so_many};
+ghost use Rattle.wast_numbered.specs.Place.{fields_in, members_in, scope, scope_here};
 
 use std::alloc::AllocError;
 use wast_changed::Changing;
@@ -161,7 +161,7 @@ fn number_type<'a>(spaces: &Spaces<'a>, index: &mut Option<Index<'a>>)
 impl<'a> Numbering<'_, 'a> {
     /// How many parameters the type that an index names has.
     pub(crate) fn param_count(&self, index: &Index<'a>) -> usize
-        ensures { so_many None result ≡ params_of_index (scope self.now) (Some (index_tree index.now)) }
+        ensures { replicate result None ≡ params_of_index (scope self.now) (Some (index_tree index.now)) }
     {
         match self.spaces.space(Space::Types).number_of(index) {
             Some(number) => count_at(self.params, number),

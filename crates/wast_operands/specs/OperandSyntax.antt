@@ -4,11 +4,11 @@ use Rattle.std.specs.Int.{is_power_of_two}
 use Rattle.wast_vector_operands.specs.Numbers.{is_base}
 use Rattle.wast_vector_operands.specs.Tokens.{number, base_of}
 use Rattle.wast_vector_operands.specs.Spelling.{◌>>=◌, after}
-use Rattle.wast_vector_operands.specs.Look.{Test, On, OneOf, Begun, Any, AnId, AnInteger, AWord, this_group, join, faults}
+use Rattle.wast_vector_operands.specs.Look.{Test, On, OneOf, Begun, AWord, this_group, join, faults, id_starts, index_starts, integer_starts, type_starts}
 use Rattle.wast_vector_operands.specs.Grammar.{Syntax, among, begun, word, nothing, next, seq, seen, only, maybe, many, either, group}
-use Rattle.wast_vector_operands.specs.Integers.{number_in, unsigned}
+use Rattle.wast_vector_operands.specs.Integers.{number_in, unsigned, u32}
 use Rattle.wast_vector_operands.specs.Identifiers.{Reference, ByNumber, ByName, identifier, index, item_ref}
-use Rattle.wast_vector_operands.specs.VectorSyntax.{integer_starts, lane}
+use Rattle.wast_vector_operands.specs.VectorSyntax.{lane}
 use Rattle.wast_operands.specs.OperandTree.{Ordering, AcqRel, SeqCst, MemArgTarget, Memory, Array, Modifiers, MemArg, Handle, OnLabel, OnSwitch}
 
 -- NUMBERS IN WORDS, as in `offset=8`
@@ -39,12 +39,6 @@ abbrev pub orderings : List Ordering
 orderings = AcqRel ∷ SeqCst ∷ []
 
 -- WHAT THEY BEGIN WITH
-abbrev pub id_starts : List Test
-id_starts = On false AnId Any ∷ []
-
-abbrev pub index_starts : List Test
-index_starts = On false AnInteger Any ∷ On false AnId Any ∷ []
-
 abbrev pub ordering_starts : List Test
 ordering_starts = On false AWord (OneOf (map ordering_word orderings) []) ∷ []
 
@@ -56,9 +50,6 @@ align_starts = On false AWord (Begun (codes "align=")) ∷ []
 
 abbrev pub modifier_starts : List Test
 modifier_starts = join ordering_starts (join offset_starts align_starts)
-
-abbrev pub type_starts : List Test
-type_starts = this_group (codes "type") ∷ []
 
 abbrev pub handle_starts : List Test
 handle_starts = this_group (codes "on") ∷ []
@@ -95,11 +86,8 @@ module _ {N P : Type 0} where
   two_indices = seq index index
 
   -- index u32
-  abbrev pub u32_operand : Syntax N P ℕ
-  u32_operand = seen (λ n. n.0) (number_in (2 ^ 32 - 1) None unsigned)
-
   abbrev pub index_count : Syntax N P (Reference N P × ℕ)
-  index_count = seq index u32_operand
+  index_count = seq index u32
 
   -- index index*, the last of which is the default of br_table
   abbrev pub label_table : Syntax N P (List (Reference N P) × Reference N P)

@@ -2,9 +2,8 @@
 ghost use Rattle.std.specs.Prelude.{◌≡◌, codes, option_map};
 ghost use Rattle.wast_vector_operands.specs.Grammar.{begun, seen};
 ghost use Rattle.wast_vector_operands.specs.State.{ahead, Keeps};
-ghost use Rattle.wast_vector_operands.specs.Look.{ask, join};
+ghost use Rattle.wast_vector_operands.specs.Look.{ask, join, integer_starts};
 ghost use Rattle.wast_vector_operands.specs.Reading.{Asks, Gives};
-ghost use Rattle.wast_vector_operands.specs.VectorSyntax.{integer_starts};
 ghost use Rattle.wast_operands.specs.OperandSyntax.{offset_starts, align_starts, lane_starts, u64_number, alignment, target, one_or_two_orderings, offset, align, modifiers, is_bare, as_mem_arg, mem_arg, behind_integer, integer_first, untargeted_lane, mem_arg_lane};
 ghost use Rattle.wast_operands.specs.OperandViews.{target_tree, mem_arg_ordering_tree, modifiers_tree, mem_arg_tree, lane_access_tree};
 

@@ -1,7 +1,7 @@
 -- The syntax of identifiers, of indices and of the annotation that names (WebAssembly 3.0, 6.3.5 and 7.6.1).
-use Rattle.std.specs.Prelude.{ℕ, ◌-◌, ◌^◌, false, List, [], ◌∷◌, None, codes}
+use Rattle.std.specs.Prelude.{ℕ, ◌-◌, ◌^◌, List, ◌∷◌, None, codes}
 use Rattle.wast_grammar.specs.Tokens.{Name}
-use Rattle.wast_grammar.specs.Look.{On, AnInteger, Any}
+use Rattle.wast_grammar.specs.Look.{integer_starts}
 use Rattle.wast_grammar.specs.Grammar.{Syntax, seen, seq, id, mark, word, either, paren}
 use Rattle.wast_parser_base.specs.Identifier.{Identifier}
 use Rattle.wast_parser_base.specs.declared.index.Index.{Index}
@@ -24,7 +24,7 @@ module _ {N P : Type 0} where
 
   -- u32 or an identifier
   abbrev pub index : Syntax N P (Reference N P)
-  index = either (On false AnInteger Any ∷ []) (seen (λ n. ByNumber n.0 n.1) (number_in (2 ^ 32 - 1) None unsigned)) (seen ByName identifier)
+  index = either integer_starts (seen (λ n. ByNumber n.0 n.1) (number_in (2 ^ 32 - 1) None unsigned)) (seen ByName identifier)
 
   -- @name "..", and what it says
   abbrev pub name_annotation : Syntax N P (List ℕ)

@@ -25,10 +25,10 @@ pub trait ResolveModule<'a> {
     /// What contracts see of it.
     ghost tree: { Self → spec.Module Name ℕ };
 
-    /// Writes the fields out, gives each use its type and makes each index the number that it means (6.1.3, and 6.6, type uses), and answers what names
-    /// mean. Pieces of a binary stay as they are, and want no memory; place and name of the module stay too. A field that is referred to and
-    /// has no name takes the next one of `gensym`, and there is room for one a field. A name that is taken is fresh where each name of the
-    /// module that was made is one that `gensym` made since its last reset; else it may be that of another item.
+    /// Writes the fields out, gives each use its type and makes each index the number that it means (6.1.3, and 6.6, type uses), and answers what
+    /// names mean. Pieces of a binary stay as they are, and want no memory; place and name of the module stay too. A field that is referred to and
+    /// has no name takes the next one of `gensym`, and there is room for one a field. A name that is taken is fresh where each name of the module
+    /// that was made is one that `gensym` made since its last reset; else it may be that of another item.
     ///
     /// Refuses a module of which a demand of names isn't met, by the first, with its place and message; else only where no memory is found,
     /// or there are more than 4294967295 items of a kind, types with those that uses imply, fields of a structure, parameters and locals of

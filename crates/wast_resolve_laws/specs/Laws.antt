@@ -14,7 +14,7 @@ use Rattle.wast_field_syntax.specs.FieldTree.{Field}
 use Rattle.wast_meaning.specs.Written.{written_out}
 use Rattle.wast_meaning.specs.Spaces.{Bound, space_word, denotes, fields_at, items, items_in, ids_in}
 use Rattle.wast_meaning.specs.Implied.{same_sig, same_written, implied, sig_at, type_taken}
-use Rattle.wast_meaning.specs.Scope.{Scope, scope_of, scope_at, open_labels}
+use Rattle.wast_meaning.specs.Scope.{Scope, scope_of, scope_at, open_labels, labels_after}
 use Rattle.wast_meaning.specs.Demands.{nearest, order_demand, order_demands, item_demand, spaces_after, item_demands, instrs_demands, demands, all_demands}
 use Rattle.wast_meaning.specs.Changed.{instr_changed, instrs_changed}
 use Rattle.wast_meaning.specs.Numbered.{numbering, expanded, numbered, resolved}
@@ -22,7 +22,7 @@ use Rattle.wast_meaning.specs.Fresh.{taken_from, is_fresh}
 use Rattle.wast_meaning.specs.Settled.{are_settled, are_typed}
 use Rattle.wast_resolve_laws.specs.Numbers.{are_numbers}
 use Rattle.wast_resolve_laws.specs.Renamed.{fields_renamed, demand_renamed}
-use Rattle.wast_resolve_laws.specs.Walks.{tested, own_demands, labels_after, scope_among, demands_among}
+use Rattle.wast_resolve_laws.specs.Walks.{tested, own_demands, scope_among, demands_among}
 
 -- FIELDS THAT HAVE THEIR TYPES, with the implied types behind them
 -- A name means the same in each space,

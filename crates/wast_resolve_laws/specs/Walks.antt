@@ -1,11 +1,10 @@
 -- The walks of `wast_meaning` in other orders: each space by itself, labels handed on from instruction to instruction, and demands
 -- tested on the way.
-use Rattle.std.specs.Prelude.{List, [], ◌∷◌, ◌++◌, drop, Option, None}
+use Rattle.std.specs.Prelude.{List, [], ◌∷◌, ◌++◌, Option, None}
 use Rattle.std.specs.Option.{option_or}
 use Rattle.std.specs.List.{flat_map}
 use Rattle.std.specs.Prelude.{Bool}
 use Rattle.wasm_encoder_base.specs.Table.{Space, Fields}
-use Rattle.wasm_encoder_base.specs.Balanced.{Turn, Closes}
 use Rattle.wast_parser.specs.Identifiers.{Named}
 use Rattle.wast_names.specs.Walk.{walked}
 use Rattle.wast_names.specs.Demand.{Demand}
@@ -13,7 +12,7 @@ use Rattle.wast_names.specs.Space as names
 use Rattle.wast_core_instr.specs.InstructionTree.{Instruction}
 use Rattle.wast_meaning.specs.Mentions.{instr_mentions}
 use Rattle.wast_meaning.specs.Spaces.{Bound, space_word, listed}
-use Rattle.wast_meaning.specs.Scope.{Scope, turn_of_head, own_label, labels_left, labels_or}
+use Rattle.wast_meaning.specs.Scope.{Scope, turn_of_head, labels_found, labels_or}
 use Rattle.wast_meaning.specs.Demands.{mention_demands}
 
 -- TESTED ON THE WAY: the first answer of the elements, each by what is known before it
@@ -32,14 +31,7 @@ module _ {N P : Type 0} (eq : N → N → Bool) (s : Space) where
   abbrev pub own_demands : List (Bound N P) → List (Demand N P)
   own_demands bs = walked own_demand own_space names.empty bs
 
--- LABELS HANDED ON: those among which an instruction looks labels up, and those of the open blocks after it, the innermost first
-abbrev pub labels_found : {A : Type 0} → Turn → List A → List A
-labels_found Closes labels = drop 1 labels
-labels_found turn labels = labels
-
-abbrev pub labels_after : {N P : Type 0} → List (Option (Named N P)) → Instruction N P → List (Option (Named N P))
-labels_after labels i = labels_left (turn_of_head i.head) (own_label i.operands) labels
-
+-- LABELS HANDED ON
 module _ {N P : Type 0} (eq : N → N → Bool) (s : Scope N P) where
   -- for an instruction among these labels
   abbrev pub scope_among : List (Option (Named N P)) → Instruction N P → Scope N P

@@ -1,6 +1,6 @@
-//! Laws over what `wast_meaning` says of names and types (WebAssembly Core Specification 3.0, 6.1.3 and 6.6, type uses), and no code: what stays where
-//! fields are written out, where uses get their types, where indices get their numbers, and where names and places are others; and that
-//! what is walked in one order may be walked in another.
+//! Laws over what `wast_meaning` says of names and types (WebAssembly Core Specification 3.0, 6.1.3 and 6.6, type uses), and no code: what stays
+//! where fields are written out, where uses get their types, where indices get their numbers, and where names and places are others; and that what is
+//! walked in one order may be walked in another.
 //!
 //! # What has to be believed
 //!

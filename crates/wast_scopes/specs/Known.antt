@@ -1,9 +1,8 @@
 -- What is known at a place of a module, as code knows it, and what is demanded of mentions by it: a scope of the definitions is seen
 -- by which number names mean, by its function types as numbered, and by its labels.
-use Rattle.std.specs.Prelude.{ℕ, is_some, List, [], ◌∷◌, ◌++◌, map, drop, Option, Some, None, option_and_then, option_map, option_to_list}
+use Rattle.std.specs.Prelude.{ℕ, is_some, List, [], ◌∷◌, ◌++◌, map, Option, Some, None, option_and_then, option_map, option_to_list}
 use Rattle.std.specs.List.{flat_map}
 use Rattle.wasm_encoder_base.specs.Table.{Space, Locals, Types, Fields}
-use Rattle.wasm_encoder_base.specs.Balanced.{Turn, Opens, Closes, Stays}
 use Rattle.wast_grammar.specs.Tokens.{Name}
 use Rattle.wast_grammar.specs.Spelling.{same_name}
 use Rattle.wast_parser.specs.Identifiers.{Named, Reference, ByNumber, ByName}
@@ -17,7 +16,7 @@ use Rattle.wast_core_instr.specs.InstructionTree.{Instruction}
 use Rattle.wast_module_fields.specs.FieldTree.{Function}
 use Rattle.wast_meaning.specs.Spaces.{space_word}
 use Rattle.wast_meaning.specs.Mentions.{Mention, Refers, Member, Uses, UsesInBlock, Repeats, Part, Says, Constant, Body, use_mentions, local_mentions, instr_mentions}
-use Rattle.wast_meaning.specs.Scope.{Scope, labels_or, locals_or, turn_of_head, own_label}
+use Rattle.wast_meaning.specs.Scope.{Scope, labels_or, locals_or, turn_of_head, labels_found, labels_after}
 use Rattle.wast_meaning.specs.Demands.{place_of, is_own}
 use Rattle.wast_scopes.specs.Numbered.{Look, number_by, NumberedSig, numbered_sig, same_sig_by, params_in}
 
@@ -50,21 +49,9 @@ with_locals k ids = record { look = locals_or (look_among ids) k.look; fields = 
 abbrev pub with_labels : Known → (seen blocks : Labelled) → Known
 with_labels k seen blocks = record { look = labels_or (look_among seen) k.look; fields = k.fields; sig_of = k.sig_of; blocks = blocks }
 
--- what an instruction makes of the labels of open blocks, and which of them it looks into
-abbrev pub turned : Turn → Option (Named Name ℕ) → Labelled → Labelled
-turned Opens label blocks = label ∷ blocks
-turned Closes label blocks = drop 1 blocks
-turned Stays label blocks = blocks
-
-abbrev pub seen : Turn → Labelled → Labelled
-seen Closes blocks = drop 1 blocks
-seen _ blocks = blocks
-
-abbrev pub after : Labelled → Instruction Name ℕ → Labelled
-after blocks i = turned (turn_of_head i.head) (own_label i.operands) blocks
-
+-- at an instruction, in the blocks that are open there
 abbrev pub known_at : Known → Labelled → Instruction Name ℕ → Known
-known_at k blocks i = with_labels k (seen (turn_of_head i.head) blocks) blocks
+known_at k blocks i = with_labels k (labels_found (turn_of_head i.head) blocks) blocks
 
 -- WHAT IS DEMANDED
 abbrev pub known_by : List ℕ → Look → Reference Name ℕ → List (Demand Name ℕ)
@@ -104,7 +91,7 @@ abbrev pub instr_by : Known → Labelled → Instruction Name ℕ → List (Dema
 instr_by k blocks i = flat_map (mention_by (known_at k blocks i)) (instr_mentions i)
 
 abbrev pub instrs_by : Known → Labelled → List (Instruction Name ℕ) → List (Demand Name ℕ)
-instrs_by k blocks is = walked (instr_by k) after blocks is
+instrs_by k blocks is = walked (instr_by k) labels_after blocks is
 
 -- the parameters of the function type that an index names
 abbrev pub params_of_index_by : Known → Option (Reference Name ℕ) → Labelled

@@ -12,9 +12,10 @@ ghost use Rattle.wast_names.specs.Demand.{Answers};
 ghost use Rattle.wast_names.specs.Space as names;
 ghost use Rattle.wast_names.specs.Views.{space};
 ghost use Rattle.wast_meaning.specs.Mentions.{instr_mentions, local_mentions, val_mentions};
+ghost use Rattle.wast_meaning.specs.Scope.{labels_after};
 ghost use Rattle.wast_meaning.specs.Spaces.{space_word};
 ghost use Rattle.wast_mentions.specs.Views.{mention_tree};
-ghost use Rattle.wast_scopes.specs.Known.{after, func_by, instr_by, instrs_by, known_by, look_among, mention_by, params_by, params_of_index_by, use_by, with_labels};
+ghost use Rattle.wast_scopes.specs.Known.{func_by, instr_by, instrs_by, known_by, look_among, mention_by, params_by, params_of_index_by, use_by, with_labels};
 ghost use Rattle.wast_scopes.specs.Numbered.{params_in};
 ghost use Rattle.wast_scopes.specs.NumberedViews.{sig_of_numbered, value_of_numbered};
 ghost use Rattle.wast_scopes.specs.Views.{known};
@@ -260,7 +261,7 @@ fn check_instruction<'a>(
     labels: &mut Labels<'a>,
     instruction: &Instruction<'a>,
 ) -> Result<(), Error>
-    ensures labels { OnOk result (labels.new ≡ after labels.old (instruction_tree instruction.now)) }
+    ensures labels { OnOk result (labels.new ≡ labels_after labels.old (instruction_tree instruction.now)) }
     ensures answers { Answers result (instr_by (known scope.now) labels.old (instruction_tree instruction.now)) }
 {
     match instruction {

@@ -2,10 +2,9 @@
 -- a type has its index, alignments are powers of two below 65536, constant expressions close the blocks that they open, and each form has bytes.
 use Rattle.std.specs.Prelude.{◌≡◌, [], All}
 use Rattle.wasm_encoder_base.specs.Balanced.{IsBalanced}
-use Rattle.wast_imports.specs.ImportTree.{ImportItems, Single, Group1, Group2}
 use Rattle.wast_fields.specs.FieldTree.{Expr, Function, Elements, Indices, Expressions, Defined, Func, Table, Memory, Global, Tag, ElemMode, ActiveElem, DataMode, ActiveData, Field, TypeField, RecField, ImportField, Define, ExportField, StartField, ElemField, DataField}
 use Rattle.wast_conversions.specs.Operands.{OperandsAligned}
-use Rattle.wast_conversions.specs.Resolved.{IfThere, IsNumber, RefResolved, ValResolved, TypeResolved, UseResolved, ExternResolved, InstrsResolved}
+use Rattle.wast_conversions.specs.Resolved.{IfThere, IsNumber, RefResolved, ValResolved, TypeResolved, UseResolved, ImportResolved, InstrsResolved}
 use Rattle.wast_meant.specs.Covered.{field_forms}
 use Rattle.wast_meant.specs.FieldsMeant.{expr_meant}
 
@@ -20,12 +19,6 @@ module _ {N P : Type 0} where
     pub resolved : InstrsResolved e.instrs
     pub aligned : All (λ i. OperandsAligned i.operands) e.instrs
     pub balanced : IsBalanced (expr_meant e) 0
-
-  -- what is imported (6.6, imports)
-  abbrev pub ImportResolved : ImportItems N P → Type 0
-  ImportResolved (Single name i) = ExternResolved i.extern_type
-  ImportResolved (Group1 is) = All (λ i. ExternResolved i.1.extern_type) is
-  ImportResolved (Group2 names i) = ExternResolved i.extern_type
 
   -- what is defined (6.6)
   pub record FunctionReady (f : Function N P) : Type 0 where
@@ -54,18 +47,18 @@ module _ {N P : Type 0} where
   DataModeReady (ActiveData memory offset) = IfThere IsNumber memory × ConstantReady offset
   DataModeReady _ = Unit {0}
 
-  -- fields, whatever forms stand in them
-  abbrev pub FieldResolved : Field N P → Type 0
-  FieldResolved (TypeField t) = TypeResolved t.definition
-  FieldResolved (RecField r) = All (λ t. TypeResolved t.definition) r.types
-  FieldResolved (ImportField i) = ImportResolved i.items
-  FieldResolved (Define d) = DefinedReady d.defined
-  FieldResolved (ExportField e) = IsNumber e.item
-  FieldResolved (StartField s) = IsNumber s.func
-  FieldResolved (ElemField e) = ElemModeReady e.mode × ElementsReady e.elements
-  FieldResolved (DataField d) = DataModeReady d.mode
-  FieldResolved _ = Unit {0}
+  -- fields whose parts are ready, whatever forms stand in them
+  abbrev pub FieldOfReadyParts : Field N P → Type 0
+  FieldOfReadyParts (TypeField t) = TypeResolved t.definition
+  FieldOfReadyParts (RecField r) = All (λ t. TypeResolved t.definition) r.types
+  FieldOfReadyParts (ImportField i) = ImportResolved i.items
+  FieldOfReadyParts (Define d) = DefinedReady d.defined
+  FieldOfReadyParts (ExportField e) = IsNumber e.item
+  FieldOfReadyParts (StartField s) = IsNumber s.func
+  FieldOfReadyParts (ElemField e) = ElemModeReady e.mode × ElementsReady e.elements
+  FieldOfReadyParts (DataField d) = DataModeReady d.mode
+  FieldOfReadyParts _ = Unit {0}
 
   pub record FieldReady (f : Field N P) : Type 0 where
-    pub resolved : FieldResolved f
+    pub resolved : FieldOfReadyParts f
     pub covered : field_forms f ≡ []

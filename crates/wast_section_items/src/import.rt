@@ -8,12 +8,12 @@ ghost use Rattle.wasm_layout.specs.IsModule.{IsEntity, IsImport};
 ghost use Rattle.wast_imports.specs.ImportViews.{from_of, items_tree, imports_tree, member_tree, member_name_tree};
 ghost use Rattle.wast_fields.specs.FieldTree.{ImportField};
 ghost use Rattle.wast_conversions.specs.Types.{extern_meant};
-ghost use Rattle.wast_conversions.specs.Resolved.{ExternResolved};
+ghost use Rattle.wast_conversions.specs.Resolved.{ExternResolved, ImportResolved};
 ghost use Rattle.wast_conversions.specs.Covered.{extern_forms};
 ghost use Rattle.wast_meant.specs.Covered.{import_forms};
 ghost use Rattle.wast_meant.specs.FieldsMeant.{import_of, imports_of};
 ghost use Rattle.wast_section_items.specs.Fits.{ImportsFit};
-ghost use Rattle.wast_section_items.specs.Ready.{ImportResolved, FieldReady};
+ghost use Rattle.wast_section_items.specs.Ready.{FieldReady};
 
 use crate::adding::add_imports;
 use crate::item::SectionItem;

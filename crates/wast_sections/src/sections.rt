@@ -369,8 +369,8 @@ impl FieldItems for ExportItems {
     }
 }
 
-/// The section of element segments (6.6, element segments). Refused for want of memory, and as too large where their count, or a count or length in them, is past
-/// 4294967295.
+/// The section of element segments (6.6, element segments). Refused for want of memory, and as too large where their count, or a count or length in
+/// them, is past 4294967295.
 pub fn elements(alloc: Global, fields: &[ModuleField<'_>]) -> Result<ElementSection, EncodeError>
     requires { All (λ f. FieldReady (field_tree f)) fields.now }
     ensures { Holds (element_bytes expr_bytes) ElementFits IsElement (flat_map elements_of (map field_tree fields.now)) result }
@@ -453,8 +453,8 @@ impl FieldItems for CodeItems {
     }
 }
 
-/// The section of data segments (6.6, data segments). Refused for want of memory, and as too large where their count, or a count or length in them, is past
-/// 4294967295.
+/// The section of data segments (6.6, data segments). Refused for want of memory, and as too large where their count, or a count or length in them,
+/// is past 4294967295.
 pub fn datas(alloc: Global, fields: &[ModuleField<'_>]) -> Result<DataSection, EncodeError>
     requires { All (λ f. FieldReady (field_tree f)) fields.now }
     ensures { Holds (data_bytes expr_bytes) DataFits IsData (flat_map datas_of (map field_tree fields.now)) result }

@@ -1,19 +1,16 @@
 -- The syntax of signatures, composite types, type definitions and type uses (WebAssembly 3.0, 6.4 and 6.6).
 use Rattle.std.specs.Prelude.{ℕ, Bool, true, false, List, [], ◌∷◌, map, Option, Some, None, codes}
 use Rattle.std.specs.List.{flat_map}
-use Rattle.wast_value_types.specs.Look.{Test, On, AnId, Any, this_group, this_annotation}
+use Rattle.wast_value_types.specs.Look.{Test, this_group, this_annotation, id_starts, index_starts, type_starts}
 use Rattle.wast_value_types.specs.Grammar.{Syntax, word, seen, seq, maybe, many, either, group, paren}
 use Rattle.wast_value_types.specs.Recursion.{fix}
 use Rattle.wast_value_types.specs.Identifiers.{Named, Reference, identifier, index, name_annotation}
 use Rattle.wast_value_types.specs.ValueTree.{ValType, FieldType}
 use Rattle.wast_value_types.specs.WordSyntax.{optional}
-use Rattle.wast_value_types.specs.ValueSyntax.{val_type, field_type, index_starts, val_starts, field_starts}
+use Rattle.wast_value_types.specs.ValueSyntax.{val_type, field_type, val_starts, field_starts}
 use Rattle.wast_signatures.specs.TypeTree.{Local, Sig, StructField, InnerType, FuncType, StructType, ArrayType, ContType, CompType, TypeDef, TypeItem, Rec, TypeUse}
 
 -- WHERE THEY BEGIN
-abbrev pub id_starts : List Test
-id_starts = On false AnId Any ∷ []
-
 abbrev pub given_starts : List Test
 given_starts = this_annotation (codes "name") ∷ []
 
@@ -25,9 +22,6 @@ shared_starts = this_group (codes "shared") ∷ []
 
 abbrev pub comp_starts : List Test
 comp_starts = this_group (codes "shared") ∷ this_group (codes "func") ∷ this_group (codes "struct") ∷ this_group (codes "array") ∷ this_group (codes "cont") ∷ []
-
-abbrev pub type_starts : List Test
-type_starts = this_group (codes "type") ∷ []
 
 -- lists, one after the other
 abbrev pub joined : {A : Type 0} → List (List A) → List A

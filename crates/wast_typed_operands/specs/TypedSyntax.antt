@@ -1,12 +1,12 @@
 -- The syntax of operands in which types stand (WebAssembly 3.0, 6.5).
 use Rattle.std.specs.Prelude.{◌||◌, Bool, false, List, [], ◌∷◌, Option, Some, None, is_some, codes}
-use Rattle.wast_signatures.specs.Look.{Test, this_group, join}
+use Rattle.wast_signatures.specs.Look.{Test, this_group, join, id_starts, index_starts, type_starts}
 use Rattle.wast_signatures.specs.Grammar.{Syntax, nothing, seq, wide, seen, only, maybe, many, either, group}
 use Rattle.wast_signatures.specs.Identifiers.{Reference, Named, identifier, index}
 use Rattle.wast_signatures.specs.ValueTree.{RefType, ValType}
-use Rattle.wast_signatures.specs.ValueSyntax.{index_starts, ref_type}
+use Rattle.wast_signatures.specs.ValueSyntax.{ref_type}
 use Rattle.wast_signatures.specs.TypeTree.{TypeUse}
-use Rattle.wast_signatures.specs.TypeSyntax.{id_starts, type_starts, sig_starts, joined, result, bare_use}
+use Rattle.wast_signatures.specs.TypeSyntax.{sig_starts, joined, result, bare_use}
 use Rattle.wast_typed_operands.specs.TypedTree.{Block, Catch, CatchTag, CatchTagRef, CatchAll, CatchAllRef, TryTable, Indirect, Cast}
 
 -- WHAT THEY BEGIN WITH

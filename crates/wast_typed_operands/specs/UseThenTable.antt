@@ -1,9 +1,9 @@
 -- A type use, and then an index where any of it is written: how a private function reads them.
 use Rattle.std.specs.Prelude.{if◌then◌else◌, Some, None}
+use Rattle.wast_signatures.specs.Look.{index_starts}
 use Rattle.wast_signatures.specs.Spelling.{◌>>=◌}
 use Rattle.wast_signatures.specs.Grammar.{Reader, maybe}
 use Rattle.wast_signatures.specs.Identifiers.{index}
-use Rattle.wast_signatures.specs.ValueSyntax.{index_starts}
 use Rattle.wast_signatures.specs.TypeSyntax.{bare_use}
 use Rattle.wast_typed_operands.specs.TypedTree.{Indirect}
 use Rattle.wast_typed_operands.specs.TypedSyntax.{is_written, table_last}

@@ -1,9 +1,9 @@
 -- The syntax of the types of values, heaps, tables, memories and globals (WebAssembly 3.0, 6.4).
 use Rattle.std.specs.Prelude.{ℕ, ◌-◌, ◌^◌, ◌==◌, zero, suc, Bool, true, false, if◌then◌else◌, List, [], ◌∷◌, Option, Some, None, is_some, unwrap_or, codes}
 use Rattle.wasm_encoder_base.specs.Types.{FuncHeap, ExternHeap, AnyHeap, EqHeap, I31Heap, StructHeap, ArrayHeap, ExnHeap, NoFuncHeap, NoExternHeap, NoneHeap, NoExnHeap}
-use Rattle.wast_words.specs.Look.{Test, On, Any, AnInteger, AnId, this_group, join}
+use Rattle.wast_words.specs.Look.{Test, this_group, join, index_starts, integer_starts}
 use Rattle.wast_words.specs.Grammar.{Syntax, seen, only, seq, maybe, either, group}
-use Rattle.wast_words.specs.Integers.{number_in, unsigned}
+use Rattle.wast_words.specs.Integers.{number_in, unsigned, u32}
 use Rattle.wast_words.specs.Identifiers.{index}
 use Rattle.wast_words.specs.WordSyntax.{keywords, keyword, optional}
 use Rattle.wast_value_types.specs.ValueTree.{NumberType, I32, I64, F32, F64, V128, HeapWord, Known, Cont, NoCont, HeapType, Abstract, Concrete, Exact, RefType, ValType, Number, Ref, PackedType, I8, I16, StorageType, Packed, Value, FieldType, Limits, TableType, MemoryType, GlobalType}
@@ -67,9 +67,6 @@ unfoldable pub exponent : ℕ → Option ℕ
 exponent n = exponent_below 32 n
 
 -- WHAT THEY BEGIN WITH
-abbrev pub index_starts : List Test
-index_starts = On false AnInteger Any ∷ On false AnId Any ∷ []
-
 abbrev pub heap_starts : List Test
 heap_starts = join index_starts (join (keywords heap_words) (this_group (codes "exact") ∷ this_group (codes "shared") ∷ []))
 
@@ -96,9 +93,6 @@ abbrev pub as_memory : Limits × (Bool × Option ℕ) → MemoryType
 as_memory m = record { limits = m.0; shared = m.1.0; page = m.1.1 }
 
 module _ {N P : Type 0} where
-  abbrev pub u32 : Syntax N P ℕ
-  u32 = seen (λ n. n.0) (number_in (2 ^ 32 - 1) None unsigned)
-
   abbrev pub u64 : Syntax N P ℕ
   u64 = seen (λ n. n.0) (number_in (2 ^ 64 - 1) None unsigned)
 
@@ -153,7 +147,7 @@ module _ {N P : Type 0} where
   address_type = seen (λ a. unwrap_or a false) (maybe (keywords address_words) (keyword address_words))
 
   abbrev pub limits : Syntax N P Limits
-  limits = seen as_limits (seq address_type (seq u64 (maybe (On false AnInteger Any ∷ []) u64)))
+  limits = seen as_limits (seq address_type (seq u64 (maybe integer_starts u64)))
 
   -- TABLE TYPES (6.4.12): shared? limits ref_type
   abbrev pub as_table : Bool × (Limits × RefType N P) → TableType N P

@@ -19,9 +19,6 @@ abbrev pub shapes : List Shape
 shapes = I8x16 ∷ I16x8 ∷ I32x4 ∷ I64x2 ∷ F32x4 ∷ F64x2 ∷ []
 
 -- WHAT THEY BEGIN WITH
-abbrev pub integer_starts : List Test
-integer_starts = On false AnInteger Any ∷ []
-
 abbrev pub float_starts : List Test
 float_starts = On false AFloat Any ∷ On false AnInteger Any ∷ []
 

@@ -46,8 +46,8 @@ pub fn assemble(alloc: Global, input: &[u8]) -> Result<Vec<u8>, Fault>
     binary_of_text(alloc, &buffer)
 }
 
-/// The binary of a text that is read. It answers, and leaves the module of the text and `gensym`, as [`EncodeOptions::encode_module`] does. The text is
-/// well formed, and there is room for a name of `gensym` for each of its fields; of one that was refused before nothing is asked.
+/// The binary of a text that is read. It answers, and leaves the module of the text and `gensym`, as [`EncodeOptions::encode_module`] does. The text
+/// is well formed, and there is room for a name of `gensym` for each of its fields; of one that was refused before nothing is asked.
 pub fn encode_wat(
     alloc: Global,
     options: &EncodeOptions,

@@ -7,7 +7,7 @@
 //! |---|---|
 //! | `Registered` | the annotations that are read |
 //! | `Spells` | which tree a text spells |
-//! | `Naming` | the names that are made for fields that have none, and the first demand of names that isn't met |
+//! | `Naming` | the first demand of names that isn't met |
 //! | `Verdict` | the conditions and their order, what an input is accepted as, and which bytes are its binary |
 //! | `Laws` | the statements of the law functions, but for those below |
 //! | `Alike` | texts whose tokens agree, or differ by a renaming of identifiers, and what they have in common |
