@@ -1,10 +1,11 @@
 -- Instructions are told apart by their bytes: no opcode of the table begins another.
 use Rattle.std.proofs.Common.{ℕ, zero, suc, ◌≡◌, ◌≢◌, ◌⊎◌, Bool, true, false, List, [], ◌∷◌, ◌++◌, Option, Some, None, refl, sym, ap, ◌∙◌, subst, inl, inr, ⊎_elim, append_assoc, flat_map, length, filter}
 use Rattle.std.proofs.lemmas.Bool.{eq-eqb}
-use Rattle.std.proofs.lemmas.List.{append_cancel_right}
+use Rattle.std.proofs.lemmas.List.{append_cancel_left, append_cancel_right}
 use Rattle.std.specs.Cmp.Lexicographic.{same_text as text_equal}
 use Rattle.std.specs.List.{AllByRecursion}
 use Rattle.std.specs.Option.{option_map}
+use Rattle.std.proofs.lemmas.Option.{same_Some}
 use Rattle.wasm_encoder_bytes.specs.Leb.{uleb, leb, digits}
 use Rattle.wasm_encoder_base.specs.Instr.{Instr, Kind, Nothing, kind_of, kind_of_syntax, operand_bytes, instr_bytes, expr_bytes, kind_at, IsInstr}
 use Rattle.wasm_encoder_base.specs.Balanced.{Turn, Opens, Closes, Stays, turn_of, turned, IsBalanced}
@@ -12,7 +13,7 @@ use Rattle.wasm_encoder_base.specs.Table.{Entry, table, entry_among, entry_at, s
 use Rattle.wasm_encoder_base.specs.Distinct.{opcodes, mnemonics, single_mnemonic, are_distinct, begins, apart_from, are_apart}
 use Rattle.wasm_encoder_bytes.specs.Unique.{Unique, Injective}
 use Rattle.wasm_encoder_base.proofs.UniqueOperands.{operands_one}
-use Rattle.wasm_encoder_bytes.proofs.UniqueParts.{cons_head, cons_tail, append_cancel, injective_all}
+use Rattle.wasm_encoder_bytes.proofs.UniqueParts.{cons_head, cons_tail, injective_all}
 
 pub opcodes-apart : are_apart (opcodes table) ≡ true
 unfolding table uleb leb digits
@@ -91,9 +92,6 @@ opcode-one : (a b r s : List ℕ) (j k : Entry) → entry_at a ≡ Some j → en
 unfolding entry_at
 opcode-one a b r s j k p q e = apart-same table a b r s j k opcodes-apart p q e
 
-some_one : {A : Type 0} {x y : A} → Some x ≡ Some y → x ≡ y
-some_one e = cc
-
 -- an opcode with operands has an entry
 has_entry : (k : Kind) (found : Option Entry) → option_map (λ e. kind_of_syntax e.operands) found ≡ Some k → (entry : Entry) × (found ≡ Some entry)
 has_entry k (Some entry) e = (entry, refl)
@@ -111,8 +109,8 @@ unique_instr = record {
   reads = λ i j r s p q e. (
       let f : i.opcode ++ (operand_bytes i.operands ++ r) ≡ j.opcode ++ (operand_bytes j.operands ++ s) = sym (append_assoc i.opcode (operand_bytes i.operands) r) ∙ e ∙ append_assoc j.opcode (operand_bytes j.operands) s in
       let o = opcode_listed i.opcode j.opcode _ _ _ _ p.listed q.listed f in
-      let k : kind_of i.operands ≡ kind_of j.operands = some_one (sym p.listed ∙ ap kind_at o ∙ q.listed) in
-      let rest = append_cancel j.opcode (operand_bytes i.operands ++ r) (operand_bytes j.operands ++ s) (ap (λ v. v ++ (operand_bytes i.operands ++ r)) (sym o) ∙ f) in
+      let k : kind_of i.operands ≡ kind_of j.operands = same_Some _ _ (sym p.listed ∙ ap kind_at o ∙ q.listed) in
+      let rest = append_cancel_left j.opcode (operand_bytes i.operands ++ r) (operand_bytes j.operands ++ s) (ap (λ v. v ++ (operand_bytes i.operands ++ r)) (sym o) ∙ f) in
       let h = operands_one i.operands j.operands r s k p.ranges q.ranges rest in
       (λ t. record { opcode = o t; operands = h.0 t }, h.1));
 }

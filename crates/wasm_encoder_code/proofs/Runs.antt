@@ -1,6 +1,6 @@
 -- Joined locals: the leading ones of a type are one run.
-use Rattle.std.proofs.Common.{ℕ, zero, suc, ◌≡◌, ◌+◌, ◌<◌, Bool, true, false, ◌&&◌, List, [], ◌∷◌, ◌++◌, length, map, drop, get_or, refl, sym, ap, ◌∙◌, ⊎_elim, arith}
-use Rattle.std.proofs.lemmas.Bool.{eqb-true, eq-eqb, cases_Bool}
+use Rattle.std.proofs.Common.{ℕ, zero, suc, ◌≡◌, ◌+◌, ◌<◌, Bool, true, false, List, [], ◌∷◌, ◌++◌, length, map, drop, get_or, refl, sym, ap, ◌∙◌, ⊎_elim, arith}
+use Rattle.std.proofs.lemmas.Bool.{eqb-true, eq-eqb, cases_Bool, and_parts}
 use Rattle.std.specs.List.{AllByRecursion}
 use Rattle.wasm_encoder_base.specs.Types.{HeapType, Abstract, Concrete, RefType, ValType, I32Type, I64Type, F32Type, F64Type, V128Type, Reference, abstract_heap_byte}
 use Rattle.std.proofs.lemmas.List.{drop-map}
@@ -9,10 +9,6 @@ use Rattle.wasm_encoder_base.specs.declared.types.ValType as types
 use Rattle.wasm_encoder_base.proofs.UniqueTypes.{unique_heap}
 use Rattle.wasm_encoder_code.specs.Body.{Run, same_heap, same_flag, same_type, joins, joined}
 use Rattle.wasm_encoder_code.specs.Locals.{leading}
-
-both_true : (a b : Bool) → (a && b) ≡ true → (a ≡ true) × (b ≡ true)
-both_true true b e = (refl, e)
-both_true false b e = cc
 
 flag_one : (a b : Bool) → same_flag a b ≡ true → a ≡ b
 flag_one true true e = refl
@@ -42,7 +38,7 @@ type_one F32Type F32Type e = refl
 type_one F64Type F64Type e = refl
 type_one V128Type V128Type e = refl
 type_one (Reference r) (Reference s) e =
-    let h = both_true (same_flag r.nullable s.nullable) (same_heap r.heap_type s.heap_type) e in
+    let h = and_parts (same_flag r.nullable s.nullable) (same_heap r.heap_type s.heap_type) e in
     ap Reference (ref_one r s (flag_one r.nullable s.nullable h.0) (heap_one r.heap_type s.heap_type h.1))
 type_one _ _ e = cc
 
@@ -53,9 +49,6 @@ type_self F32Type = refl
 type_self F64Type = refl
 type_self V128Type = refl
 type_self (Reference r) = rw (flag_self r.nullable, heap_self r.heap_type) refl
-
-run : ℕ → ValType → Run
-run n t = record { count = n; val_type = t }
 
 pub joins_same : (t u : ValType) (n : ℕ) (rs : List Run) → same_type t u ≡ true → joins t (record { count = n; val_type = u } ∷ rs) ≡ record { count = n + 1; val_type = u } ∷ rs
 joins_same t u n rs e = rw (e, joins) refl

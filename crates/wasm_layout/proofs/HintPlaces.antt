@@ -1,5 +1,6 @@
 -- A hint's place in the binary is where its instruction begins.
 use Rattle.std.proofs.Common.{ℕ, zero, suc, ◌≡◌, ◌<◌, ◌+◌, List, [], ◌∷◌, ◌++◌, map, length, drop, replicate, slice_get, Some, None, refl, sym, ap, ◌∙◌, subst, arith, append_assoc, flat_map}
+use Rattle.std.proofs.lemmas.Option.{none-some, same_Some}
 use Rattle.std.proofs.lemmas.Grind.{flat_map-append}
 use Rattle.std.specs.List.{AllByRecursion}
 use Rattle.std.specs.Option.{option_flatten}
@@ -24,7 +25,7 @@ pub record Split (xs : List Section) (s : Section) (ys : List Section) (gs : Lis
   pub gaps : List (List Custom)
   pub is : weave (xs ++ (s ∷ ys)) gs ≡ front ++ (Known s ∷ weave ys gaps)
 
-no_gaps : (ys : List Section) → weave ys [] ≡ map Known ys
+pub no_gaps : (ys : List Section) → weave ys [] ≡ map Known ys
 no_gaps [] = refl
 no_gaps (y ∷ ys) = refl
 
@@ -77,15 +78,9 @@ module _ (m : AbstractModule (List ℕ)) where
             ∙ sym (append_assoc header (flat_map piece_bytes one.front) (piece_bytes (Known h) ++ (flat_map piece_bytes two.front ++ (piece_bytes (Known c) ++ last))));
       }
 
-no_some : {A Z : Type 0} {x : A} → None ≡ Some x → Z
-no_some e = absurd cc
-
-some_one : {A : Type 0} {x y : A} → Some x ≡ Some y → x ≡ y
-some_one e = cc
-
 all_at : {A : Type 0} (P : A → Type 0) (xs : List A) (n : ℕ) (x : A) → AllByRecursion P xs → slice_get xs n ≡ Some x → P x
-all_at P [] n x h e = no_some e
-all_at P (y ∷ ys) zero x h e = subst P (some_one e) h.0
+all_at P [] n x h e = absurd (none-some _ e)
+all_at P (y ∷ ys) zero x h e = subst P (same_Some _ _ e) h.0
 all_at P (y ∷ ys) (suc n) x h e = all_at P ys n x h.1 e
 
 item_at : {A : Type 0} (xs : List A) (n : ℕ) → n < length xs → (x : A) × (slice_get xs n ≡ Some x)
@@ -95,7 +90,7 @@ item_at (x ∷ xs) (suc n) h = item_at xs n (omega arith)
 
 -- a list that has an item is there
 there : {A B : Type 0} (xs : List A) (body : B) (n : ℕ) (x : A) → slice_get xs n ≡ Some x → if_there (has_any xs) body ≡ body ∷ []
-there [] body n x e = no_some e
+there [] body n x e = absurd (none-some _ e)
 there (y ∷ ys) body n x e = refl
 
 there_around : {A B : Type 0} (xs : List A) (y : A) (ys : List A) (body : B) → if_there (has_any (xs ++ (y ∷ ys))) body ≡ body ∷ []
@@ -110,13 +105,13 @@ record Around (imported : ℕ) (fs : List Function) (n : ℕ) (f : Function) : T
   is_numbered : imported + length earlier ≡ n
 
 around : (fs : List Function) (n : ℕ) (f : Function) → option_flatten (slice_get (map Some fs) n) ≡ Some f → Around 0 fs n f
-around [] n f e = no_some e
-around (g ∷ gs) zero f e = record { earlier = []; later = gs; is = ap (λ v. v ∷ gs) (some_one e); is_numbered = refl }
+around [] n f e = absurd (none-some _ e)
+around (g ∷ gs) zero f e = record { earlier = []; later = gs; is = ap (λ v. v ∷ gs) (same_Some _ _ e); is_numbered = refl }
 around (g ∷ gs) (suc n) f e = let r = around gs n f e in record { earlier = g ∷ r.earlier; later = r.later; is = ap (λ v. g ∷ v) r.is; is_numbered = omega (arith, r.is_numbered) }
 
 around_imports : (k : ℕ) (fs : List Function) (n : ℕ) (f : Function) → option_flatten (slice_get (replicate k None ++ map Some fs) n) ≡ Some f → Around k fs n f
 around_imports zero fs n f e = around fs n f e
-around_imports (suc k) fs zero f e = no_some e
+around_imports (suc k) fs zero f e = absurd (none-some _ e)
 around_imports (suc k) fs (suc n) f e = let r = around_imports k fs n f e in record { earlier = r.earlier; later = r.later; is = r.is; is_numbered = omega (arith, r.is_numbered) }
 
 -- the bodies of functions, in bytes
@@ -140,10 +135,10 @@ record Begins (is : List Instr) (k : ℕ) (i : Instr) : Type 0 where
   bytes : expr_bytes (drop k is) ≡ instr_bytes i ++ rest
 
 begins : (is : List Instr) (k : ℕ) (i : Instr) → slice_get is k ≡ Some i → Begins is k i
-begins [] k i e = no_some e
+begins [] k i e = absurd (none-some _ e)
 begins (j ∷ is) zero i e = record {
   rest = flat_map instr_bytes is ++ 0x0B ∷ [];
-  bytes = append_assoc (instr_bytes j) (flat_map instr_bytes is) (0x0B ∷ []) ∙ ap (λ v. instr_bytes v ++ (flat_map instr_bytes is ++ 0x0B ∷ [])) (some_one e);
+  bytes = append_assoc (instr_bytes j) (flat_map instr_bytes is) (0x0B ∷ []) ∙ ap (λ v. instr_bytes v ++ (flat_map instr_bytes is ++ 0x0B ∷ [])) (same_Some _ _ e);
 }
 begins (j ∷ is) (suc k) i e = let r = begins is k i e in record { rest = r.rest; bytes = r.bytes }
 

@@ -1,10 +1,12 @@
 -- The sections of a module and the custom ones of its gaps are had back from its binary.
-use Rattle.std.proofs.Common.{ℕ, suc, ◌≡◌, ◌≢◌, ◌<◌, ◌+◌, ◌⊎◌, Bool, true, false, cond, ◌||◌, nat_eq, List, [], ◌∷◌, ◌++◌, map, length, filter, codes, refl, sym, ap, ◌∙◌, subst, arith, inl, inr, ⊎_elim, flat_map}
+use Rattle.std.proofs.Common.{ℕ, suc, ◌≡◌, ◌≢◌, ◌<◌, ◌+◌, ◌⊎◌, Bool, true, false, cond, nat_eq, List, [], ◌∷◌, ◌++◌, map, length, filter, codes, refl, sym, ap, ◌∙◌, subst, arith, inl, inr, ⊎_elim, flat_map}
 use Rattle.std.specs.List.{AllByRecursion, list_any}
+use Rattle.std.proofs.lemmas.Bool.{or_parts}
+use Rattle.std.proofs.lemmas.List.{append_cancel_left}
 use Rattle.wasm_encoder_base.specs.Bytes.{sized}
 use Rattle.wasm_encoder_base.specs.Table.{same_text}
 use Rattle.wasm_encoder_base.specs.Unique.{Unique, Injective}
-use Rattle.wasm_encoder_base.proofs.UniqueParts.{cons_head, cons_tail, no_cons, unique_byte, unique_pair, injective_bytes, injective_all, append_cancel}
+use Rattle.wasm_encoder_base.proofs.UniqueParts.{cons_head, cons_tail, no_cons, unique_byte, unique_pair, injective_bytes, injective_all}
 use Rattle.wasm_encoder_base.proofs.UniqueBytes.{unique_sized, unique_name}
 use Rattle.wasm_encoder_custom.specs.Custom.{Custom}
 use Rattle.wasm_encoder.specs.Module.{header}
@@ -168,10 +170,6 @@ weave_pieces (s ∷ ss) (t ∷ ts) (g ∷ gs) (h ∷ hs) n m e =
     (λ i. first.1 i ∷ rest.0 i, λ i. first.0 i ∷ rest.1 i)
 
 -- custom sections that are not called by a name of the two are free
-or_false : (a b : Bool) → (a || b) ≡ false → (a ≡ false) × (b ≡ false)
-or_false true b h = true_is_not_false h
-or_false false b h = (refl, h)
-
 not_names : (c : Custom) → same_text names_text c.name ≡ false → c.name ≢ names_text
 not_names c h e = true_is_not_false (subst (λ n. same_text names_text n ≡ false) e h)
 
@@ -184,8 +182,8 @@ calls name gap = list_any (λ c. same_text name c.name) gap
 free_gap : (g : List Custom) → calls names_text g ≡ false → calls hints_text g ≡ false → AllByRecursion IsSound (map Free g)
 free_gap [] p q = tt
 free_gap (c ∷ cs) p q =
-    let n = or_false (same_text names_text c.name) (calls names_text cs) p in
-    let h = or_false (same_text hints_text c.name) (calls hints_text cs) q in
+    let n = or_parts (same_text names_text c.name) (calls names_text cs) p in
+    let h = or_parts (same_text hints_text c.name) (calls hints_text cs) q in
     ((not_names c n.0, not_hints c h.0), free_gap cs n.1 h.1)
 
 abbrev AreTitled : List Section → Type 0
@@ -198,10 +196,10 @@ known_sound (s ∷ ss) h = (h.0, known_sound ss h.1)
 sound : (ss : List Section) (gs : List (List Custom)) → AreTitled ss → is_called names_text gs ≡ false → is_called hints_text gs ≡ false → AllByRecursion IsSound (weave ss gs)
 sound [] [] t p q = tt
 sound (s ∷ ss) [] t p q = known_sound (s ∷ ss) t
-sound [] (g ∷ gs) t p q = free_gap g (or_false (calls names_text g) (is_called names_text gs) p).0 (or_false (calls hints_text g) (is_called hints_text gs) q).0
+sound [] (g ∷ gs) t p q = free_gap g (or_parts (calls names_text g) (is_called names_text gs) p).0 (or_parts (calls hints_text g) (is_called hints_text gs) q).0
 sound (s ∷ ss) (g ∷ gs) t p q =
-    let n = or_false (calls names_text g) (is_called names_text gs) p in
-    let h = or_false (calls hints_text g) (is_called hints_text gs) q in
+    let n = or_parts (calls names_text g) (is_called names_text gs) p in
+    let h = or_parts (calls hints_text g) (is_called hints_text gs) q in
     all_joined IsSound (map Free g) (Known s ∷ weave ss gs) (free_gap g n.0 h.0) (t.0, sound ss gs t.1 n.1 h.1)
 
 -- the sections of a module
@@ -291,7 +289,7 @@ same_contents false false s t e = refl
 
 pub same_sections : (b : List ℕ) (m n : AbstractModule (List ℕ)) → Reads b m → Reads b n → SameSections m n
 same_sections b m n p q =
-    let bytes : flat_map piece_bytes (pieces m) ≡ flat_map piece_bytes (pieces n) = append_cancel header (flat_map piece_bytes (pieces m)) (flat_map piece_bytes (pieces n)) (sym p.lays.bytes ∙ q.lays.bytes) in
+    let bytes : flat_map piece_bytes (pieces m) ≡ flat_map piece_bytes (pieces n) = append_cancel_left header (flat_map piece_bytes (pieces m)) (flat_map piece_bytes (pieces n)) (sym p.lays.bytes ∙ q.lays.bytes) in
     let same : pieces m ≡ pieces n = injective_pieces.reads (pieces m) (pieces n)
     (sound (sections m) m.customs (all_titled m order) p.no_names p.no_hints) (sound (sections n) n.customs (all_titled n order) q.no_names q.no_hints) bytes in
     let parts = weave_pieces (sections m) (sections n) m.customs n.customs

@@ -2,11 +2,12 @@
 use Rattle.std.proofs.Common.{ℕ, ◌≡◌, Bool, true, false, not, ◌&&◌, is_some, List, [], ◌∷◌, ◌++◌, map, replicate, slice_get, Option, Some, None, codes, refl, sym, ap, ◌∙◌}
 use Rattle.std.specs.List.{AllByRecursion, sum_by}
 use Rattle.std.specs.Option.{option_flatten}
+use Rattle.std.proofs.lemmas.List.{append_cancel_left}
 use Rattle.wasm_encoder_base.specs.Bytes.{counted, sized, optional}
 use Rattle.wasm_encoder_base.specs.Instr.{Instr}
 use Rattle.wasm_encoder_base.specs.Leb.{uleb}
 use Rattle.wasm_encoder_base.specs.Unique.{Unique, Any}
-use Rattle.wasm_encoder_base.proofs.UniqueParts.{cons_head, cons_tail, no_cons, any_each, injective_of, append_cancel}
+use Rattle.wasm_encoder_base.proofs.UniqueParts.{cons_head, cons_tail, no_cons, any_each, injective_of}
 use Rattle.wasm_encoder_base.proofs.UniqueBytes.{unique_counted, unique_list, unique_name}
 use Rattle.wasm_encoder_base.proofs.UniqueLeb.{unique_uleb}
 use Rattle.wasm_encoder_code.specs.Body.{body_bytes}
@@ -75,7 +76,7 @@ start_back (Some m) (Some n) e = ap Some ((injective_of unique_uleb).reads m n t
 
 -- names and hints, each behind the name of its section
 names_again : (m n : NameMaps (List ℕ)) (b c : Bool) → has_names m ≡ b → has_names n ≡ c → if_there b (custom_body (name_section (name_bytes m))) ≡ if_there c (custom_body (name_section (name_bytes n))) → m ≡ n
-names_again m n true true p q e = names_back m n (append_cancel (sized (codes "name")) (name_bytes m) (name_bytes n) (cons_head e))
+names_again m n true true p q e = names_back m n (append_cancel_left (sized (codes "name")) (name_bytes m) (name_bytes n) (cons_head e))
 names_again m n true false p q e = no_cons e
 names_again m n false true p q e = no_cons (sym e)
 names_again m n false false p q e = no_names_back m n p q
@@ -94,7 +95,7 @@ hints_again at to [] (h ∷ hs) e = no_cons (sym e)
 hints_again at to (g ∷ gs) [] e = no_cons e
 hints_again at to (g ∷ gs) (h ∷ hs) e =
     (injective_of (unique_list unique_function_hints)).reads (map (placed_hints at) (g ∷ gs)) (map (placed_hints to) (h ∷ hs)) tt tt
-    (append_cancel (sized (codes "metadata.code.branch_hint")) (counted function_hints_bytes (map (placed_hints at) (g ∷ gs))) (counted function_hints_bytes (map (placed_hints to) (h ∷ hs))) (cons_head e))
+    (append_cancel_left (sized (codes "metadata.code.branch_hint")) (counted function_hints_bytes (map (placed_hints at) (g ∷ gs))) (counted function_hints_bytes (map (placed_hints to) (h ∷ hs))) (cons_head e))
 
 -- what is asked of expressions
 each_where : {A : Type 0} {P Q : A → Type 0} → ((x : A) → P x → Q x) → (xs : List A) → AllByRecursion P xs → AllByRecursion Q xs

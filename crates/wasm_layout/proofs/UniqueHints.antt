@@ -2,6 +2,7 @@
 use Rattle.std.proofs.Common.{ℕ, zero, suc, ◌≡◌, ◌<◌, List, [], ◌∷◌, ◌++◌, map, length, take, replicate, slice_get, Some, None, refl, sym, ap, ◌∙◌, subst, arith, flat_map, length-append}
 use Rattle.std.specs.List.{AllByRecursion}
 use Rattle.std.specs.Option.{option_flatten}
+use Rattle.std.proofs.lemmas.Option.{none-some, same_Some}
 use Rattle.wasm_encoder_base.specs.Instr.{Instr, IsInstr, instr_bytes}
 use Rattle.wasm_encoder_base.proofs.UniqueInstr.{injective_expr}
 use Rattle.wasm_encoder_base.proofs.UniqueParts.{cons_head, cons_tail, no_cons}
@@ -44,20 +45,14 @@ hints_one f p (h ∷ hs) (k ∷ ks) a b e =
     λ i. record { index = index i; value = (cons_head e i).branch_hint_value } ∷ rest i
 
 -- a function that has a body is one of the module
-some_one : {A : Type 0} {x y : A} → Some x ≡ Some y → x ≡ y
-some_one e = cc
-
-no_some : {A Z : Type 0} {x : A} → None ≡ Some x → Z
-no_some e = absurd cc
-
 in_functions : (fs : List Function) → AllByRecursion IsFunction fs → (n : ℕ) (f : Function) → option_flatten (slice_get (map Some fs) n) ≡ Some f → IsFunction f
-in_functions [] h n f e = no_some e
-in_functions (g ∷ gs) h zero f e = subst IsFunction (some_one e) h.0
+in_functions [] h n f e = absurd (none-some _ e)
+in_functions (g ∷ gs) h zero f e = subst IsFunction (same_Some _ _ e) h.0
 in_functions (g ∷ gs) h (suc n) f e = in_functions gs h.1 n f e
 
 in_module : (k : ℕ) (fs : List Function) → AllByRecursion IsFunction fs → (n : ℕ) (f : Function) → option_flatten (slice_get (replicate k None ++ map Some fs) n) ≡ Some f → IsFunction f
 in_module zero fs h n f e = in_functions fs h n f e
-in_module (suc k) fs h zero f e = no_some e
+in_module (suc k) fs h zero f e = absurd (none-some _ e)
 in_module (suc k) fs h (suc n) f e = in_module k fs h n f e
 
 -- the hints of functions, as they are where functions are at their numbers
@@ -73,7 +68,7 @@ module _ (m : AbstractModule (List ℕ)) (own : AllByRecursion IsFunction m.func
   group_one : (g h : FunctionHints) → AreAt g → AreAt h → placed_hints (function_at m) g ≡ placed_hints (function_at m) h → g ≡ h
   group_one g h p q e =
       let number : g.function ≡ h.function = ap (λ v. v.function_index) e in
-      let same : p.function ≡ q.function = some_one (sym p.is_at ∙ ap (function_at m) number ∙ q.is_at) in
+      let same : p.function ≡ q.function = same_Some _ _ (sym p.is_at ∙ ap (function_at m) number ∙ q.is_at) in
       let hints = hints_one p.function (in_module (imported_count m) m.functions own g.function p.function p.is_at) g.hints h.hints p.each (subst (λ f. AllByRecursion (IsHint f) h.hints) (sym same) q.each)
       (sym (known g p.function p.is_at) ∙ ap (λ v. v.hints) e ∙ known h q.function q.is_at ∙ ap (λ f. map (placed f.body) h.hints) (sym same)) in
       λ i. record { function = number i; hints = hints i }

@@ -1,6 +1,7 @@
 -- Name maps are had back from their subsections.
-use Rattle.std.proofs.Common.{ℕ, ◌≡◌, ◌≢◌, Bool, true, false, cond, nat_eq, is_some, ◌||◌, List, [], ◌∷◌, ◌++◌, map, Option, Some, None, option_to_list, refl, sym, ap, ◌∙◌, flat_map}
+use Rattle.std.proofs.Common.{ℕ, ◌≡◌, ◌≢◌, Bool, true, false, cond, nat_eq, is_some, List, [], ◌∷◌, ◌++◌, map, Option, Some, None, option_to_list, refl, sym, ap, ◌∙◌, flat_map}
 use Rattle.std.specs.List.{list_any}
+use Rattle.std.proofs.lemmas.Bool.{or_parts}
 use Rattle.wasm_encoder_base.specs.Unique.{Any}
 use Rattle.wasm_encoder_base.proofs.UniqueParts.{cons_head, cons_tail, no_cons, any_each, injective_all}
 use Rattle.wasm_encoder_custom.specs.Names as subsections
@@ -134,10 +135,6 @@ names_back m n e =
     maps_back m n ((injective_all unique_name_subsection subsection_full).reads xs ys (any_each xs) (any_each ys) e)
 
 -- without names there are no bytes
-or_false : (a b : Bool) → (a || b) ≡ false → (a ≡ false) × (b ≡ false)
-or_false true b h = true_is_not_false h
-or_false false b h = (refl, h)
-
 no_module : (o : Option (List ℕ)) → is_some o ≡ false → map ModuleName (option_to_list o) ≡ []
 no_module None h = refl
 no_module (Some name) h = true_is_not_false h
@@ -150,7 +147,7 @@ no_map names (Inner space) h = ap (λ b. if_there b (InnerNames space (map inner
 no_maps : (names : NameMaps (List ℕ)) (ks : List MapKind) → list_any (has_map names) ks ≡ false → flat_map (subsection_of names) ks ≡ []
 no_maps names [] h = refl
 no_maps names (k ∷ ks) h =
-    let p = or_false (has_map names k) (list_any (has_map names) ks) h in
+    let p = or_parts (has_map names k) (list_any (has_map names) ks) h in
     ap (λ v. v ++ flat_map (subsection_of names) ks) (no_map names k p.0) ∙ no_maps names ks p.1
 
 pub no_names_back : (m n : NameMaps (List ℕ)) → has_names m ≡ false → has_names n ≡ false → m ≡ n

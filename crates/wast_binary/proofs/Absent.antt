@@ -5,10 +5,11 @@ use Rattle.std.specs.List.{AllByRecursion}
 use Rattle.wasm_layout.specs.AbstractModule.{AbstractModule}
 use Rattle.wasm_layout.specs.IsModule.{IsU32, IfThere, IsEntry, IsImport, IsTable, IsGlobal, IsExport, IsElement, IsData, IsLimits}
 use Rattle.wasm_layout.specs.Layout.{Known, if_there, section}
+use Rattle.wasm_layout.specs.Lays.{RunsFit}
 use Rattle.wasm_layout.specs.Present.{has_any, is_present}
 use Rattle.wasm_layout.specs.Section.{SectionKind, Types, Imports, Functions, Tables, Memories, Tags, Globals, Exports, Starts, Elements, DataCount, Hints, Codes, Datas, Names}
 use Rattle.wast_section_items.specs.Sound.{TypeSound, BodySound}
-use Rattle.wast_binary.specs.Parts.{RunsFit, KindSound}
+use Rattle.wast_binary.specs.Parts.{KindSound}
 use Rattle.wast_binary.specs.Puts.{Puts}
 use Rattle.wast_binary.proofs.Gives.{not_so}
 

@@ -2,8 +2,8 @@
 use Rattle.std.proofs.Common.{◌≡◌, ℕ, Bool, true, false, ◌||◌, List, [], ◌∷◌, ◌++◌, map, refl, sym, ap, ◌∙◌}
 use Rattle.std.specs.Global.{Vec}
 use Rattle.std.specs.List.{flat_map, list_any}
+use Rattle.std.proofs.lemmas.List.Folds.{list_any-append}
 use Rattle.std.proofs.lemmas.List.Concat.{flat_map-append}
-use Rattle.wast_binary.proofs.Left.{any_append}
 use Rattle.wasm_encoder_base.specs.Leb.{uleb, leb, digits}
 use Rattle.wasm_encoder_base.specs.Table.{table, entries_of, same_text}
 use Rattle.wasm_encoder_opcodes.specs.Compare.{compare_mnemonic}
@@ -178,7 +178,7 @@ module _ {N P : Type 0} where
 
   any_apart : (fs : List (Field N P)) → list_any says_data (flat_map (λ f. flat_map functions_of (defined_in f)) fs) ≡ list_any field_says_data fs
   any_apart [] = refl
-  any_apart (f ∷ fs) = any_append says_data (flat_map functions_of (defined_in f)) (flat_map (λ f. flat_map functions_of (defined_in f)) fs) ∙ ap (λ b. field_says_data f || b) (any_apart fs)
+  any_apart (f ∷ fs) = list_any-append says_data (flat_map functions_of (defined_in f)) (flat_map (λ f. flat_map functions_of (defined_in f)) fs) ∙ ap (λ b. field_says_data f || b) (any_apart fs)
 
   pub fields_say : (fs : List (Field N P)) → list_any field_says_data fs ≡ list_any says_data (flat_map functions_of (flat_map defined_in fs))
   fields_say fs = sym (ap (list_any says_data) (apart fs) ∙ any_apart fs)

@@ -2,7 +2,7 @@
 use Rattle.std.proofs.Common.{◌≡◌, ℕ, suc, Bool, true, false, ◌||◌, List, [], ◌∷◌, ◌++◌, Option, Some, None, refl, sym, ap, ◌∙◌}
 use Rattle.std.specs.Prelude.{is_some, slice_get}
 use Rattle.std.specs.List.{flat_map, list_any, AllByRecursion}
-use Rattle.std.proofs.lemmas.Bool.{false≢true}
+use Rattle.std.proofs.lemmas.Bool.{false≢true, or_parts}
 use Rattle.wast_grammar.specs.Tokens.{Name}
 use Rattle.wast_parser.specs.Identifiers.{Named}
 use Rattle.wast_imports.specs.ImportTree.{ExternType, OfFunc, OfExactFunc}
@@ -37,10 +37,6 @@ none_passes : {A : Type 0} (test : A → Bool) (xs : List A) → has_any xs ≡ 
 none_passes test [] e = refl
 none_passes test (x ∷ xs) e = not_so e
 
-pub neither : (a b : Bool) → (a || b) ≡ false → (a ≡ false) × (b ≡ false)
-neither true b e = not_so e
-neither false b e = (refl, e)
-
 module _ {N P : Type 0} where
   -- HINTS: a field without functions has no bodies
   abbrev Bodiless : Option (Function N P) → Type 0
@@ -62,7 +58,7 @@ module _ {N P : Type 0} where
 
   all_bodiless : (fs : List (Field N P)) → list_any (gives Functions) fs ≡ false → AllByRecursion (λ f. AllByRecursion Bodiless (bodies_in f)) fs
   all_bodiless [] e = tt
-  all_bodiless (f ∷ fs) e = let apart = neither (gives Functions f) (list_any (gives Functions) fs) e in (field_bodiless f apart.0, all_bodiless fs apart.1)
+  all_bodiless (f ∷ fs) e = let apart = or_parts (gives Functions f) (list_any (gives Functions) fs) e in (field_bodiless f apart.0, all_bodiless fs apart.1)
 
   no_hints : (n : ℕ) (os : List (Option (Function N P))) → AllByRecursion Bodiless os → has_any (hints_from n os) ≡ false
   no_hints n [] h = refl

@@ -4,11 +4,11 @@ use Rattle.std.proofs.lemmas.List.Elements.{All-nil, All-cons, All-head, All-tai
 use Rattle.wast_module_fields.specs.FieldTree.{Defined, Imported, Func, Table, TableOf, Memory, MemoryOf, Global, Tag, Field, TypeField, RecField, ImportField, Define, ExportField, StartField, ElemField, DataField, CustomField}
 use Rattle.wast_meant.specs.Covered.{defined_forms}
 use Rattle.wast_section_items.specs.Ready.{DefinedReady, FieldReady}
-use Rattle.wast_custom_sections.specs.Hints as hints
+use Rattle.wast_custom_sections.specs.Hints.{DefinedHintReady, HintReady}
 use Rattle.wast_custom_sections.proofs.Ready.{body_ready}
 
 module _ {N P : Type 0} where
-  defined_hinted : (d : Defined N P) → DefinedReady d → defined_forms d ≡ [] → hints.DefinedReady d
+  defined_hinted : (d : Defined N P) → DefinedReady d → defined_forms d ≡ [] → DefinedHintReady d
   defined_hinted (Func f) r c = body_ready f r.locals r.body.resolved r.body.aligned c
   defined_hinted (Imported from name t) r c = tt
   defined_hinted (Table t init) r c = tt
@@ -18,7 +18,7 @@ module _ {N P : Type 0} where
   defined_hinted (Global t init) r c = tt
   defined_hinted (Tag u) r c = tt
 
-  field_hinted : (f : Field N P) → FieldReady f → hints.FieldReady f
+  field_hinted : (f : Field N P) → FieldReady f → HintReady f
   field_hinted (Define d) h = defined_hinted d.defined h.resolved h.covered
   field_hinted (TypeField t) h = tt
   field_hinted (RecField r) h = tt
@@ -29,6 +29,6 @@ module _ {N P : Type 0} where
   field_hinted (DataField d) h = tt
   field_hinted (CustomField c) h = tt
 
-  pub fields_hinted : (fs : List (Field N P)) → All FieldReady fs → All hints.FieldReady fs
-  fields_hinted [] h = All-nil hints.FieldReady
-  fields_hinted (f ∷ fs) h = All-cons hints.FieldReady f fs (field_hinted f (All-head FieldReady f fs h)) (fields_hinted fs (All-tail FieldReady f fs h))
+  pub fields_hinted : (fs : List (Field N P)) → All FieldReady fs → All HintReady fs
+  fields_hinted [] h = All-nil HintReady
+  fields_hinted (f ∷ fs) h = All-cons HintReady f fs (field_hinted f (All-head FieldReady f fs h)) (fields_hinted fs (All-tail FieldReady f fs h))

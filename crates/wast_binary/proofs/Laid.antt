@@ -10,7 +10,7 @@ use Rattle.wast_module_fields.specs.FieldTree.{Field}
 use Rattle.wasm_layout.specs.AbstractModule.{AbstractModule, Function}
 use Rattle.wasm_layout.specs.IsModule.{IsU32, IsFunction, IsModule}
 use Rattle.wasm_layout.specs.Layout.{Piece, contents, piece_bytes, pieces}
-use Rattle.wasm_layout.specs.Lays.{Fits, Lays}
+use Rattle.wasm_layout.specs.Lays.{PiecesFit, Fits, Lays}
 use Rattle.wasm_layout.specs.Section.{order}
 use Rattle.wast_customs.specs.CustomTree.{BeforeFirst}
 use Rattle.wast_meant.specs.CustomsMeant.{Stop, At, stops}
@@ -25,7 +25,6 @@ use Rattle.wast_encode_laws.proofs.NameMaps.{are_names}
 use Rattle.wast_section_items.specs.Sound.{TypeSound, BodySound}
 use Rattle.wast_binary.specs.Can.{CanEncode}
 use Rattle.wast_binary.specs.Parts.{module_of, pieces_of, StopSound}
-use Rattle.wast_binary.specs.Puts.{SizesFit}
 use Rattle.wast_binary.specs.Weight.{AreFew}
 use Rattle.wast_binary.proofs.FewNames.{names_fit, bodies_fit}
 use Rattle.wast_name_maps.proofs.Joining.{flat_of}
@@ -57,42 +56,42 @@ module _ (given : Option (List ℕ)) (id : Option (Named Name ℕ)) (fs : List (
   abbrev Fit : Piece → Type 0
   Fit p = IsU32 (length (contents p))
 
-  pub sizes_together : AllByRecursion (λ stop. SizesFit (at stop)) stops → SizesFit (pieces that)
-  sizes_together h = subst SizesFit (sym laid) (all_flat Fit at stops h)
+  pub sizes_together : AllByRecursion (λ stop. PiecesFit (at stop)) stops → PiecesFit (pieces that)
+  sizes_together h = subst PiecesFit (sym laid) (all_flat Fit at stops h)
 
-  pub sizes_apart : SizesFit (pieces that) → AllByRecursion (λ stop. SizesFit (at stop)) stops
-  sizes_apart h = flat_all Fit at stops (subst SizesFit laid h)
+  pub sizes_apart : PiecesFit (pieces that) → AllByRecursion (λ stop. PiecesFit (at stop)) stops
+  sizes_apart h = flat_all Fit at stops (subst PiecesFit laid h)
 
-  pub size_at : Fits that → (k : ℕ) → k < 41 → SizesFit (at (get_or stops k first_stop))
-  size_at fits k l = all_at (λ stop. SizesFit (at stop)) stops k first_stop l (sizes_apart fits.sizes)
+  pub size_at : Fits that → (k : ℕ) → k < 41 → PiecesFit (at (get_or stops k first_stop))
+  size_at fits k l = all_at (λ stop. PiecesFit (at stop)) stops k first_stop l (sizes_apart fits.sizes)
 
   -- SO FAR
   pub record PutSoFar (k : ℕ) (before now : List ℕ) : Type 0 where
     pub put : now ≡ before ++ flat_map stop_bytes (take k stops)
-    pub sizes : AllByRecursion (λ stop. SizesFit (at stop)) (take k stops)
+    pub sizes : AllByRecursion (λ stop. PiecesFit (at stop)) (take k stops)
     pub sound : AllByRecursion (StopSound that) (take k stops)
 
   pub one_more : (k : ℕ) (d : Stop) (before now after : List ℕ) → k < 41 → PutSoFar k before now
-      → after ≡ now ++ stop_bytes (get_or stops k d) → SizesFit (at (get_or stops k d)) → StopSound that (get_or stops k d) → PutSoFar (k + 1) before after
+      → after ≡ now ++ stop_bytes (get_or stops k d) → PiecesFit (at (get_or stops k d)) → StopSound that (get_or stops k d) → PutSoFar (k + 1) before after
   one_more k d before now after l h e sizes sound = record {
     put = e ∙ ap (λ v. v ++ stop_bytes (get_or stops k d)) h.put ∙ flat_map_more stop_bytes before (take k stops) (get_or stops k d)
         ∙ ap (λ v. before ++ flat_map stop_bytes v) (sym (take_more stops k d l));
-    sizes = all_more (λ stop. SizesFit (at stop)) stops k d l h.sizes sizes;
+    sizes = all_more (λ stop. PiecesFit (at stop)) stops k d l h.sizes sizes;
     sound = all_more (StopSound that) stops k d l h.sound sound;
   }
 
   pub all_put : (k : ℕ) (before now : List ℕ) → 41 ≤ k → PutSoFar k before now → now ≡ before ++ flat_map piece_bytes (pieces that)
   all_put k before now l h = h.put ∙ ap (λ v. before ++ v) (ap (flat_map stop_bytes) (take_all k stops l) ∙ sym bytes_at_stops)
 
-  pub all_sizes : (k : ℕ) (before now : List ℕ) → 41 ≤ k → PutSoFar k before now → SizesFit (pieces that)
-  all_sizes k before now l h = sizes_together (subst (AllByRecursion (λ stop. SizesFit (at stop))) (take_all k stops l) h.sizes)
+  pub all_sizes : (k : ℕ) (before now : List ℕ) → 41 ≤ k → PutSoFar k before now → PiecesFit (pieces that)
+  all_sizes k before now l h = sizes_together (subst (AllByRecursion (λ stop. PiecesFit (at stop))) (take_all k stops l) h.sizes)
 
   pub all_sound : (k : ℕ) (before now : List ℕ) → 41 ≤ k → PutSoFar k before now → AllByRecursion (StopSound that) stops
   all_sound k before now l h = subst (AllByRecursion (StopSound that)) (take_all k stops l) h.sound
 
   -- what is too large at one stop is too large in all
-  pub one_too_large : (k : ℕ) (d : Stop) → k < 41 → (Fits that → SizesFit (at (get_or stops k d)) → ⊥) → Fits that → ⊥
-  one_too_large k d l h fits = h fits (all_at (λ stop. SizesFit (at stop)) stops k d l (sizes_apart fits.sizes))
+  pub one_too_large : (k : ℕ) (d : Stop) → k < 41 → (Fits that → PiecesFit (at (get_or stops k d)) → ⊥) → Fits that → ⊥
+  one_too_large k d l h fits = h fits (all_at (λ stop. PiecesFit (at stop)) stops k d l (sizes_apart fits.sizes))
 
   -- THE MODULE
   module _ (can : CanEncode fs) (few : AreFew fs) (sound : AllByRecursion (StopSound that) stops) where
@@ -121,7 +120,7 @@ module _ (given : Option (List ℕ)) (id : Option (Named Name ℕ)) (fs : List (
       gaps = gap_count same_name is_made name fs ∙ (λ i. length (filter (λ k. same_sections bytes_of (meant same_name is_made name fs) k i) order) + 1);
     }
 
-    pub lays : (binary : List ℕ) → SizesFit (pieces that) → binary ≡ header ++ flat_map piece_bytes (pieces that) → Lays binary that
+    pub lays : (binary : List ℕ) → PiecesFit (pieces that) → binary ≡ header ++ flat_map piece_bytes (pieces that) → Lays binary that
     lays binary sizes e = record {
       is_module = renamed bytes_of (meant same_name is_made name fs) module_sound;
       fits = record { sizes = sizes; locals = (sound_at 34 (omega arith)).1 };

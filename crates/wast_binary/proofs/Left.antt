@@ -2,6 +2,7 @@
 use Rattle.std.proofs.Common.{◌≡◌, ℕ, ◌+◌, ◌<◌, ◌≤◌, Bool, true, false, ◌||◌, List, [], ◌∷◌, ◌++◌, map, length, drop, get_or, refl, sym, ap, ◌∙◌}
 use Rattle.std.specs.List.{flat_map, list_any}
 use Rattle.std.proofs.lemmas.List.{drop_more, drop_all, map-append}
+use Rattle.std.proofs.lemmas.List.Folds.{list_any-append}
 use Rattle.wasm_encoder_base.specs.Table.{same_text}
 use Rattle.wasm_encoder_custom.specs.Custom.{Custom}
 use Rattle.wast_module_fields.specs.ModuleFieldViews.{field_tree}
@@ -31,17 +32,9 @@ any_seen test tree [] = refl
 any_seen test tree (x ∷ xs) = ap (λ b. test (tree x) || b) (any_seen test tree xs)
 
 -- custom fields by their names
-or_assoc : (a b c : Bool) → (a || (b || c)) ≡ ((a || b) || c)
-or_assoc true b c = refl
-or_assoc false b c = refl
-
 or_false : (b : Bool) → (b || false) ≡ b
 or_false true = refl
 or_false false = refl
-
-pub any_append : {A : Type 0} (p : A → Bool) (xs ys : List A) → list_any p (xs ++ ys) ≡ (list_any p xs || list_any p ys)
-any_append p [] ys = refl
-any_append p (x ∷ xs) ys = ap (λ b. p x || b) (any_append p xs ys) ∙ or_assoc (p x) (list_any p xs) (list_any p ys)
 
 abbrev pub takes : List ℕ → ModuleField → Bool
 takes name f = is_called name (map custom_of (customs_in (field_tree f)) ∷ [])
@@ -53,5 +46,5 @@ any_takes name (f ∷ fs) =
     let own = map custom_of (customs_in (field_tree f)) in
     let rest = map custom_of (flat_map customs_in (map field_tree fs)) in
     (λ i. or_false (list_any p own) i || (any_takes name fs ∙ or_false (list_any p rest)) i)
-    ∙ sym (any_append p own rest) ∙ ap (list_any p) (sym (map-append custom_of (customs_in (field_tree f)) (flat_map customs_in (map field_tree fs))))
+    ∙ sym (list_any-append p own rest) ∙ ap (list_any p) (sym (map-append custom_of (customs_in (field_tree f)) (flat_map customs_in (map field_tree fs))))
     ∙ sym (or_false (list_any p (map custom_of (customs_in (field_tree f) ++ flat_map customs_in (map field_tree fs)))))

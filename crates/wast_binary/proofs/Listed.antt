@@ -19,13 +19,13 @@ use Rattle.wast_module_fields.specs.FieldTree.{Field}
 use Rattle.wasm_layout.specs.AbstractModule.{AbstractModule, Function}
 use Rattle.wasm_layout.specs.IsModule.{IsU32, IsEntry, IsImport, IsTable, IsGlobal, IsExport, IsElement, IsData, IsLimits}
 use Rattle.wasm_layout.specs.Layout.{contents_of}
-use Rattle.wasm_layout.specs.Lays.{Fits}
+use Rattle.wasm_layout.specs.Lays.{RunsFit, Fits}
 use Rattle.wasm_layout.specs.Section.{SectionKind, Types, Imports, Functions, Tables, Memories, Tags, Globals, Exports, Elements, Codes, Datas}
 use Rattle.wast_meant.specs.CustomsMeant.{Of}
 use Rattle.wast_section_items.specs.Fits.{EntryFits, ImportsFit, ExportFits, TableFits, GlobalFits, ElementFits, DataFits, BodyFits, NoCounts}
 use Rattle.wast_section_items.specs.Sound.{TypeSound, BodySound}
 use Rattle.wast_custom_sections.proofs.Sizes.{uleb_some, counted_size}
-use Rattle.wast_binary.specs.Parts.{module_of, pieces_of, RunsFit, KindSound}
+use Rattle.wast_binary.specs.Parts.{module_of, pieces_of, KindSound}
 use Rattle.wast_binary.specs.Puts.{Puts, PutsList}
 use Rattle.wast_custom_sections.proofs.Counts.{counted_count}
 use Rattle.wast_binary.proofs.SectionSizes.{list_fits, entry_some, entry_fits, imports_some, imports_fit, export_some, export_fits, table_item_some, table_item_fits, global_item_some, global_item_fits, element_some, element_fits, data_some, data_fits, code_some, codes_fit}

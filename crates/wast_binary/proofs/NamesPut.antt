@@ -1,8 +1,9 @@
 -- The section of names, appended where there are names and no custom section is called so.
-use Rattle.std.proofs.Common.{◌≡◌, ℕ, ◌<◌, ◌^◌, Bool, true, false, not, ◌||◌, List, [], ◌∷◌, ◌++◌, length, codes, Option, Some, None, Result, Ok, Err, refl, sym, ap, arith, subst, append-nil}
+use Rattle.std.proofs.Common.{◌≡◌, ℕ, ◌<◌, ◌^◌, Bool, true, false, not, List, [], ◌∷◌, ◌++◌, length, codes, Option, Some, None, Result, Ok, Err, refl, sym, ap, arith, subst, append-nil}
 use Rattle.std.specs.Prelude.{if◌then◌else◌, is_some, map, option_to_list}
 use Rattle.std.specs.List.{flat_map, list_any}
-use Rattle.std.proofs.lemmas.Bool.{false≢true}
+use Rattle.std.proofs.lemmas.Bool.{false≢true, or_parts}
+use Rattle.std.proofs.lemmas.Option.{same_Some}
 use Rattle.std.proofs.lemmas.List.{length-append}
 use Rattle.wasm_encoder_base.specs.Bytes.{sized}
 use Rattle.wasm_encoder_base.specs.EncodeError.{EncodeError}
@@ -18,13 +19,9 @@ use Rattle.wasm_layout.specs.Present.MapKind.{OfModule}
 use Rattle.wast_name_maps.specs.Fits.{NamesFit}
 use Rattle.wast_name_maps.specs.Maps.{section_data}
 use Rattle.wast_binary.specs.Puts.{unless, FitsUnless, PutsNames}
-use Rattle.wast_binary.proofs.Gives.{neither}
 
 some_if : (b : Bool) (x y : List ℕ) → Some x ≡ (if b then Some y else None) → (b ≡ true) × (x ≡ y)
-some_if true x y e = (refl, same e)
-  where
-    same : Some x ≡ Some y → x ≡ y
-    same e = cc
+some_if true x y e = (refl, same_Some x y e)
 some_if false x y e = let never : ⊥ = cc in absurd never
 
 none_if : (b : Bool) (y : List ℕ) → None ≡ (if b then Some y else None) → b ≡ false
@@ -45,7 +42,7 @@ module _ (names : NameMaps (List ℕ)) where
   kinds_none : (ks : List MapKind) → list_any (has_map names) ks ≡ false → flat_map (subsection_of names) ks ≡ []
   kinds_none [] e = refl
   kinds_none (k ∷ ks) e =
-      let both = neither (has_map names k) (list_any (has_map names) ks) e in
+      let both = or_parts (has_map names k) (list_any (has_map names) ks) e in
       λ i. kind_none k both.0 i ++ kinds_none ks both.1 i
 
   no_bytes : has_names names ≡ false → name_bytes names ≡ []

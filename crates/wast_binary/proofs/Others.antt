@@ -29,7 +29,7 @@ use Rattle.wast_module_fields.specs.FieldTree.{Field}
 use Rattle.wasm_layout.specs.AbstractModule.{Function, FunctionHints, NameMaps, AbstractModule}
 use Rattle.wasm_layout.specs.IsModule.{IsU32, IfThere, Rise, AreNames}
 use Rattle.wasm_layout.specs.Layout.{Piece, Known, Free, piece_bytes, if_there, section, functions_in, function_at, placed_hints, name_bytes}
-use Rattle.wasm_layout.specs.Lays.{Fits}
+use Rattle.wasm_layout.specs.Lays.{PiecesFit, Fits}
 use Rattle.wasm_layout.specs.Present.{has_any, has_names, is_called, is_present}
 use Rattle.wasm_layout.specs.Section.{Starts, DataCount, Hints, Codes, Datas, Names}
 use Rattle.wast_meant.specs.CustomsMeant.{custom_of, customs_in, At, Of}
@@ -44,13 +44,13 @@ use Rattle.wast_meant_laws.proofs.Gaps.{called_same}
 use Rattle.wast_encode_laws.proofs.Hints.{hint_functions}
 use Rattle.wast_encode_laws.proofs.NameMaps.{are_names}
 use Rattle.wast_section_items.specs.Fits.{DataFits, BodyFits}
-use Rattle.wast_custom_sections.specs.Parts.{sections_at, PiecesFit}
+use Rattle.wast_custom_sections.specs.Parts.{sections_at}
 use Rattle.wast_custom_sections.specs.Hints.{PlacesFit, FunctionFits, function_in, hints_in, hint_pieces, HintsFit}
 use Rattle.wast_name_maps.specs.Maps.{maps_in}
 use Rattle.wast_binary.specs.Can.{CanEncode}
 use Rattle.wast_binary.specs.DataCount.{field_says_data}
 use Rattle.wast_binary.specs.Parts.{module_of, pieces_of, KindSound}
-use Rattle.wast_binary.specs.Puts.{SizesFit, Puts, PutsCount, start_bytes, PutsNames, unless, FitsUnless}
+use Rattle.wast_binary.specs.Puts.{Puts, PutsCount, start_bytes, PutsNames, unless, FitsUnless}
 use Rattle.wast_binary.specs.Weight.{AreFew}
 use Rattle.wast_binary.proofs.DataCount.{fields_say}
 use Rattle.wast_binary.proofs.FewNames.{names_fit, bodies_fit}
@@ -61,7 +61,7 @@ use Rattle.wast_binary.proofs.SectionSizes.{list_fits, data_some, data_fits}
 
 -- what is encoded by pieces
 pub encodes_puts : (m : AbstractModule (List ℕ)) (ps : List Piece) (Sound : Type 0) (bytes : List ℕ) (fits : Type 0) (before after : List ℕ) (r : Result (Unit {0}) EncodeError)
-    → bytes ≡ flat_map piece_bytes ps → (fits → SizesFit ps) → (Fits m → SizesFit ps → fits) → Sound → Encodes bytes fits before after r → Puts m ps Sound before after r
+    → bytes ≡ flat_map piece_bytes ps → (fits → PiecesFit ps) → (Fits m → PiecesFit ps → fits) → Sound → Encodes bytes fits before after r → Puts m ps Sound before after r
 encodes_puts m ps Sound bytes fits before after (Ok v) e to from s h = record {
   put = h.spelled ∙ ap (λ b. before ++ b) e;
   sizes = to h.fit;
@@ -75,7 +75,7 @@ start_pieces : (o : Option ℕ) → start_bytes o ≡ flat_map piece_bytes (map 
 start_pieces None = refl
 start_pieces (Some n) = sym (append-nil (numbered 8 (sized (uleb n))))
 
-start_sizes : (o : Option ℕ) → IfThere IsU32 o → SizesFit (map Known (if_there (is_some o) (record { kind = Starts; contents = optional uleb o })))
+start_sizes : (o : Option ℕ) → IfThere IsU32 o → PiecesFit (map Known (if_there (is_some o) (record { kind = Starts; contents = optional uleb o })))
 start_sizes None h = tt
 start_sizes (Some n) h = (short n h, tt)
 
@@ -182,9 +182,9 @@ module _ (given : Option (List ℕ)) (id : Option (Named Name ℕ)) (fs : List (
       same_hints : hint_pieces fs ≡ pieces_of fs that (Of Hints)
       same_hints = ap (λ (at : ℕ → Option Function). map Known (if_there (has_any (hints_in fs)) (record { kind = Hints; contents = hint_contents at (hints_in fs) }))) same_functions
 
-      code_sizes : SizesFit (pieces_of fs that (Of Codes)) → SizesFit (map Known (if_there (has_any that.functions) (record { kind = Codes; contents = counted (λ (f : Function). function_item (body_bytes f.body)) that.functions })))
+      code_sizes : PiecesFit (pieces_of fs that (Of Codes)) → PiecesFit (map Known (if_there (has_any that.functions) (record { kind = Codes; contents = counted (λ (f : Function). function_item (body_bytes f.body)) that.functions })))
       code_sizes h =
-          subst (λ c. SizesFit (map Known (if_there (has_any that.functions) (record { kind = Codes; contents = c }))))
+          subst (λ c. PiecesFit (map Known (if_there (has_any that.functions) (record { kind = Codes; contents = c }))))
           (sym (counted_map function_item (λ (f : Function). body_bytes f.body) that.functions)) h
 
       function_places : Fits that → (n : ℕ) → IfThere (λ f. PlacesFit f.body) (function_in fs n)
@@ -193,16 +193,16 @@ module _ (given : Option (List ℕ)) (id : Option (Named Name ℕ)) (fs : List (
           let bodies = (code_counts given id fs before after r whole size).1 in
           subst (λ at. IfThere (λ f. PlacesFit f.body) (at n)) (sym same_functions) (placed_fit (λ f. PlacesFit f.body) (sum_by functions_in that.imports) that.functions (all_places that.functions bodies) n)
 
-      hints_fit : Fits that → SizesFit (pieces_of fs that (Of Hints)) → HintsFit fs
+      hints_fit : Fits that → PiecesFit (pieces_of fs that (Of Hints)) → HintsFit fs
       hints_fit whole sizes = record {
         functions = risen 0 (hints_in fs) (hint_functions fs (bodies_fit fs few)) (function_in fs) (function_places whole);
-        section = subst SizesFit (sym same_hints) sizes;
+        section = subst PiecesFit (sym same_hints) sizes;
       }
 
       pub put_hints : Encodes (flat_map piece_bytes (hint_pieces fs)) (HintsFit fs) before after r → PutsKind given id fs Hints before after r
       put_hints h =
           encodes_puts that (pieces_of fs that (Of Hints)) (Unit {0}) (flat_map piece_bytes (hint_pieces fs)) (HintsFit fs) before after r
-          (ap (flat_map piece_bytes) same_hints) (λ fit. subst SizesFit same_hints fit.section) hints_fit tt h
+          (ap (flat_map piece_bytes) same_hints) (λ fit. subst PiecesFit same_hints fit.section) hints_fit tt h
 
       -- names
       names_are : AreNames (maps_in given id fs)

@@ -15,11 +15,11 @@ use Rattle.wasm_encoder_bytes.proofs.LebSteps.{length-uleb-last}
 use Rattle.wasm_layout.specs.AbstractModule.{AbstractModule}
 use Rattle.wasm_layout.specs.IsModule.{IsU32}
 use Rattle.wasm_layout.specs.Layout.{Piece, Known, piece_bytes, if_there}
-use Rattle.wasm_layout.specs.Lays.{Fits}
+use Rattle.wasm_layout.specs.Lays.{PiecesFit, Fits}
 use Rattle.wasm_layout.specs.Present.{has_any}
 use Rattle.wasm_layout.specs.Section.{SectionKind, section_number}
 use Rattle.wast_sections.specs.Holds.{Holds}
-use Rattle.wast_binary.specs.Puts.{SizesFit, Puts, list_bytes, PutsList, unless, FitsUnless}
+use Rattle.wast_binary.specs.Puts.{Puts, list_bytes, PutsList, unless, FitsUnless}
 
 -- a list without items takes a byte
 pub empty_size : {A : Type 0} (spell : A → List ℕ) → IsU32 (length (counted spell []))
@@ -73,11 +73,11 @@ module _ {A : Type 0} (kind : SectionKind) (spell : A → List ℕ) (Fit Sound :
   same_bytes [] = refl
   same_bytes (x ∷ xs) = sym (append-nil (numbered (section_number kind) (sized (counted spell (x ∷ xs)))))
 
-  sizes_fit : (items : List A) → IsU32 (length (counted spell items)) → SizesFit (pieces_of (counted spell items) items)
+  sizes_fit : (items : List A) → IsU32 (length (counted spell items)) → PiecesFit (pieces_of (counted spell items) items)
   sizes_fit [] h = tt
   sizes_fit (x ∷ xs) h = (h, tt)
 
-  pub size_fits : (items : List A) → SizesFit (pieces_of (counted spell items) items) → IsU32 (length (counted spell items))
+  pub size_fits : (items : List A) → PiecesFit (pieces_of (counted spell items) items) → IsU32 (length (counted spell items))
   size_fits [] h = empty_size spell
   size_fits (x ∷ xs) h = h.0
 

@@ -11,7 +11,7 @@ use Rattle.wast_names.specs.Demand.{Demand}
 use Rattle.wast_core_instr.specs.InstructionTree.{Instruction}
 use Rattle.wast_meaning.specs.Demands.{mention_demands}
 use Rattle.wast_meaning.specs.Mentions.{instr_mentions}
-use Rattle.wast_meaning.specs.Scope.{Scope, scope_at}
+use Rattle.wast_meaning.specs.Scope.{Scope}
 use Rattle.wast_bound.specs.Bound.{are_kept}
 use Rattle.wast_bound.specs.Places.{among}
 use Rattle.wast_bound.proofs.Kept.{kept_then}
@@ -84,10 +84,6 @@ module _ {X Y M : Type 0} (asks : M → List (Demand Name ℕ)) (of : Y → List
 
   pub all_ends : (xs : List X) (i : ℕ) (whole : Bool) → length xs ≤ i → all_left xs i ≡ whole → true ≡ whole
   all_ends xs i whole end l = ap (λ ys. are_kept (flat_map asks (flat_map of (map view ys)))) (sym (drop_all i xs end)) ∙ l
-
--- what an instruction asks behind others, the nearest first
-abbrev pub asked : Scope Name ℕ → List (Instruction Name ℕ) → Instruction Name ℕ → List (Demand Name ℕ)
-asked s earlier i = flat_map (mention_demands same_name (scope_at same_name s earlier i)) (instr_mentions i)
 
 -- what one asks at the place of another, behind those before it
 abbrev pub asked_there : {X : Type 0} (view : X → Instruction Name ℕ) → Scope Name ℕ → List X → ℕ → X → Instruction Name ℕ → List (Demand Name ℕ)

@@ -3,7 +3,7 @@ pub mod Each
 pub mod Empty
 mod Expressions
 pub mod Logarithms
-mod Opcodes
+pub mod Opcodes
 mod Refused
 mod Signatures
 pub mod Trees

@@ -1,5 +1,5 @@
 -- The entry that the table has for an instruction's mnemonic has its opcode; where it has two, the one that is chosen.
-use Rattle.std.proofs.Common.{◌≡◌, ℕ, Bool, true, false, List, [], refl}
+use Rattle.std.proofs.Common.{◌≡◌, ℕ, Bool, true, false, List, [], Option, Some, None, refl, ap}
 use Rattle.wasm_encoder_base.specs.Leb.{uleb, leb, digits}
 use Rattle.wasm_encoder_base.specs.Table.{table, entries_of}
 use Rattle.wasm_encoder_opcodes.specs.Compare.{compare_mnemonic, compare_opcode}
@@ -44,7 +44,7 @@ use Rattle.wasm_encoder_instr.specs.declared.vector_arg.VectorArgOp.TheVariants 
 use Rattle.wasm_encoder_instr.specs.Instruction.{instr_mnemonic, instr_view}
 use Rattle.wasm_encoder_instr.specs.declared.instruction.Instruction.{Instruction}
 use Rattle.wasm_encoder_instr.specs.declared.instruction.Instruction.TheVariants as variants
-use Rattle.wast_mnemonics.specs.Heads.{chosen}
+use Rattle.wast_mnemonics.specs.Heads.{Head, Listed, Unlisted, chosen}
 use Rattle.wast_mnemonics.specs.Mnemonics.{word_mnemonic}
 use Rattle.wast_core_instr.specs.WordViews.{proposal_word}
 use Rattle.wast_core_instr.specs.declared.proposal.ProposalOp.{ProposalOp}
@@ -52,56 +52,61 @@ use Rattle.wast_core_instr.specs.declared.proposal.ProposalOp.TheVariants as pro
 use Rattle.wast_conversions.specs.Instructions.{opcode_of}
 use Rattle.wast_conversions.specs.Rows.{GcChosen, Chosen}
 
--- the opcode of the entry of a mnemonic, the second or the first where there are two
-abbrev pub Found : (mnemonic : List ℕ) → (second : Bool) → (opcode : List ℕ) → Type 0
-Found mnemonic second opcode = opcode_of (chosen mnemonic (entries_of mnemonic table) second) ≡ opcode
+-- mnemonic and opcode of the table's entry, where it is one
+abbrev pub row_of : Head → Option (List ℕ × List ℕ)
+row_of (Listed e) = Some (e.mnemonic, e.opcode)
+row_of (Unlisted mnemonic) = None
 
-compare_found : (op : CompareOp) (second : Bool) → Found (compare_mnemonic op) second (compare_opcode op)
+-- the entry of a mnemonic, the second or the first where there are two, has the opcode
+abbrev pub Found : (mnemonic : List ℕ) → (second : Bool) → (opcode : List ℕ) → Type 0
+Found mnemonic second opcode = row_of (chosen mnemonic (entries_of mnemonic table) second) ≡ Some (mnemonic, opcode)
+
+pub compare_found : (op : CompareOp) (second : Bool) → Found (compare_mnemonic op) second (compare_opcode op)
 unfolding table uleb leb digits
 compare_found I32Eqz second = refl
 compare_found _ second = refl
 
-numeric_found : (op : NumericOp) (second : Bool) → Found (numeric_mnemonic op) second (numeric_opcode op)
+pub numeric_found : (op : NumericOp) (second : Bool) → Found (numeric_mnemonic op) second (numeric_opcode op)
 unfolding table uleb leb digits
 numeric_found I32Clz second = refl
 numeric_found _ second = refl
 
-convert_found : (op : ConvertOp) (second : Bool) → Found (convert_mnemonic op) second (convert_opcode op)
+pub convert_found : (op : ConvertOp) (second : Bool) → Found (convert_mnemonic op) second (convert_opcode op)
 unfolding table uleb leb digits
 convert_found I32WrapI64 second = refl
 convert_found _ second = refl
 
-vector_found : (op : VectorOp) (second : Bool) → Found (vector_mnemonic op) second (vector_opcode op)
+pub vector_found : (op : VectorOp) (second : Bool) → Found (vector_mnemonic op) second (vector_opcode op)
 unfolding table uleb leb digits
 vector_found I8x16Swizzle second = refl
 vector_found _ second = refl
 
-vector_narrow_found : (op : VectorNarrowOp) (second : Bool) → Found (vector_narrow_mnemonic op) second (vector_narrow_opcode op)
+pub vector_narrow_found : (op : VectorNarrowOp) (second : Bool) → Found (vector_narrow_mnemonic op) second (vector_narrow_opcode op)
 unfolding table uleb leb digits
 vector_narrow_found I8x16Abs second = refl
 vector_narrow_found _ second = refl
 
-vector_wide_found : (op : VectorWideOp) (second : Bool) → Found (vector_wide_mnemonic op) second (vector_wide_opcode op)
+pub vector_wide_found : (op : VectorWideOp) (second : Bool) → Found (vector_wide_mnemonic op) second (vector_wide_opcode op)
 unfolding table uleb leb digits
 vector_wide_found I32x4Abs second = refl
 vector_wide_found _ second = refl
 
-vector_float_found : (op : VectorFloatOp) (second : Bool) → Found (vector_float_mnemonic op) second (vector_float_opcode op)
+pub vector_float_found : (op : VectorFloatOp) (second : Bool) → Found (vector_float_mnemonic op) second (vector_float_opcode op)
 unfolding table uleb leb digits
 vector_float_found F32x4Abs second = refl
 vector_float_found _ second = refl
 
-access_found : (op : AccessOp) (second : Bool) → Found (access_mnemonic op) second (access_opcode op)
+pub access_found : (op : AccessOp) (second : Bool) → Found (access_mnemonic op) second (access_opcode op)
 unfolding table uleb leb digits
 access_found I32Load second = refl
 access_found _ second = refl
 
-atomic_found : (op : AtomicOp) (second : Bool) → Found (atomic_mnemonic op) second (atomic_opcode op)
+pub atomic_found : (op : AtomicOp) (second : Bool) → Found (atomic_mnemonic op) second (atomic_opcode op)
 unfolding table uleb leb digits
 atomic_found MemoryAtomicNotify second = refl
 atomic_found _ second = refl
 
-atomic_rmw_found : (op : AtomicRmwOp) (second : Bool) → Found (atomic_rmw_mnemonic op) second (atomic_rmw_opcode op)
+pub atomic_rmw_found : (op : AtomicRmwOp) (second : Bool) → Found (atomic_rmw_mnemonic op) second (atomic_rmw_opcode op)
 unfolding table uleb leb digits
 atomic_rmw_found I32AtomicRmwAdd second = refl
 atomic_rmw_found _ second = refl
@@ -128,28 +133,39 @@ gc_found (gc_ops.RefCastNullable heap_type) true c = refl
 gc_found (gc_ops.RefCastNullable heap_type) false c = cc
 gc_found _ second c = refl
 
-pub instr_found : (i : Instruction) (second : Bool) → Chosen i second → Found (instr_mnemonic i) second (instr_view i).opcode
+row_found : (i : Instruction) (second : Bool) → Chosen i second → Found (instr_mnemonic i) second (instr_view i).opcode
 unfolding table uleb leb digits
-instr_found (variants.Compare op) second c = compare_found op second
-instr_found (variants.Numeric op) second c = numeric_found op second
-instr_found (variants.Convert op) second c = convert_found op second
-instr_found (variants.Vector op) second c = vector_found op second
-instr_found (variants.VectorNarrow op) second c = vector_narrow_found op second
-instr_found (variants.VectorWide op) second c = vector_wide_found op second
-instr_found (variants.VectorFloat op) second c = vector_float_found op second
-instr_found (variants.Access op memarg) second c = access_found op second
-instr_found (variants.Atomic op memarg) second c = atomic_found op second
-instr_found (variants.AtomicRmw op memarg) second c = atomic_rmw_found op second
-instr_found (variants.Bulk op) second c = bulk_found op second
-instr_found (variants.Gc op) second c = gc_found op second c
-instr_found (variants.VectorArg op) second c = vector_arg_found op second
-instr_found variants.Select false c = refl
-instr_found variants.Select true c = cc
-instr_found (variants.TypedSelect val_type) true c = refl
-instr_found (variants.TypedSelect val_type) false c = cc
-instr_found (variants.TypedSelectMulti types) true c = refl
-instr_found (variants.TypedSelectMulti types) false c = cc
-instr_found _ second c = refl
+row_found (variants.Compare op) second c = compare_found op second
+row_found (variants.Numeric op) second c = numeric_found op second
+row_found (variants.Convert op) second c = convert_found op second
+row_found (variants.Vector op) second c = vector_found op second
+row_found (variants.VectorNarrow op) second c = vector_narrow_found op second
+row_found (variants.VectorWide op) second c = vector_wide_found op second
+row_found (variants.VectorFloat op) second c = vector_float_found op second
+row_found (variants.Access op memarg) second c = access_found op second
+row_found (variants.Atomic op memarg) second c = atomic_found op second
+row_found (variants.AtomicRmw op memarg) second c = atomic_rmw_found op second
+row_found (variants.Bulk op) second c = bulk_found op second
+row_found (variants.Gc op) second c = gc_found op second c
+row_found (variants.VectorArg op) second c = vector_arg_found op second
+row_found variants.Select false c = refl
+row_found variants.Select true c = cc
+row_found (variants.TypedSelect val_type) true c = refl
+row_found (variants.TypedSelect val_type) false c = cc
+row_found (variants.TypedSelectMulti types) true c = refl
+row_found (variants.TypedSelectMulti types) false c = cc
+row_found _ second c = refl
+
+abbrev opcode_in : Option (List ℕ × List ℕ) → List ℕ
+opcode_in (Some row) = row.1
+opcode_in None = []
+
+opcode_found : (h : Head) (mnemonic opcode : List ℕ) → row_of h ≡ Some (mnemonic, opcode) → opcode_of h ≡ opcode
+opcode_found (Listed e) mnemonic opcode p = ap opcode_in p
+opcode_found (Unlisted m) mnemonic opcode p = cc
+
+pub instr_found : (i : Instruction) (second : Bool) → Chosen i second → opcode_of (chosen (instr_mnemonic i) (entries_of (instr_mnemonic i) table) second) ≡ (instr_view i).opcode
+instr_found i second c = opcode_found (chosen (instr_mnemonic i) (entries_of (instr_mnemonic i) table) second) (instr_mnemonic i) (instr_view i).opcode (row_found i second c)
 
 -- the table has none for an instruction of a proposal
 pub none_found : (op : ProposalOp) → entries_of (word_mnemonic (proposal_word op)) table ≡ []

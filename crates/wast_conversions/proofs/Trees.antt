@@ -23,7 +23,7 @@ use Rattle.wast_core_instr.specs.WordViews.{instruction_word, proposal_word}
 use Rattle.wast_core_instr.specs.declared.instruction.Instruction as tree
 use Rattle.wast_core_instr.specs.declared.instruction.Instruction.TheVariants as instructions
 use Rattle.wast_conversions.specs.Operands.{integer_meant, both_meant, select_meant, operands_meant, OperandsAligned}
-use Rattle.wast_conversions.specs.Instructions.{opcode_of, syntax_of, instr_meant}
+use Rattle.wast_conversions.specs.Instructions.{opcode_of, listed_syntax_of, instr_meant}
 use Rattle.wast_conversions.specs.Covered.{Form, operand_forms, forms_with, instr_forms}
 use Rattle.wast_conversions.specs.Rows.{row_of, Chosen, IsListed}
 use Rattle.wast_conversions.proofs.Empty.{unmapped}
@@ -31,7 +31,7 @@ use Rattle.wast_conversions.proofs.Logarithms.{logarithm_below}
 use Rattle.wast_conversions.proofs.Opcodes.{instr_found, none_found}
 
 -- which of two entries says nothing of integers
-same_row : {N P : Type 0} (w : Word) (os : Operands N P) → operands_meant (row_of w) os ≡ operands_meant (syntax_of (head (entry_of w) (choose_second os))) os
+same_row : {N P : Type 0} (w : Word) (os : Operands N P) → operands_meant (row_of w) os ≡ operands_meant (listed_syntax_of (head (entry_of w) (choose_second os))) os
 unfolding row_of
 same_row w (instr.Types ts) = refl
 same_row w (instr.Ref r) = refl
@@ -89,7 +89,7 @@ covered_listed _ p = tt
 aligned_as : (i : tree.Instruction) (j : Instruction) → instr_view j ≡ instr_meant (instruction_tree i) → OperandsAligned (instruction_operands i) → can_encode_instr j
 aligned_as i j e h =
     let P : binary.Instr → Type 0 = λ k. is_aligned k.operands in
-    subst P (sym e) (meant_aligned (syntax_of (instruction_tree i).head) (instruction_operands i) h)
+    subst P (sym e) (meant_aligned (listed_syntax_of (instruction_tree i).head) (instruction_operands i) h)
 
 pub converted : {E : Type 0} (i : tree.Instruction) (r : Result Instruction E) → IfOk r (λ j. instr_mnemonic j ≡ word_mnemonic (instruction_word i))
     → IfOk r (λ j. Chosen j (choose_second (instruction_operands i)))

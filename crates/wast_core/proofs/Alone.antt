@@ -1,6 +1,7 @@
 -- Modules of fields alone, whose fields are read as one list.
 use Rattle.std.proofs.Common.{◌≡◌, ℕ, Bool, true, false, List, ◌∷◌, Option, Some, None, Result, Ok, Err, refl, inl, inr, ap, sym, ◌∙◌}
 use Rattle.std.specs.Prelude.{if◌then◌else◌}
+use Rattle.std.proofs.lemmas.Option.{same_Some}
 use Rattle.wast_grammar.specs.Tokens.{Name}
 use Rattle.wast_grammar.specs.Spelling.{◌>>=◌}
 use Rattle.wast_parser.specs.Significant.{TextToken}
@@ -38,14 +39,11 @@ abbrev whole : Read → Option (spec.Module Name ℕ × List TextToken)
 whole o = kept (o >>= λ a. if is_kept a.0 then Some a else None)
 
 -- the parts of what is read
-some_same : {A : Type 0} (p q : A) → Some p ≡ Some q → p ≡ q
-some_same p q e = cc
-
 first_same : (p q : Fields × List TextToken) → Some p ≡ Some q → p.0 ≡ q.0
-first_same p q e = ap (λ (x : Fields × List TextToken). x.0) (some_same p q e)
+first_same p q e = ap (λ (x : Fields × List TextToken). x.0) (same_Some p q e)
 
 second_same : (p q : Fields × List TextToken) → Some p ≡ Some q → p.1 ≡ q.1
-second_same p q e = ap (λ (x : Fields × List TextToken). x.1) (some_same p q e)
+second_same p q e = ap (λ (x : Fields × List TextToken). x.1) (same_Some p q e)
 
 given : (o : Read) (fields : Fields) (res : Result Module Problem) (s : State) → listed o ≡ Some (fields, ahead s) → IsModuleOf fields res → Gives module_tree res s (whole o)
 given (Some a) fields (Ok m) s e h =

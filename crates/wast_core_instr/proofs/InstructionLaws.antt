@@ -1,18 +1,19 @@
 -- The laws of the syntax of instructions: each mirrors its production.
 use Rattle.std.proofs.Common.{◌≡◌, refl, sym, ap, subst, ◌∙◌, List, [], ◌++◌, Some, inl, inr, false, true, cond}
 use Rattle.std.proofs.lemmas.Bool.{cases_Bool}
+use Rattle.std.proofs.lemmas.Option.{same_Some}
 use Rattle.wasm_encoder_base.specs.OperandSyntax.{OperandSyntax}
 use Rattle.wasm_encoder_base.specs.OperandSyntax as rows
 use Rattle.wast_typed_operands.specs.Tokens.{SignificantToken}
-use Rattle.wast_typed_operands.specs.Look.{Test, look, at, join}
-use Rattle.wast_typed_operands.proofs.Looks.{bind_ok, some_one, absurd_of, in_join, within, sub_law}
+use Rattle.wast_typed_operands.specs.Look.{Test, look, at, join, id_starts}
+use Rattle.wast_typed_operands.proofs.Looks.{bind_ok, absurd_of, in_join, within, sub_law}
 use Rattle.wast_typed_operands.specs.Lawful.{LawfulBut, Settles}
 use Rattle.wast_typed_operands.specs.Grammar.{Syntax, wide, nothing, next}
 use Rattle.wast_typed_operands.specs.Identifiers.{identifier, index}
 use Rattle.wast_typed_operands.proofs.GrammarLaws.{Lawful, among_laws, nothing_laws, seen_laws, next_laws, next_own, maybe_laws, bound_laws, seen_settles}
 use Rattle.wast_typed_operands.proofs.IdentifierLaws.{identifier_laws, index_laws}
 use Rattle.wast_typed_operands.proofs.ValueLaws.{heap_type_laws, ref_type_laws}
-use Rattle.wast_operands.specs.OperandSyntax.{id_starts, two_indices, optional_index}
+use Rattle.wast_operands.specs.OperandSyntax.{two_indices, optional_index}
 use Rattle.wast_vector_operands.proofs.VectorLaws.{signed_literal_laws, float_literal_laws, lane_laws, shuffle_laws, vector_laws}
 use Rattle.wast_operands.proofs.OperandLaws.{two_indices_laws, index_count_laws, label_table_laws, optional_index_laws, optional_indices_laws, one_or_two_laws, optional_ordering_laws, ordered_laws as behind_laws, mem_arg_laws, mem_arg_lane_laws, resume_laws, resume_throw_laws}
 use Rattle.wast_typed_operands.specs.TypedSyntax.{catch_starts}
@@ -149,8 +150,8 @@ module _ {N P : Type 0} where
       let d = bind_ok ((operands o).reads c.0.1) _ b.0 c.2 in
       let s = (operands_laws o).sound c.0.1 d.0 d.1 in
       let q : at (own_operands d.0.0) d.0.1 ≡ false = rw (own_is o d.0.0 s.taken s.spelled) ((row_settles o).settled c.0.1 d.0 d.1) in
-      let r = subst (λ (z : ((TextEntry × P) × Operands N P) × List (SignificantToken N P)). at (own_operands z.0.1) z.1 ≡ false) (some_one _ _ d.2) q in
-      subst (λ (z : Instruction N P × List (SignificantToken N P)). at (own z.0) z.1 ≡ false) (some_one _ _ b.2) r
+      let r = subst (λ (z : ((TextEntry × P) × Operands N P) × List (SignificantToken N P)). at (own_operands z.0.1) z.1 ≡ false) (same_Some _ _ d.2) q in
+      subst (λ (z : Instruction N P × List (SignificantToken N P)). at (own z.0) z.1 ≡ false) (same_Some _ _ b.2) r
 
   complete : (a : Instruction N P) (us rest : List (SignificantToken N P)) → instruction.spells a us → at row_stops rest ≡ false → at (own a) rest ≡ false → instruction.reads (us ++ rest) ≡ Some (a, rest)
   unfolding instruction

@@ -1,11 +1,12 @@
 -- A composite type is read by opening each group `(shared`, what stands within, and closing each.
 use Rattle.std.proofs.Common.{◌≡◌, ℕ, zero, suc, ◌-◌, true, false, List, length, ◌<◌, Option, Some, None, refl, ◌∙◌, ap, codes, arith}
+use Rattle.std.proofs.lemmas.Option.{same_Some}
 use Rattle.wast_grammar.specs.Tokens.{Name}
 use Rattle.wast_parser.specs.Significant.{TextToken}
 use Rattle.wast_parser.specs.Spelling.{◌>>=◌, that_open, that_close}
 use Rattle.wast_parser.specs.Look.{ask}
 use Rattle.wast_parser.specs.Grammar.{one_of, word}
-use Rattle.wast_grammar.proofs.Looks.{bind_ok, some_one}
+use Rattle.wast_grammar.proofs.Looks.{bind_ok}
 use Rattle.wast_parser.proofs.GrammarLaws.{one_open, shrinks, word_laws}
 use Rattle.wast_signatures.specs.TypeTree.{CompType}
 use Rattle.wast_signatures.specs.TypeSyntax.{shared_starts, comp_starts, comp_step, comp_type, as_shared}
@@ -60,7 +61,7 @@ pub shared_opened : (n : ℕ) (ts : Tokens) (x : Unit {0} × Tokens) → ask sha
 shared_opened n ts x a e =
     let o = bind_ok (one_of that_open ts) then_word x e in
     let k = bind_ok ((word shared).reads o.0.1) worded x o.2 in
-    let rest : k.0.1 ≡ x.1 = ap (λ z. z.1) (some_one _ _ k.2) in
+    let rest : k.0.1 ≡ x.1 = ap (λ z. z.1) (same_Some _ _ k.2) in
     rw (comp_turn ts, a, o.1, k.1) (after_open n k.0.0 (comp_type.reads k.0.1) ∙ ap (within (suc n)) rest)
 
 pub shared_unopened : (n : ℕ) (ts : Tokens) → ask shared_starts ts ≡ Some true → opened shared ts ≡ None → within n ts ≡ None
@@ -79,7 +80,7 @@ pub opened_shorter : (ts : Tokens) (x : Unit {0} × Tokens) → opened shared ts
 opened_shorter ts x e =
     let o = bind_ok (one_of that_open ts) then_word x e in
     let k = bind_ok ((word shared).reads o.0.1) worded x o.2 in
-    let rest : length k.0.1 ≡ length x.1 = ap (λ z. length z.1) (some_one _ _ k.2) in
+    let rest : length k.0.1 ≡ length x.1 = ap (λ z. length z.1) (same_Some _ _ k.2) in
     let front : length ts ≡ suc (length o.0.1) = ap length (one_open ts o.0 o.1) in
     let less = shrinks (word shared) (word_laws shared) refl refl o.0.1 k.0 k.1 in
     omega (arith, rest, front, less)

@@ -1,7 +1,7 @@
 -- Tokens that spell each production, and where definitions begin.
 use Rattle.std.proofs.Common.{ℕ, true, false, List, [], ◌∷◌, ◌++◌, Some, None, inl, inr, refl, ap, cond, codes}
 use Rattle.wast_parser.specs.Tokens.{SignificantToken, Open, Close, Word}
-use Rattle.wast_parser.specs.Look.{this_word}
+use Rattle.wast_parser.specs.Look.{this_word, id_starts, type_starts}
 use Rattle.wast_parser.specs.Grammar.{Syntax, seq, maybe, group}
 use Rattle.wast_parser.specs.Identifiers.{identifier}
 use Rattle.wast_grammar.proofs.Looks.{same_self}
@@ -11,7 +11,7 @@ use Rattle.wast_parser.proofs.IdentifierLaws.{identifier_laws, maybe_name_laws}
 use Rattle.wast_value_types.specs.ValueTree.{Packed, I8}
 use Rattle.wast_value_types.specs.ValueSyntax.{as_field, field_type}
 use Rattle.wast_signatures.specs.TypeTree.{FuncType}
-use Rattle.wast_signatures.specs.TypeSyntax.{id_starts, given_starts, given_name, type_starts, sig, struct_type, inner_type, comp_type, unshared, described, as_definition, sub_type, type_def, as_type_item, type_body, type_item}
+use Rattle.wast_signatures.specs.TypeSyntax.{given_starts, given_name, sig, struct_type, inner_type, comp_type, unshared, described, as_definition, sub_type, type_def, as_type_item, type_body, type_item}
 use Rattle.wast_signatures.proofs.SignatureSamples.{sig_spelled}
 use Rattle.wast_core_types.proofs.TypeLaws.{type_def_laws, type_body_laws}
 

@@ -1,16 +1,12 @@
 -- A production that stands in itself is read by what it is made of.
-use Rattle.std.proofs.Common.{◌≡◌, suc, zero, Bool, List, [], length, Option, Some, None, refl, sym, ◌∙◌, ap, arith}
+use Rattle.std.proofs.Common.{◌≡◌, suc, zero, Bool, List, [], length, Some, refl, ◌∙◌, ap, arith}
 use Rattle.wast_parser.specs.Tokens.{SignificantToken}
 use Rattle.wast_parser.specs.Look.{Test}
 use Rattle.wast_parser.specs.Grammar.{Syntax, wide}
 use Rattle.wast_parser.specs.Recursion.{deep, fix}
+use Rattle.wast_parser.proofs.Looks.{same_answers}
 use Rattle.wast_parser.proofs.GrammarLaws.{Lawful}
 use Rattle.wast_parser.proofs.RecursionLaws.{Steps, deeper, fix_laws}
-
-option_same : {X : Type 0} (o q : Option X) → ((x : X) → o ≡ Some x → q ≡ Some x) → ((x : X) → q ≡ Some x → o ≡ Some x) → o ≡ q
-option_same None None f g = refl
-option_same None (Some y) f g = g y refl
-option_same (Some x) q f g = sym (f x refl)
 
 -- what spells no less reads no less
 module _ {N P A : Type 0} (starts other : List Test) (empty full : Bool) (g h : Syntax N P A) (lg : Lawful (wide starts empty [] g)) (lh : Lawful (wide other full [] h)) (more : (a : A) (us : List (SignificantToken N P)) → g.spells a us → h.spells a us) where
@@ -34,4 +30,4 @@ module _ {N P A : Type 0} (starts : List Test) (empty : Bool) (step : Syntax N P
   fix_turn ts =
       let l = fix_laws starts empty [] step law in
       let k = law.keeps whole l in
-      option_same (whole.reads ts) ((step (wide starts empty [] whole)).reads ts) (reads_more starts starts empty empty whole (step (wide starts empty [] whole)) l k unrolled ts) (reads_more starts starts empty empty (step (wide starts empty [] whole)) whole k l rolled ts)
+      same_answers (whole.reads ts) ((step (wide starts empty [] whole)).reads ts) (reads_more starts starts empty empty whole (step (wide starts empty [] whole)) l k unrolled ts) (reads_more starts starts empty empty (step (wide starts empty [] whole)) whole k l rolled ts)

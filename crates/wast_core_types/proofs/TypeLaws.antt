@@ -1,15 +1,14 @@
 -- The laws of the syntax of composite types and definitions: each mirrors its production.
 use Rattle.std.proofs.Common.{suc, false, [], ◌∷◌, refl}
 use Rattle.std.specs.Prelude.{codes}
-use Rattle.wast_parser.specs.Look.{this_group}
+use Rattle.wast_parser.specs.Look.{this_group, id_starts, index_starts, type_starts}
 use Rattle.wast_parser.specs.Grammar.{wide, seen, group}
 use Rattle.wast_parser.proofs.GrammarLaws.{Lawful, word_laws, seen_laws, seq_laws, maybe_laws, many_laws, either_laws, paren_laws, group_laws, wide_laws}
 use Rattle.wast_parser.proofs.RecursionLaws.{Steps, fix_laws, under_self, under_seen, under_group, under_either}
 use Rattle.wast_parser.proofs.IdentifierLaws.{identifier_laws, index_laws, maybe_name_laws}
 use Rattle.wast_value_types.proofs.WordLaws.{optional_laws}
 use Rattle.wast_value_types.proofs.ValueLaws.{field_type_laws}
-use Rattle.wast_value_types.specs.ValueSyntax.{index_starts}
-use Rattle.wast_signatures.specs.TypeSyntax.{id_starts, shared_starts, comp_starts, type_starts, fields, struct_type, inner_type, as_shared, unshared, comp_step, comp_type, described, sub_type, type_def, type_body, type_item, rec_body, rec_group}
+use Rattle.wast_signatures.specs.TypeSyntax.{shared_starts, comp_starts, fields, struct_type, inner_type, as_shared, unshared, comp_step, comp_type, described, sub_type, type_def, type_body, type_item, rec_body, rec_group}
 use Rattle.wast_signatures.proofs.SignatureLaws.{sig_laws, named_fields_laws, index_of_laws}
 
 module _ {N P : Type 0} where

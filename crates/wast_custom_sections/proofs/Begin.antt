@@ -1,8 +1,7 @@
 -- Where the instructions of bodies begin, in bytes.
-use Rattle.std.proofs.Common.{ℕ, ◌≡◌, ◌+◌, ◌-◌, ◌<◌, ◌≤◌, ◌^◌, min, List, [], ◌∷◌, ◌++◌, length, map, take, drop, get_or, ap, sym, ◌∙◌, arith, ⊎_elim, add-one, append_assoc, take-append-drop, flat_map, length-append}
+use Rattle.std.proofs.Common.{ℕ, ◌≡◌, ◌+◌, ◌-◌, ◌<◌, ◌≤◌, ◌^◌, min, List, [], ◌∷◌, ◌++◌, length, map, take, drop, get_or, ap, sym, ◌∙◌, arith, add-one, append_assoc, take-append-drop, flat_map, length-append}
 use Rattle.std.specs.List.{range_with_len}
-use Rattle.std.proofs.lemmas.Bool.{cases_lt}
-use Rattle.std.proofs.lemmas.List.{take_more, take_all, take-map, length-map, flat_map_more}
+use Rattle.std.proofs.lemmas.List.{take_more, take_all, take-map, length-map, flat_map_more, take_min}
 use Rattle.std.proofs.lemmas.List.Folds.{flat_map-map}
 use Rattle.std.proofs.lemmas.List.FromFn.{map-range_with_len_more, get_or-map-range_with_len, length-map-range_with_len}
 use Rattle.wasm_encoder_base.specs.Types.{ValType}
@@ -100,12 +99,6 @@ module _ (ts : List ValType) (is : List tree.Instruction) where
 pub places_count : (b : Body) → length (places_of b) ≡ length b.instructions + 1
 places_count b = length-map-range_with_len (place_of b) 0 (length b.instructions + 1)
 
-take_min : {A : Type 0} (xs : List A) (k : ℕ) → take (min k (length xs)) xs ≡ take k xs
-take_min xs k = ⊎_elim
-    (λ h. let e : min k (length xs) ≡ k = omega arith in ap (λ n. take n xs) e)
-    (λ h. let e : min k (length xs) ≡ length xs = omega arith in ap (λ n. take n xs) e ∙ take_all (length xs) xs (omega arith) ∙ sym (take_all k xs h))
-    (cases_lt k (length xs))
-
 one_among : (b : Body) (h : Hint) → among (places_of b) h ≡ placed_at b h
 one_among b h =
     let n = length b.instructions in
@@ -115,7 +108,7 @@ one_among b h =
     let place : get_or (places_of b) m 0 ≡ place_of b h.index =
     get_or-map-range_with_len (place_of b) 0 (n + 1) m m 0 less (omega arith)
     ∙ ap (place_of b) last
-    ∙ ap (λ is. length (locals_bytes b.locals) + length (flat_map instr_bytes is)) (take_min b.instructions h.index) in
+    ∙ ap (λ is. length (locals_bytes b.locals) + length (flat_map instr_bytes is)) (take_min h.index b.instructions) in
     (λ i. record { branch_func_offset = place i; branch_hint_value = h.value })
 
 pub all_among : (b : Body) (hs : List Hint) → map (among (places_of b)) hs ≡ map (placed_at b) hs

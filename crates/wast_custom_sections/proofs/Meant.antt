@@ -18,6 +18,7 @@ use Rattle.wasm_encoder.specs.Module.{numbered}
 use Rattle.wasm_layout.specs.AbstractModule as abstract
 use Rattle.wasm_layout.specs.IsModule.{IfThere}
 use Rattle.wasm_layout.specs.Layout.{Known, if_there, piece_bytes, placed as place_hint, placed_in, placed_hints}
+use Rattle.wasm_layout.specs.Lays.{PiecesFit}
 use Rattle.wasm_layout.specs.Present.{has_any}
 use Rattle.wasm_layout.specs.Section.{Hints}
 use Rattle.wast_customs.proofs.Encodings.{encodes_as}
@@ -26,7 +27,6 @@ use Rattle.wast_module_fields.specs.FieldTree.{Function, Field}
 use Rattle.wast_meant.specs.FieldsMeant.{function_of}
 use Rattle.wast_meant.specs.NamesMeant.{bodies_in, function_hints, hints_from}
 use Rattle.wast_meant.proofs.Renamed.{any_of_map}
-use Rattle.wast_custom_sections.specs.Parts.{PiecesFit}
 use Rattle.wast_custom_sections.specs.Hints.{PlacesFit, FunctionFits, function_in, hints_in, hint_list, hint_section, hint_pieces, HintsFit}
 use Rattle.wast_custom_sections.specs.Hinted.{Hinted, HintedFits, placed, placed_at, hinted_bytes, with_hints, hinted, hinted_from}
 

@@ -10,6 +10,7 @@ use Rattle.wasm_encoder_base.specs.EncodeError.{EncodeError}
 use Rattle.wasm_encoder_custom.specs.Custom as binary
 use Rattle.wasm_encoder_custom.specs.Custom.{CustomFits}
 use Rattle.wasm_layout.specs.Layout.{Free}
+use Rattle.wasm_layout.specs.Lays.{PiecesFit}
 use Rattle.wast_customs.specs.CustomTree.{Custom, CustomPlace, place_of}
 use Rattle.wast_customs.proofs.Encodings.{encodes_as}
 use Rattle.wast_module_fields.specs.FieldTree.{Field}
@@ -17,7 +18,7 @@ use Rattle.wast_module_fields.specs.ModuleFieldViews.{field_tree}
 use Rattle.wast_module_fields.specs.declared.field.ModuleField.{ModuleField}
 use Rattle.wast_module_fields.specs.declared.field.ModuleField.TheVariants as fields
 use Rattle.wast_meant.specs.CustomsMeant.{custom_of, customs_in, same_place, at_place}
-use Rattle.wast_custom_sections.specs.Parts.{section_bytes, sections_at, PiecesFit, AreCustom}
+use Rattle.wast_custom_sections.specs.Parts.{section_bytes, sections_at, AreCustom}
 
 pub places_append : {N P : Type 0} (place : CustomPlace) (fs gs : List (Field N P)) → sections_at (fs ++ gs) place ≡ sections_at fs place ++ sections_at gs place
 places_append {N} {P} place fs gs =

@@ -4,20 +4,17 @@ use Rattle.std.proofs.lemmas.Str.{is_utf8-from_IsUtf8, IsUtf8-nil}
 use Rattle.std.specs.Prelude.{◌-◌, ◌^◌, codes}
 use Rattle.wast_parser.specs.Tokens.{SignificantToken, Integer, Text}
 use Rattle.wast_parser.specs.Lawful.{Lawful, Leads}
-use Rattle.wast_parser.specs.Look.{On, OneOf, Any, AWord, AnInteger, this_group}
+use Rattle.wast_parser.specs.Look.{On, OneOf, Any, AWord, AnInteger, this_group, string_starts}
 use Rattle.wast_parser.specs.Grammar.{among, seq, next, seen, many, wide}
-use Rattle.wast_parser.specs.Integers.{unsigned}
+use Rattle.wast_parser.specs.Integers.{unsigned, u32}
 use Rattle.wast_parser.specs.Productions.{name}
 use Rattle.wast_parser.proofs.GrammarLaws.{among_laws, seen_laws, seq_laws, next_laws, maybe_laws, many_laws, either_laws, led_laws, paren_laws, bound_laws}
 use Rattle.wast_parser.proofs.LeadLaws.{among_leads, seen_leads, either_leads, next_leads, group_leads, paren_leads}
-use Rattle.wast_parser.proofs.IntegerLaws.{number_laws, name_laws, integer_value_leads}
+use Rattle.wast_parser.proofs.IntegerLaws.{u32_laws, name_laws, integer_value_leads}
 use Rattle.wast_customs.specs.CustomTree.{Subsection, Needed, ExportInfo, ImportInfo, RuntimePath, MemInfo}
-use Rattle.wast_customs.specs.DylinkSyntax.{flag_word, symbol_flags, flag_bit, GroupKind, MemInfoGroup, NeededGroup, ExportInfoGroup, ImportInfoGroup, RuntimePathGroup, group_word, group_kinds, group_starts, name_starts, flag_starts, within_starts, within_stops, u32, flag, flags, extent_body, extent, within, group_body, dylink_group}
+use Rattle.wast_customs.specs.DylinkSyntax.{flag_word, symbol_flags, flag_bit, GroupKind, MemInfoGroup, NeededGroup, ExportInfoGroup, ImportInfoGroup, RuntimePathGroup, group_word, group_kinds, group_starts, flag_starts, within_starts, within_stops, flag, flags, extent_body, extent, within, group_body, dylink_group}
 
 module _ {N P : Type 0} where
-  pub u32_laws : Lawful (u32 {N = N} {P = P})
-  u32_laws = seen_laws _ _ (number_laws (2 ^ 32 - 1) None unsigned)
-
   word_flag_laws : Lawful (seen (λ f. flag_bit f.0) (among {N = N} {P = P} flag_word symbol_flags []))
   word_flag_laws = seen_laws _ _ (among_laws flag_word symbol_flags [])
 
@@ -36,7 +33,7 @@ module _ {N P : Type 0} where
   pub extent_laws : (w : List ℕ) → Lawful (extent {N = N} {P = P} w)
   extent_laws w = paren_laws (extent_body w) (extent_body_laws w) refl refl
 
-  names_laws : Lawful (many {N = N} {P = P} name_starts name)
+  names_laws : Lawful (many {N = N} {P = P} string_starts name)
   names_laws = many_laws _ _ name_laws refl refl refl refl refl
 
   pub within_laws : (k : GroupKind) → Lawful (within {N = N} {P = P} k)

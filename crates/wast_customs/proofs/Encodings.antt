@@ -1,24 +1,21 @@
 -- Encodings of lists, by what is seen of their items.
-use Rattle.std.proofs.Common.{◌≡◌, ◌<◌, ◌^◌, ℕ, List, [], ◌∷◌, ◌++◌, map, length, subst, sym, ◌∙◌, ap, Result, Ok, Err}
+use Rattle.std.proofs.Common.{◌≡◌, ◌<◌, ◌^◌, ℕ, List, [], ◌∷◌, ◌++◌, map, length, subst, sym, ◌∙◌, ap, Result}
 use Rattle.std.specs.Prelude.{All, OnOk}
 use Rattle.std.proofs.lemmas.List.{length-map}
 use Rattle.std.proofs.lemmas.List.Folds.{flat_map-map}
 use Rattle.std.proofs.lemmas.List.Elements.{All-map, All-weaker, All-nil, All-cons, All-head, All-tail}
 use Rattle.std.specs.List.{flat_map}
+use Rattle.std.proofs.lemmas.Result.{on_ok_weaker}
 use Rattle.wasm_encoder_base.specs.Leb.{uleb}
 use Rattle.wasm_encoder_base.specs.Bytes.{counted}
 use Rattle.wasm_encoder_base.specs.Encodes.{Encodes}
 use Rattle.wasm_encoder_base.specs.EncodeError.{EncodeError}
 
-on_ok : {F G : Type 0} (r : Result (Unit {0}) EncodeError) → (F → G) → OnOk r F → OnOk r G
-on_ok (Ok x) f h = f h
-on_ok (Err e) f h = h
-
 -- the same bytes, where the same fits
 pub encodes_as : {s t : List ℕ} {F G : Type 0} {b a : List ℕ} {r : Result (Unit {0}) EncodeError} → s ≡ t → (F → G) → (G → F) → Encodes s F b a r → Encodes t G b a r
 encodes_as {b = b} {a = a} {r = r} e f g h = record {
   spelled = subst (λ z. OnOk r (a ≡ b ++ z)) e h.spelled;
-  fit = on_ok r f h.fit;
+  fit = on_ok_weaker r f h.fit;
   unchanged = h.unchanged;
   too_large = λ x y. h.too_large x (g y);
 }

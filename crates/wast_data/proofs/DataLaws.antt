@@ -2,16 +2,17 @@
 use Rattle.std.proofs.Common.{true, List, [], refl}
 use Rattle.std.specs.Prelude.{◌*◌}
 use Rattle.std.specs.Int.{Width, w8, w16, w32, w64, byte_len}
+use Rattle.wast_parser.specs.Look.{integer_starts, string_starts}
 use Rattle.wast_parser.specs.Tokens.{SignificantToken}
 use Rattle.wast_parser.specs.Lawful.{Lawful, Leads}
 use Rattle.wast_parser.specs.Grammar.{among, string, next, seen, wide}
 use Rattle.wast_parser.proofs.GrammarLaws.{string_laws, among_laws, seen_laws, next_laws, many_laws, either_laws, paren_laws, bound_laws}
 use Rattle.wast_parser.proofs.LeadLaws.{among_leads, seen_leads, either_leads, next_leads, paren_leads}
 use Rattle.wast_parser.proofs.IntegerLaws.{bytes_leads}
-use Rattle.wast_vector_operands.specs.VectorSyntax.{integer_starts, float_starts, shape_starts}
+use Rattle.wast_vector_operands.specs.VectorSyntax.{float_starts, shape_starts}
 use Rattle.wast_vector_operands.proofs.VectorLaws.{signed_literal_laws, float_literal_laws, vector_laws}
 use Rattle.wast_data.specs.DataTree.{DataVal, Text, Integral, Float}
-use Rattle.wast_data.specs.DataSyntax.{NumberType, I8, I16, I32, I64, F32, F64, V128, number_word, number_types, string_starts, word_starts, group_starts, value_starts, number_starts, number_stops, integers, floats, vectors, numbers_of, numbers_body, numbers, value}
+use Rattle.wast_data.specs.DataSyntax.{NumberType, I8, I16, I32, I64, F32, F64, V128, number_word, number_types, word_starts, group_starts, value_starts, number_starts, number_stops, integers, floats, vectors, numbers_of, numbers_body, numbers, value}
 
 module _ {N P : Type 0} where
   integers_laws : (w : Width) → Lawful (integers {N = N} {P = P} w)

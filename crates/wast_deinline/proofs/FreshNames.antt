@@ -3,7 +3,7 @@ use Rattle.std.proofs.Common.{◌≡◌, ℕ, suc, ◌+◌, ◌≤◌, ◌<◌, 
 use Rattle.std.specs.Prelude.{◌&&◌, not, if◌then◌else◌}
 use Rattle.std.specs.List.{flat_map, list_any}
 use Rattle.std.specs.Cmp.Derive.{both_true}
-use Rattle.std.proofs.lemmas.Bool.{ne_eqb}
+use Rattle.std.proofs.lemmas.Bool.{ne_eqb, and_right}
 use Rattle.std.proofs.lemmas.List.Elements.{All-nil, All-cons, All-head, All-tail}
 use Rattle.std.proofs.lemmas.List.Folds.{list_any_none}
 use Rattle.wast_grammar.specs.Tokens.{Name}
@@ -14,12 +14,8 @@ use Rattle.wast_meaning.specs.Fresh.{are_distinct, are_new, field_names, is_fres
 use Rattle.wast_meaning.proofs.Counter.{next}
 use Rattle.wast_meaning.specs.Made.{made}
 
-both_false : (a b : Bool) → b ≡ false → (a && b) ≡ false
-both_false true b h = h
-both_false false b h = refl
-
 differ : (a b : Name) → (a.1 ≡ b.1 → ⊥) → same_name a b ≡ false
-differ a b h = both_false (same_text a.0 b.0) (nat_eq a.1 b.1) (ne_eqb a.1 b.1 h)
+differ a b h = and_right (same_text a.0 b.0) (nat_eq a.1 b.1) (ne_eqb a.1 b.1 h)
 
 earlier : (n : ℕ) (b : Name) → n + 1 < b.1 → same_name (made n) b ≡ false
 earlier n b h = differ (made n) b (λ (e : n + 1 ≡ b.1). absurd (omega arith))

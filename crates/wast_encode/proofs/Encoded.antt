@@ -3,6 +3,7 @@ use Rattle.std.proofs.Common.{◌≡◌, ◌⊎◌, ℕ, false, true, inl, inr, 
 use Rattle.std.specs.Prelude.{Result, Ok, Err, MatchResult, IfOk, IfErr}
 use Rattle.std.specs.List.{flat_map}
 use Rattle.std.proofs.lemmas.Bool.{false≢true}
+use Rattle.std.proofs.lemmas.Option.{same_Some}
 use Rattle.wasm_encoder_base.specs.EncodeError.{EncodeError}
 use Rattle.wasm_encoder_base.specs.EncodeError.TheVariants as errors
 use Rattle.wast_grammar.specs.Tokens.{Name}
@@ -115,10 +116,7 @@ module _ (counter : ℕ) (before after : Module Name ℕ) where
 
   -- one that was refused before
   one_reason : (error reason why : Problem) → before.refusal ≡ Some why → after ≡ before → after.refusal ≡ Some reason → (error ≡ reason) ⊎ (error ≡ out_of_memory) → is_memory error.cause ≡ false → error ≡ why
-  one_reason error reason why was kept keeps (inl e) other = e ∙ of_some reason why (sym keeps ∙ ap (λ (m : Module Name ℕ). m.refusal) kept ∙ was)
-    where
-      of_some : (a b : Problem) → Some a ≡ Some b → a ≡ b
-      of_some a b e = cc
+  one_reason error reason why was kept keeps (inl e) other = e ∙ same_Some reason why (sym keeps ∙ ap (λ (m : Module Name ℕ). m.refusal) kept ∙ was)
   one_reason error reason why was kept keeps (inr e) other = absurd (false≢true (sym other ∙ ap (λ (p : Problem). is_memory p.cause) e))
 
   pub refused_again : (why : Problem) (fault : EncodeFault) → before.refusal ≡ Some why → after ≡ before → IsUnresolved counter before after fault → IsRefusedFor why fault

@@ -16,8 +16,7 @@ use Rattle.wast_meant.specs.Covered.{field_forms, uncovered}
 use Rattle.wast_meaning.specs.Made.{is_made}
 use Rattle.wast_resolve_laws.proofs.Names.{name_self, name_sound}
 use Rattle.wast_resolve_laws.proofs.Resolved as again
-use Rattle.wast_section_items.specs.Ready.{ExprReady, ConstantReady, DefinedReady, ElementsReady, ElemModeReady, DataModeReady, FieldReady}
-use Rattle.wast_section_items.specs.Ready as items
+use Rattle.wast_section_items.specs.Ready.{ExprReady, ConstantReady, DefinedReady, ElementsReady, ElemModeReady, DataModeReady, FieldOfReadyParts, FieldReady}
 use Rattle.wast_encode_laws.specs.Formed.{IsFormed, IsConstant, ElementsFormed, DefinedFormed, ElemModeFormed, DataModeFormed, FieldFormed}
 use Rattle.wast_encode_laws.specs.Ready.{ExprResolved, ElementsResolved, DefinedResolved, ElemModeResolved, DataModeResolved, FieldResolved}
 use Rattle.wast_encode_laws.specs.Orderings.{are_ordered}
@@ -69,7 +68,7 @@ module _ {N P : Type 0} where
   data_mode_ready PassiveData r f = tt
   data_mode_ready (ActiveData memory offset) r f = (r.0, constant_ready offset r.1 f)
 
-  resolved_ready : (f : Field N P) → FieldResolved f → FieldFormed f → items.FieldResolved f
+  resolved_ready : (f : Field N P) → FieldResolved f → FieldFormed f → FieldOfReadyParts f
   resolved_ready (TypeField t) r f = r
   resolved_ready (RecField x) r f = r
   resolved_ready (ImportField i) r f = r

@@ -2,7 +2,7 @@
 use Rattle.std.proofs.Common.{◌≡◌, ℕ, zero, suc, ◌+◌, ◌^◌, Bool, true, false, List, [], ◌∷◌, length, map, All, Option, Some, None, refl, sym, ◌∙◌, ap, arith, subst, inl, inr}
 use Rattle.std.specs.Prelude.{◌&&◌, ◌||◌, not, nat_eq, nat_lt, option_to_list}
 use Rattle.std.specs.List.{list_all, list_any}
-use Rattle.std.proofs.lemmas.Bool.{false≢true, cases_Bool, eqb-true, ltb-true, ltb-false}
+use Rattle.std.proofs.lemmas.Bool.{false≢true, cases_Bool, eqb-true, ltb-true, ltb-false, not-true}
 use Rattle.std.proofs.lemmas.List.Elements.{All-nil, All-cons}
 use Rattle.wasm_encoder_base.specs.Table.{Tables, Memories}
 use Rattle.wasm_encoder_base.specs.Balanced.{Turn, Opens, Closes, Stays, turn_of, turned, IsBalanced}
@@ -39,10 +39,6 @@ power_is : (n : ℕ) → is_power n ≡ true → IsPower n
 power_is n e = one_of n (0 ∷ 1 ∷ 2 ∷ 3 ∷ 4 ∷ 5 ∷ 6 ∷ 7 ∷ 8 ∷ 9 ∷ 10 ∷ 11 ∷ 12 ∷ 13 ∷ 14 ∷ 15 ∷ []) refl e
 
 -- HINTS
-not_so : (b : Bool) → not b ≡ true → b ≡ false
-not_so false e = refl
-not_so true e = elim (false≢true e) [ ]
-
 hints_fit : (least len : ℕ) (hs : List Hint) → are_hints least len hs ≡ true → HintsFit least len hs
 hints_fit least len [] e = tt
 hints_fit least len (h ∷ hs) e =
@@ -52,7 +48,7 @@ hints_fit least len (h ∷ hs) e =
     let rest = are_hints (h.index + 1) len hs in
     let three = left (above && inside && small) rest e in
     let first = left (above && inside) small three in (
-      ltb-false h.index least (not_so (nat_lt h.index least) (left above inside first)),
+      ltb-false h.index least (not-true (nat_lt h.index least) (left above inside first)),
       ltb-true h.index len (right above inside first),
       ltb-true h.value 128 (right (above && inside) small three),
       hints_fit (h.index + 1) len hs (right (above && inside && small) rest e),

@@ -4,7 +4,7 @@ use Rattle.std.specs.Prelude.{slice_get}
 use Rattle.std.specs.List.{flat_map, AllByRecursion}
 use Rattle.std.specs.Option.{option_flatten}
 use Rattle.std.proofs.lemmas.List.{length-map}
-use Rattle.std.proofs.lemmas.List.Elements.{All-nil, All-cons, All-head, All-tail}
+use Rattle.std.proofs.lemmas.List.Elements.{All-nil, All-cons, All-head, All-tail, All-append}
 use Rattle.wast_expressions.specs.Items as items
 use Rattle.wast_imports.specs.ImportTree.{ExternType, OfFunc, OfExactFunc}
 use Rattle.wast_module_fields.specs.FieldTree.{Function, Defined, Func, Field, ImportField, Define}
@@ -28,10 +28,6 @@ use Rattle.wast_encode_laws.proofs.Formed.{formed}
 use Rattle.wasm_layout.proofs.Joined.{all_joined}
 
 -- LISTS
-all_both : {A : Type 0} (Q : A → Type 0) (xs ys : List A) → All Q xs → All Q ys → All Q (xs ++ ys)
-all_both Q [] ys a b = b
-all_both Q (x ∷ xs) ys a b = All-cons Q x (xs ++ ys) (All-head Q x xs a) (all_both Q xs ys (All-tail Q x xs a) b)
-
 pub rise_below : (m n : ℕ) (ns : List ℕ) → m ≤ n → Rise n ns → Rise m ns
 rise_below m n [] l r = tt
 rise_below m n (k ∷ ks) l r = let least : n ≤ k = r.0 in (omega (arith, l, least), r.1, r.2)
@@ -73,7 +69,7 @@ module _ {N P : Type 0} where
 
   types_formed : (ts : List (ExternType N P)) → All BodyFormed (flat_map imported_function ts)
   types_formed [] = All-nil BodyFormed
-  types_formed (t ∷ ts) = all_both BodyFormed (imported_function t) (flat_map imported_function ts) (type_formed t) (types_formed ts)
+  types_formed (t ∷ ts) = All-append BodyFormed (imported_function t) (flat_map imported_function ts) (type_formed t) (types_formed ts)
 
   defined_formed : (d : Defined N P) → DefinedFormed d → All BodyFormed (defined_function d)
   defined_formed (Func f) h = All-cons BodyFormed (Some f) [] h (All-nil BodyFormed)
@@ -86,7 +82,7 @@ module _ {N P : Type 0} where
 
   bodies_formed : (fs : List (Field N P)) → All FieldFormed fs → All BodyFormed (flat_map bodies_in fs)
   bodies_formed [] h = All-nil BodyFormed
-  bodies_formed (f ∷ fs) h = all_both BodyFormed (bodies_in f) (flat_map bodies_in fs) (own_formed f (All-head FieldFormed f fs h)) (bodies_formed fs (All-tail FieldFormed f fs h))
+  bodies_formed (f ∷ fs) h = All-append BodyFormed (bodies_in f) (flat_map bodies_in fs) (own_formed f (All-head FieldFormed f fs h)) (bodies_formed fs (All-tail FieldFormed f fs h))
 
   functions_rise : (n : ℕ) (os : List (Option (Function N P))) → n + length os ≤ 2 ^ 32 → Rise n (map (λ g. g.function) (hints_from n os))
   functions_rise n [] l = tt

@@ -9,8 +9,8 @@ use Rattle.wasm_encoder_base.specs.Table.{Space}
 use Rattle.wasm_encoder_items.specs.Imports as imports
 use Rattle.wast_imports.specs.ImportTree.{ExternType, OfFunc, OfExactFunc, OfTable, OfMemory, OfGlobal, OfTag, Item, ImportItems, Single, Group1, Group2}
 use Rattle.wast_module_fields.specs.FieldTree.{Function, Defined, Imported, Func, Field, TypeField, RecField, ImportField, Define, ExportField, StartField, ElemField, DataField, CustomField}
-use Rattle.wast_names.specs.Walk.{walked, first_unmet}
-use Rattle.wast_names.specs.Demand.{Demand, is_met}
+use Rattle.wast_names.specs.Walk.{first_unmet}
+use Rattle.wast_names.specs.Demand.{is_met}
 use Rattle.wast_meaning.specs.Written.{has_any, space_of_kind, kind_of}
 use Rattle.wast_meaning.specs.Spaces.{items}
 use Rattle.wast_meaning.specs.Scope.{scope_of}
@@ -20,6 +20,7 @@ use Rattle.wast_meaning.proofs.Settled.{left, right, back, two, front}
 use Rattle.wasm_layout.specs.AbstractModule as abstract
 use Rattle.wasm_layout.specs.Layout.{is_function, functions_in}
 use Rattle.wast_conversions.specs.Types.{extern_meant}
+use Rattle.wast_resolve_laws.proofs.Outlined.{order_from}
 use Rattle.wast_resolve_laws.proofs.Plain.{stands_alone, is_plain, plain_stays}
 use Rattle.wast_resolve_laws.proofs.Resolved.{resolved_met}
 use Rattle.wast_resolve_laws.proofs.Unmet.{all_met}
@@ -49,9 +50,6 @@ module _ {N P : Type 0} where
   sections_of fs = replicate (imported_in fs) None ++ map (λ f. Some f) (defined_functions fs)
 
   -- THE ORDER OF IMPORTS
-  abbrev order_from : Option Space → List (Field N P) → List (Demand N P)
-  order_from before fs = walked order_demand nearest before fs
-
   abbrev Ordered : Option Space → List (Field N P) → Type 0
   Ordered before fs = list_all is_met (order_from before fs) ≡ true
 

@@ -27,11 +27,11 @@ use Rattle.wast_meaning.specs.Numbered.{expanded, resolved}
 use Rattle.wast_meaning.specs.Settled.{is_number, has_number, block_settled, says_number, is_settled, are_settled}
 use Rattle.wast_meaning.proofs.Settled.{left, right, front, back}
 use Rattle.wast_meaning.proofs.SettledFields.{said_parts}
-use Rattle.wast_conversions.specs.Resolved.{IfThere, IsNumber, HeapResolved, ValResolved, StorageResolved, SigResolved, InnerResolved, TypeResolved, UseResolved, ExternResolved, ResultsResolved, ShortResolved, BlockResolved, CatchResolved, TargetResolved, HandleResolved, OperandsResolved, InstrResolved}
+use Rattle.wast_conversions.specs.Resolved.{IfThere, IsNumber, HeapResolved, ValResolved, StorageResolved, SigResolved, InnerResolved, TypeResolved, UseResolved, ExternResolved, ImportResolved, ResultsResolved, ShortResolved, BlockResolved, CatchResolved, TargetResolved, HandleResolved, OperandsResolved, InstrResolved}
 use Rattle.wast_resolve_laws.proofs.Plain.{stands_alone, is_plain, written_plain, expanded_plain, numbered_plain}
 use Rattle.wast_resolve_laws.proofs.Resolved.{resolved_settled}
 use Rattle.wast_encode_laws.proofs.Lists.{each_is, none_left}
-use Rattle.wast_encode_laws.specs.Ready.{ExprResolved, FunctionResolved, ElementsResolved, ElemModeResolved, DataModeResolved, DefinedResolved, ImportResolved, FieldResolved}
+use Rattle.wast_encode_laws.specs.Ready.{ExprResolved, FunctionResolved, ElementsResolved, ElemModeResolved, DataModeResolved, DefinedResolved, FieldResolved}
 
 module _ {N P : Type 0} where
   number_is : (i : Reference N P) → is_number i ≡ true → IsNumber i

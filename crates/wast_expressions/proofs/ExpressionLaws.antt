@@ -1,11 +1,12 @@
 -- Expressions keep the laws, if their instructions do.
 use Rattle.std.specs.Prelude.{codes}
 use Rattle.std.proofs.Common.{◌≡◌, ℕ, suc, Bool, cond, true, false, List, [], ◌∷◌, refl, sym, ◌∙◌, subst, Some, ap}
+use Rattle.std.proofs.lemmas.Option.{same_Some}
 use Rattle.wast_grammar.specs.Look.{On, AWord, fits, this_group, this_annotation, holds, OneOf, apart, any_end, join}
 use Rattle.wast_grammar.specs.Grammar.{Syntax, wide, seq, seen, only, maybe, many, either, paren, group, word, string, mark}
 use Rattle.wast_grammar.specs.Behind.{row}
 use Rattle.wast_grammar.specs.Lawful.{Lawful, LawfulBut}
-use Rattle.wast_grammar.proofs.Looks.{join_left, within_self, some_one}
+use Rattle.wast_grammar.proofs.Looks.{join_left, within_self}
 use Rattle.wast_grammar.proofs.GrammarLaws.{word_laws, string_laws, mark_laws, seen_laws, seq_laws, only_laws, maybe_laws, many_laws, group_laws, paren_laws, fenced_laws, either_laws}
 use Rattle.wast_grammar.proofs.RecursionLaws.{Under, Steps, under_self, under_seen, under_only, under_seq, under_led, under_next_but, under_maybe, under_many, under_row, under_either, under_paren, under_fenced, under_less, fix_laws}
 use Rattle.wast_grammar.proofs.BehindLaws.{Second, but_of, seen_but, only_but, seq_but, either_but, next_but_laws, row_laws}
@@ -136,7 +137,7 @@ module _ {N P I : Type 0} (ins : Syntax N P I) (heads : Heads I) (li : LawfulBut
   pub one_reading : OneReading ins heads
   one_reading x y front rest back tail e er et s t =
       let q : Some (x, rest) ≡ Some (y, tail) = sym (items_laws.complete x front rest s er) ∙ ap (items ins heads).reads e ∙ items_laws.complete y back tail t et in
-      let p : (x, rest) ≡ (y, tail) = some_one (x, rest) (y, tail) q in
+      let p : (x, rest) ≡ (y, tail) = same_Some (x, rest) (y, tail) q in
       (ap (λ z. z.0) p, ap (λ z. z.1) p)
 
   -- of plain

@@ -2,7 +2,7 @@
 use Rattle.std.specs.Prelude.{codes}
 use Rattle.std.proofs.Common.{◌≡◌, ℕ, ◌<◌, Bool, true, false, List, [], ◌∷◌, ◌++◌, length, Option, Some, None, refl, sym, ◌∙◌, ap, cond, append_assoc, append-nil}
 use Rattle.wast_grammar.specs.Tokens.{SignificantToken}
-use Rattle.wast_grammar.specs.Spelling.{◌>>=◌, that_open, that_close, that_one}
+use Rattle.wast_grammar.specs.Spelling.{◌>>=◌, that_open, that_close}
 use Rattle.wast_grammar.specs.Look.{NotEnd, at, ask}
 use Rattle.wast_grammar.specs.Grammar.{Syntax, Reader, maybe, many, group, paren, seq, word, one_of}
 use Rattle.wast_grammar.specs.Behind.{row}
@@ -41,9 +41,6 @@ module _ {N P I : Type 0} (ins : Syntax N P I) (heads : Heads I) (m : Made P I) 
 
   abbrev closed : Reader N P P
   closed ts = one_of that_close ts
-
-  abbrev the_word : List ℕ → Reader N P P
-  the_word v ts = one_of (that_one v) ts
 
   abbrev end_of : P → Out
   end_of p = (None, m.end_at p) ∷ []

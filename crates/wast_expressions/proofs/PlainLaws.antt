@@ -11,7 +11,7 @@ use Rattle.wast_expressions.specs.Items.{Made, expression_of, hints_from}
 use Rattle.wast_expressions.specs.Heeds.{Heeds}
 use Rattle.wast_expressions.specs.Machine.{EndWith, State, state, folded_head, plain_turn}
 use Rattle.std.proofs.lemmas.List.{map-append}
-use Rattle.wast_grammar.proofs.Looks.{some_one}
+use Rattle.std.proofs.lemmas.Option.{same_Some}
 use Rattle.wast_grammar.proofs.GrammarLaws.{shrinks}
 use Rattle.wast_expressions.proofs.ExpressionLaws.{plain_laws, plain_steps}
 use Rattle.wast_expressions.proofs.PlainOutcome as spec
@@ -198,7 +198,7 @@ module _ {N P I : Type 0} (ins : Syntax N P I) (heads : Heads I) (li : LawfulBut
 
     embedded_some : (o : Option (PlainState N P I)) (t : State N P I) → (o >>= embedded) ≡ Some t → (s : PlainState N P I) × (o ≡ Some s) × (t ≡ embed s)
     embedded_some None t e = cc
-    embedded_some (Some s) t e = (s, refl, sym (some_one (embed s) t e))
+    embedded_some (Some s) t e = (s, refl, sym (same_Some (embed s) t e))
 
     standing : (ts : Toks) (t : State N P I) (s : PlainState N P I) → t ≡ embed s → Plain.reads ts ≡ outcome s → Standing ins heads ts t
     standing ts t s e f = record { stack = s.stack; out = s.out; same = rw e refl; outcome_is = rw e f }

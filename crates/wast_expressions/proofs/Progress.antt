@@ -1,6 +1,7 @@
 -- Each turn takes a token.
 use Rattle.std.specs.Prelude.{codes}
 use Rattle.std.proofs.Common.{◌≡◌, ℕ, suc, ◌≤◌, ◌<◌, ◌+◌, Bool, true, false, List, [], ◌∷◌, ◌++◌, length, Option, Some, None, refl, ◌∙◌, ap, subst, arith, cond, length-append}
+use Rattle.std.proofs.lemmas.Option.{same_Some}
 use Rattle.wast_grammar.specs.Tokens.{SignificantToken}
 use Rattle.wast_grammar.specs.Spelling.{◌>>=◌, that_open, that_close, that_one}
 use Rattle.wast_grammar.specs.Look.{ask}
@@ -9,7 +10,7 @@ use Rattle.wast_grammar.specs.Lawful.{Lawful, LawfulBut}
 use Rattle.wast_expressions.specs.Items.{Made, either_hint}
 use Rattle.wast_expressions.specs.Expressions.{GroupKind, OfOperands, OfBlock, OfArms, Heads, hint_tests, hint, ins_tests, group_tests, item_tests, else_tests, one_ins}
 use Rattle.wast_expressions.specs.Machine.{Level, EndWith, BlockEnd, Conditions, Arm, AfterThen, AfterElse, State, state, both_hints, headed, open_group, one_item, close_items, row_turn, then_turn, end_turn, turn, step, folded_head, plain_turn}
-use Rattle.wast_grammar.proofs.Looks.{bind_ok, some_one}
+use Rattle.wast_grammar.proofs.Looks.{bind_ok}
 use Rattle.wast_expressions.proofs.ExpressionLaws.{maybe_hint_laws}
 use Rattle.wast_expressions.proofs.ReadLaws.{shrinks_but}
 
@@ -24,7 +25,7 @@ one_less : {N P A : Type 0} (f : SignificantToken N P → Option A) (ts : List (
 one_less f [] x e = cc
 one_less {N} {P} {A} f (t ∷ ts) x e =
     let b = bind_ok (f t) (λ a. Some (a, ts)) x e in
-    subst (λ (z : A × List (SignificantToken N P)). length z.1 < suc (length ts)) (some_one (b.0, ts) x b.2) (omega arith)
+    subst (λ (z : A × List (SignificantToken N P)). length z.1 < suc (length ts)) (same_Some (b.0, ts) x b.2) (omega arith)
 
 module _ {N P I : Type 0} (ins : Syntax N P I) (heads : Heads I) (m : Made P I) (li : LawfulBut (one_ins ins heads) heads.own) where
   -- the states that have fewer tokens than n

@@ -7,7 +7,7 @@ use Rattle.wast_grammar.specs.Grammar.{Syntax, Reader, many_reads, one_of, wide}
 use Rattle.wast_grammar.specs.Recursion.{deep, fix}
 use Rattle.wast_grammar.specs.Behind.{ended}
 use Rattle.wast_grammar.specs.Lawful.{Lawful, LawfulBut}
-use Rattle.wast_grammar.proofs.Looks.{absurd_of, no_end}
+use Rattle.wast_grammar.proofs.Looks.{absurd_of, no_end, same_answers}
 use Rattle.wast_grammar.proofs.RecursionLaws.{Under, Steps, deep_laws, deeper, fix_laws}
 use Rattle.wast_grammar.proofs.Repeats.{goes_on, many_fuel}
 
@@ -40,15 +40,9 @@ no_close (Text s p ∷ ts) k true e = refl
 no_close (Reserved w p ∷ ts) k true e = refl
 no_close (Broken ∷ ts) k true e = refl
 
--- two readers that read the same
-both_read : {A : Type 0} (o p : Option A) → ((x : A) → o ≡ Some x → p ≡ Some x) → ((x : A) → p ≡ Some x → o ≡ Some x) → o ≡ p
-both_read None None f g = refl
-both_read (Some x) p f g = sym (f x refl)
-both_read None (Some y) f g = g y refl
-
 -- Lawful productions without stops that spell the same by fewer tokens than n read the same of them.
 pub same_reads : {N P A : Type 0} (g h : Syntax N P A) → Lawful g → Lawful h → g.stops ≡ [] → h.stops ≡ [] → (n : ℕ) → Under n g h → Under n h g → (ts : List (SignificantToken N P)) → length ts < n → g.reads ts ≡ h.reads ts
-same_reads {N} {P} {A} g h lg lh eg eh n u v ts l = both_read (g.reads ts) (h.reads ts) (λ x e. over g h lg lh eh u x e) (λ x e. over h g lh lg eg v x e)
+same_reads {N} {P} {A} g h lg lh eg eh n u v ts l = same_answers (g.reads ts) (h.reads ts) (λ x e. over g h lg lh eh u x e) (λ x e. over h g lh lg eg v x e)
   where
     over : (g h : Syntax N P A) → Lawful g → Lawful h → h.stops ≡ [] → Under n g h → (x : A × List (SignificantToken N P)) → g.reads ts ≡ Some x → h.reads ts ≡ Some x
     over g h lg lh eh u x e =

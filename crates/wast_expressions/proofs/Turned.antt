@@ -13,7 +13,7 @@ use Rattle.wast_grammar.proofs.BehindLaws.{opens_on}
 use Rattle.wast_grammar.proofs.Looks.{absurd_of, first_deep}
 use Rattle.wast_parser_base.specs.Problem.{Problem}
 use Rattle.wast_parser_core.specs.State.{State, ahead, Keeps}
-use Rattle.wast_parser_core.specs.Reading.{Refuses, out_of_memory, ends_here}
+use Rattle.wast_parser_core.specs.Reading.{out_of_memory, ends_here}
 use Rattle.wast_parser_core.specs.Openings.{opens_here, closes_here}
 use Rattle.wast_expressions.specs.Items.{Made, either_hint, expression_of, hint_at, hints_from}
 use Rattle.wast_expressions.specs.Expressions.{Heads, hint_tests, hint, ins_tests, group_tests, item_tests, one_ins}
@@ -27,10 +27,6 @@ use Rattle.wast_expressions.specs.Views.{here, instructions_tree, level_tree, le
 use Rattle.wast_expressions.proofs.ReadLaws.{bind_bind}
 use Rattle.wast_expressions.proofs.Peeks.{no_token, fault_stands, open_stands, is_opening, item_word, item_other}
 
-pub on_ok : {X E P Q : Type 0} (r : Result X E) → (P → Q) → OnOk r P → OnOk r Q
-on_ok (Ok x) f p = f p
-on_ok (Err e) f p = tt
-
 -- what succeeds has turned, what fails wants memory
 pub turned : {A N P T : Type 0} (r : Result A Problem) (gives : Option (machine.State N P T)) (new : machine.State N P T) → OnOk r (gives ≡ Some new) → IfErr r (λ e. e ≡ out_of_memory) → Turns r gives new
 turned (Ok x) gives new f g = f
@@ -38,9 +34,6 @@ turned (Err e) gives new f g = inl g
 
 pub turns_so : {A N P T : Type 0} (r : Result A Problem) (gives others : Option (machine.State N P T)) (new : machine.State N P T) → gives ≡ others → Turns r gives new → Turns r others new
 turns_so r gives others new e t = subst (λ z. Turns r z new) e t
-
-pub refused_so : {A B : Type 0} (p : Problem) (o : Option A) (q : Option B) → (o ≡ None → q ≡ None) → Refuses p o → Refuses p q
-refused_so p o q f r = elim r [ inl m ↦ inl m | inr n ↦ inr (f n) ]
 
 -- one instruction more
 pub out_more : {I T : Type 0} (tree : I → T) (out : List (Option ℕ × I)) (h : Option ℕ) (i : I) → out_tree tree (out ++ (h, i) ∷ []) ≡ out_tree tree out ++ (h, tree i) ∷ []

@@ -1,5 +1,6 @@
 -- The loop answers what the production of items reads.
 use Rattle.std.proofs.Common.{◌≡◌, ℕ, Bool, true, false, List, [], ◌∷◌, Option, Some, None, refl, ◌∙◌, ap, cond, not}
+use Rattle.std.proofs.lemmas.Option.{same_Some}
 use Rattle.wast_grammar.specs.Tokens.{SignificantToken, Open, Close, Id, Word, Mark, Integer, Float, Text, Reserved, Broken}
 use Rattle.wast_grammar.specs.Spelling.{◌>>=◌}
 use Rattle.wast_grammar.specs.Look.{NotEnd, at, ask}
@@ -9,7 +10,7 @@ use Rattle.wast_expressions.specs.Items.{Items, Made, unfolded, Expression, expr
 use Rattle.wast_expressions.specs.Expressions.{Heads, item_tests, one_ins, items, expression}
 use Rattle.wast_expressions.specs.Heeds.{Heeds}
 use Rattle.wast_expressions.specs.Machine.{Level, State, state, turn, step, is_done, Reach, Here, More, start}
-use Rattle.wast_grammar.proofs.Looks.{some_one, absurd_of}
+use Rattle.wast_grammar.proofs.Looks.{absurd_of}
 use Rattle.wast_grammar.proofs.BehindLaws.{opens_on}
 use Rattle.wast_expressions.proofs.MachineLaws as laws
 use Rattle.wast_expressions.proofs.TurnLaws.{row_part, level_outcome}
@@ -85,7 +86,7 @@ module _ {N P I : Type 0} (ins : Syntax N P I) (heads : Heads I) (m : Made P I) 
     where
       by_items : (q : Option (Items P I × Toks)) → (q >>= flat) ≡ Some (t.out, t.rest) → (q >>= shown) ≡ Some (expression_of t.out, t.rest)
       by_items None e = cc
-      by_items (Some x) e = ap (λ (z : Out × Toks). Some (expression_of z.0, z.1)) (some_one _ _ e)
+      by_items (Some x) e = ap (λ (z : Out × Toks). Some (expression_of z.0, z.1)) (same_Some _ _ e)
 
   pub loop_refuses : (ts : Toks) (t : State N P I) → Reach ins heads m (is_done ins heads m) (start ins heads m ts) t → is_done ins heads m t ≡ false → step ins heads m t ≡ None → (expression ins heads m).reads ts ≡ None
   loop_refuses ts t r n e = ap (λ q. q >>= shown) (none_of (all_items ts) (reach_outcome r ∙ step_outcome t n ∙ ap (λ z. z >>= outcome) e))

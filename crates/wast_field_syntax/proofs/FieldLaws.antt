@@ -3,7 +3,7 @@ use Rattle.std.proofs.Common.{◌≡◌, Bool, true, false, List, [], ◌∷◌,
 use Rattle.std.specs.Prelude.{ℕ, ◌-◌, ◌^◌, codes}
 use Rattle.wasm_encoder_base.specs.Table.{table as entries}
 use Rattle.wasm_encoder_base.specs.Uncovered.{uncovered}
-use Rattle.wast_parser.specs.Look.{this_word, this_group, apart, join, faults}
+use Rattle.wast_parser.specs.Look.{this_word, this_group, apart, join, faults, index_starts, integer_starts}
 use Rattle.wast_parser.specs.Lawful.{Lawful}
 use Rattle.wast_parser.specs.Grammar.{Syntax, word, seen, seq, many, either, group}
 use Rattle.wast_parser.specs.Integers.{unsigned}
@@ -12,7 +12,7 @@ use Rattle.wast_grammar.proofs.Twins.{part_laws}
 use Rattle.wast_parser.proofs.IntegerLaws.{number_laws}
 use Rattle.wast_parser.proofs.IdentifierLaws.{index_laws}
 use Rattle.wast_value_types.specs.ValueTree.{RefType}
-use Rattle.wast_value_types.specs.ValueSyntax.{index_starts, ref_type, address_type}
+use Rattle.wast_value_types.specs.ValueSyntax.{ref_type, address_type}
 use Rattle.wast_value_types.proofs.WordLaws.{optional_laws}
 use Rattle.wast_value_types.proofs.ValueLaws.{u64_laws, ref_type_laws, global_type_laws, address_type_laws, limits_laws, table_type_laws, page_size_laws, memory_type_laws}
 use Rattle.wast_signatures.proofs.SignatureLaws.{locals_laws, type_use_laws}
@@ -25,7 +25,7 @@ use Rattle.wast_mnemonics.specs.TextTable.{text_table}
 use Rattle.wast_data.specs.DataSyntax.{value_starts}
 use Rattle.wast_data.proofs.DataLaws.{value_laws}
 use Rattle.wast_field_syntax.specs.FieldTree.{Defined, Indices}
-use Rattle.wast_field_syntax.specs.DefinitionSyntax.{int_starts, expr, element, as_definition, definition_body, as_imported, imported_or}
+use Rattle.wast_field_syntax.specs.DefinitionSyntax.{expr, element, as_definition, definition_body, as_imported, imported_or}
 use Rattle.wast_field_syntax.specs.FuncSyntax.{local_starts, all_locals, tag_defined, tag, global_defined, global, function, func_defined, func}
 use Rattle.wast_field_syntax.specs.ElemSyntax as elem_segments
 use Rattle.wast_field_syntax.specs.ElemSyntax.{list_starts, element_starts, table_use_starts, numbered, use_of, indices, elem_list, elem_body, elem}
@@ -142,11 +142,11 @@ module _ {N P : Type 0} where
 
   -- MEMORIES
   sizes_laws : Lawful (sizes {N = N} {P = P})
-  sizes_laws = seq_laws _ _ u64_laws (maybe_laws int_starts _ u64_laws refl refl refl) refl
+  sizes_laws = seq_laws _ _ u64_laws (maybe_laws integer_starts _ u64_laws refl refl refl) refl
 
   pub memory_with_laws : (wide : Bool) → Lawful (memory_with {N = N} {P = P} wide)
   memory_with_laws is_wide =
-      either_laws int_starts _ _ (seen_laws _ _ (seq_laws _ _ sizes_laws (seq_laws _ _ (optional_laws (codes "shared")) page_size_laws refl) refl))
+      either_laws integer_starts _ _ (seen_laws _ _ (seq_laws _ _ sizes_laws (seq_laws _ _ (optional_laws (codes "shared")) page_size_laws refl) refl))
       (seen_laws _ _ (seq_laws _ _ page_size_laws (group_laws (codes "data") _ values_laws refl) refl)) refl refl refl refl
 
   memory_defined_laws : Lawful (memory_defined {N = N} {P = P})
@@ -173,7 +173,7 @@ module _ {N P : Type 0} where
 
   pub table_with_laws : (wide : Bool) → Lawful (table_with {N = N} {P = P} wide)
   unfolding text_table entries uncovered
-  table_with_laws is_wide = either_laws int_starts _ _ (seen_laws _ _ (seq_laws _ _ sizes_laws typed_laws refl)) (seen_laws _ _ filled_table_laws) refl refl refl refl
+  table_with_laws is_wide = either_laws integer_starts _ _ (seen_laws _ _ (seq_laws _ _ sizes_laws typed_laws refl)) (seen_laws _ _ filled_table_laws) refl refl refl refl
 
   table_defined_laws : Lawful (table_defined {N = N} {P = P})
   unfolding text_table entries uncovered

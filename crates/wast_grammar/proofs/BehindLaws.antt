@@ -1,13 +1,13 @@
 -- The laws of productions that would go on with what stands behind them.
 use Rattle.std.proofs.Common.{◌≡◌, ℕ, zero, suc, ◌≤◌, ◌<◌, ◌+◌, Bool, true, false, List, [], ◌∷◌, ◌++◌, length, Some, None, ◌⊎◌, inl, inr, refl, sym, ◌∙◌, ap, subst, arith, append_assoc, cond, not, length-append, append-nil}
 use Rattle.std.proofs.lemmas.Bool.{cases_Bool}
+use Rattle.std.proofs.lemmas.Option.{same_Some, cond_some}
 use Rattle.wast_grammar.specs.Tokens.{SignificantToken, Open, Close, Id, Word, Mark, Integer, Float, Text, Reserved, Broken, is_whole}
 use Rattle.wast_grammar.specs.Spelling.{◌>>=◌}
 use Rattle.wast_grammar.specs.Look.{AnEnd, Look, seen_as, first, look, ends, the_end, the_close, Test, NotEnd, any_fits, at, any_end, apart, join, faults, ask}
 use Rattle.wast_grammar.specs.Grammar.{Syntax, seq, seen, only, either, many_reads}
 use Rattle.wast_grammar.specs.Behind.{next_but, row, row_spells, row_twins}
-use Rattle.wast_grammar.proofs.Looks.{bind_ok, some_one, absurd_of, join_no, join_left, join_right, apart_no2, asked, no_end, within, first_deep}
-use Rattle.wast_grammar.proofs.TokenLaws.{held}
+use Rattle.wast_grammar.proofs.Looks.{bind_ok, absurd_of, join_no, join_left, join_right, apart_no2, asked, no_end, within, first_deep}
 use Rattle.wast_grammar.proofs.GrammarLaws.{Lawful, LawfulBut, Takes, parts_of}
 use Rattle.wast_grammar.proofs.TokenLaws.{takes_as, takes_so, whole_parts}
 use Rattle.wast_grammar.proofs.Twins.{Paired}
@@ -23,7 +23,7 @@ seen_but {N} {P} f own g lg = record {
       takes_as (f b.0.0, b.0.1) x b.2 (record { taken = s.taken; parts = s.parts; spelled = (b.0.0, refl, s.spelled) }));
   settled = λ ts x e. (
       let b = bind_ok (g.reads ts) _ _ e in
-      subst (λ (y : _ × List (SignificantToken N P)). at (own y.0) y.1 ≡ false) (some_one _ _ b.2) (lg.settled ts b.0 b.1));
+      subst (λ (y : _ × List (SignificantToken N P)). at (own y.0) y.1 ≡ false) (same_Some _ _ b.2) (lg.settled ts b.0 b.1));
   complete = λ a us rest s n m. rw (lg.complete s.0 us rest s.2 n (subst (λ z. at (own z) rest ≡ false) (sym s.1) m)) (ap (λ v. Some (v, rest)) s.1);
   leads = λ a us rest s. lg.leads s.0 us rest s.2;
   whole = λ a us s. lg.whole s.0 us s.2;
@@ -33,12 +33,12 @@ pub only_but : {N P A : Type 0} (p : A → Bool) (own : A → List Test) (g : Sy
 only_but {N} {P} {A} p own g lg = record {
   sound = λ ts x e. (
       let b = bind_ok (g.reads ts) _ _ e in
-      let h = held (p b.0.0) b.0 x b.2 in
+      let h = cond_some (p b.0.0) b.0 x b.2 in
       let s = lg.sound ts b.0 b.1 in
       takes_so b.0 x h.1 (record { taken = s.taken; parts = s.parts; spelled = (h.0, s.spelled) }));
   settled = λ ts x e. (
       let b = bind_ok (g.reads ts) _ _ e in
-      let h = held (p b.0.0) b.0 x b.2 in
+      let h = cond_some (p b.0.0) b.0 x b.2 in
       subst (λ (y : A × List (SignificantToken N P)). at (own y.0) y.1 ≡ false) h.1 (lg.settled ts b.0 b.1));
   complete = λ a us rest s n m. rw (lg.complete a us rest s.1 n m, s.0) refl;
   leads = λ a us rest s. lg.leads a us rest s.1;
@@ -65,7 +65,7 @@ module _ {N P A B : Type 0} (g : Syntax N P A) (h : Syntax N P B) (own : B → L
     settled = λ ts x e. (
         let b = bind_ok (g.reads ts) _ _ e in
         let c = bind_ok (h.reads b.0.1) _ _ b.2 in
-        subst (λ (y : (A × B) × List (SignificantToken N P)). at (own y.0.1) y.1 ≡ false) (some_one _ _ c.2) (lh.settled b.0.1 c.0 c.1));
+        subst (λ (y : (A × B) × List (SignificantToken N P)). at (own y.0.1) y.1 ≡ false) (same_Some _ _ c.2) (lh.settled b.0.1 c.0 c.1));
     complete = λ p us rest s n m. (
         let e : us ++ rest ≡ s.0 ++ (s.1 ++ rest) = ap (λ w. w ++ rest) s.2 ∙ append_assoc s.0 s.1 rest in
         let f = lg.complete p.0 s.0 (s.1 ++ rest) s.3 (apart_no2 _ g.stops h.starts d (second_begins p.1 s.1 rest s.4)) in
@@ -333,7 +333,7 @@ module _ {N P A : Type 0} (starts : List Test) (g : Syntax N P A) (own : A → L
 
   ended_is : (b : Bool) (x y : List A × List (SignificantToken N P)) → cond b None (Some x) ≡ Some y → (b ≡ false) × (x ≡ y)
   ended_is true x y e = cc
-  ended_is false x y e = (refl, some_one _ _ e)
+  ended_is false x y e = (refl, same_Some _ _ e)
 
   pub row_laws : Lawful (row starts g own)
   row_laws = record {

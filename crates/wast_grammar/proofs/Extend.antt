@@ -9,9 +9,6 @@ module _ {A : Type 0} (same : A → A → Bool) (decides : (a b : A) → (same a
   abbrev swap : A → A → A → A
   swap x y a = cond (same a x) y (cond (same a y) x a)
 
-  differ : (a b : A) → same a b ≡ false → a ≡ b → ⊥
-  differ a b n e = let y : same a b ≡ true = (decides a b).1 e in cc
-
   swap_first : (x y a : A) → a ≡ x → swap x y a ≡ y
   swap_first x y a e = ap (λ b. cond b y (cond (same a y) x a)) ((decides a x).1 e)
 

@@ -19,7 +19,7 @@ move_none (Text s p) = refl
 move_none (Reserved w p) = refl
 move_none Broken = refl
 
-moves_none : {N P : Type 0} (ts : List (SignificantToken N P)) → map (move (λ n. n) (λ p. p)) ts ≡ ts
+pub moves_none : {N P : Type 0} (ts : List (SignificantToken N P)) → map (move (λ n. n) (λ p. p)) ts ≡ ts
 moves_none [] = refl
 moves_none (t ∷ ts) = rw (move_none t, moves_none ts) refl
 

@@ -1,14 +1,15 @@
 -- Each way to make a production of others keeps the laws.
 use Rattle.std.proofs.Common.{◌≡◌, ℕ, zero, suc, ◌≤◌, ◌<◌, ◌+◌, Bool, true, false, List, [], ◌∷◌, ◌++◌, length, Option, Some, None, ◌⊎◌, inl, inr, refl, sym, ◌∙◌, ap, subst, arith, append_assoc, cond, length-append, append-nil, nat_eq}
 use Rattle.std.proofs.lemmas.Bool.{cases_Bool}
+use Rattle.std.proofs.lemmas.Option.{same_Some, cond_some}
 use Rattle.wast_grammar.specs.Tokens.{SignificantToken, Open, Close, Id, Word, Mark, Integer, Float, Text, Reserved, Broken, is_whole}
 use Rattle.wast_grammar.specs.Spelling as spelling
 use Rattle.wast_grammar.specs.Spelling.{◌>>=◌, that_open, that_close}
 use Rattle.wast_grammar.specs.Look.{AnOpen, seen_as, the_end, the_close, first, look, under, Test, any_fits, at, any_end, apart, join, sub, unders, faults, ask}
 use Rattle.wast_grammar.specs.Grammar.{Reader, Syntax, one_of, next, seq, wide, seen, only, maybe_reads, maybe, many_reads, many, times_reads, times, either_reads, either, paren, fenced, word, mark, led, group, annotation}
-use Rattle.wast_grammar.proofs.Looks.{bind_ok, some_one, absurd_of, join_no, join_none, join_left, join_right, apart_no2, asked, answered, no_end, end_none, under_in, sub_law, within, within_self}
+use Rattle.wast_grammar.proofs.Looks.{bind_ok, absurd_of, join_no, join_none, join_left, join_right, apart_no2, asked, answered, no_end, end_none, under_in, sub_law, within, within_self}
 pub use Rattle.wast_grammar.specs.Lawful.{Takes, Lawful, LawfulBut, Settles, Leads, Shrinks}
-use Rattle.wast_grammar.proofs.TokenLaws.{takes_as, takes_so, held, whole_parts, whole_group}
+use Rattle.wast_grammar.proofs.TokenLaws.{takes_as, takes_so, whole_parts, whole_group}
 pub use Rattle.wast_grammar.proofs.TokenLaws.{token_laws, nothing_laws, words_laws, any_found, among_asked, among_laws, begun_laws, word_laws, mark_laws, id_laws, integer_laws, float_laws, string_laws}
 
 -- two parts taken one after the other
@@ -101,7 +102,7 @@ pub only_laws : {N P A : Type 0} (p : A → Bool) (g : Syntax N P A) → Lawful 
 only_laws p g lg = record {
   sound = λ ts x e. (
       let b = bind_ok (g.reads ts) _ _ e in
-      let h = held (p b.0.0) b.0 x b.2 in
+      let h = cond_some (p b.0.0) b.0 x b.2 in
       let s = lg.sound ts b.0 b.1 in
       takes_so b.0 x h.1 (record { taken = s.taken; parts = s.parts; spelled = (h.0, s.spelled) }));
   complete = λ a us rest s n. rw (lg.complete a us rest s.1 n, s.0) refl;
@@ -322,11 +323,11 @@ module _ {N P : Type 0} where
   under_look q (Broken ∷ us) = refl
 
   pub one_open : (ts : List (SignificantToken N P)) (x : P × List (SignificantToken N P)) → one_of that_open ts ≡ Some x → ts ≡ Open x.0 ∷ x.1
-  one_open (Open p ∷ ts) x e = ap (λ (z : P × List (SignificantToken N P)). Open z.0 ∷ z.1) (some_one _ _ e)
+  one_open (Open p ∷ ts) x e = ap (λ (z : P × List (SignificantToken N P)). Open z.0 ∷ z.1) (same_Some _ _ e)
   one_open _ x e = absurd cc
 
   pub one_close : (ts : List (SignificantToken N P)) (x : P × List (SignificantToken N P)) → one_of that_close ts ≡ Some x → ts ≡ Close x.0 ∷ x.1
-  one_close (Close p ∷ ts) x e = ap (λ (z : P × List (SignificantToken N P)). Close z.0 ∷ z.1) (some_one _ _ e)
+  one_close (Close p ∷ ts) x e = ap (λ (z : P × List (SignificantToken N P)). Close z.0 ∷ z.1) (same_Some _ _ e)
   one_close _ x e = absurd cc
 
   -- a group before other tokens
@@ -445,7 +446,7 @@ pub all_read : {N P A : Type 0} (g : Syntax N P A) → Lawful g → any_end g.st
 all_read g lg n ts a s = ap g.reads (sym (append-nil ts)) ∙ lg.complete a ts [] s (no_end g.stops n).0
 
 pub one_value : {N P A : Type 0} (g : Syntax N P A) → Lawful g → any_end g.stops ≡ false → (ts : List (SignificantToken N P)) (a b : A) → g.spells a ts → g.spells b ts → a ≡ b
-one_value g lg n ts a b s t = ap (λ x. x.0) (some_one _ _ (sym (all_read g lg n ts a s) ∙ all_read g lg n ts b t))
+one_value g lg n ts a b s t = ap (λ x. x.0) (same_Some _ _ (sym (all_read g lg n ts a s) ∙ all_read g lg n ts b t))
 
 pub all_spelled : {N P A : Type 0} (g : Syntax N P A) → Lawful g → (ts : List (SignificantToken N P)) (a : A) → g.reads ts ≡ Some (a, []) → g.spells a ts
 all_spelled g lg ts a e = let s = lg.sound ts (a, []) e in subst (λ us. g.spells a us) (sym (s.parts ∙ append-nil s.taken)) s.spelled
@@ -458,7 +459,7 @@ unread g lg n ts e a s = none_some (sym e ∙ all_read g lg n ts a s)
     none_some q = absurd cc
 
 pub left_over : {N P A : Type 0} (g : Syntax N P A) → Lawful g → any_end g.stops ≡ false → (ts rest : List (SignificantToken N P)) (b : A) → g.reads ts ≡ Some (b, rest) → (a : A) → g.spells a ts → rest ≡ []
-left_over g lg n ts rest b e a s = ap (λ x. x.1) (some_one _ _ (sym e ∙ all_read g lg n ts a s))
+left_over g lg n ts rest b e a s = ap (λ x. x.1) (same_Some _ _ (sym e ∙ all_read g lg n ts a s))
 
 not_nothing : {N P A : Type 0} (g : Syntax N P A) → Lawful g → g.empty ≡ false → any_end g.starts ≡ false → (a : A) (us : List (SignificantToken N P)) → g.spells a us → 0 < length us
 not_nothing g lg full none a [] s = elim (lg.leads a [] [] s) [ inl y ↦ absurd_of _ y (no_end g.starts none).0 | inr z ↦ absurd_of _ z.0 full ]
@@ -477,7 +478,7 @@ bound_laws g starts stops lg a b = wide_laws g starts true stops lg (sub_law g.s
 
 -- WHAT IS READ DOES NOT GO ON SO
 rest_as : {N P A : Type 0} (tests : List Test) (x y : A × List (SignificantToken N P)) → Some x ≡ Some y → at tests x.1 ≡ false → at tests y.1 ≡ false
-rest_as tests x y e n = subst (λ z. at tests z.1 ≡ false) (some_one x y e) n
+rest_as tests x y e n = subst (λ z. at tests z.1 ≡ false) (same_Some x y e) n
 
 module _ {N P A : Type 0} (starts : List Test) (r : Reader N P A) where
   -- no more is read

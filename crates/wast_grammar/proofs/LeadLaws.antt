@@ -1,12 +1,12 @@
 -- Looks tell where productions begin.
 use Rattle.std.proofs.Common.{◌≡◌, ℕ, Bool, true, false, not, List, [], ◌∷◌, ◌++◌, map, Option, Some, None, inl, inr, refl, sym, ◌∙◌, ap, cond, ◌&&◌}
-use Rattle.std.proofs.lemmas.Bool.{cases_Bool}
+use Rattle.std.proofs.lemmas.Bool.{cases_Bool, and_parts, not-true}
 use Rattle.wast_grammar.specs.Tokens.{SignificantToken, Open, Close, Id, Word, Mark, Integer, Float, Text, Reserved, Broken, Literal}
 use Rattle.wast_grammar.specs.Spelling as spelling
 use Rattle.wast_grammar.specs.Spelling.{Spells, ◌>>=◌, same_text, any_is, find_by, find_but, that_open, that_close}
 use Rattle.wast_grammar.specs.Look.{Shape, AnOpen, AClose, AWord, AMark, AnId, AnInteger, AString, Look, seen_as, look, first, under, same, same_shape, is_plain, is_flat, all_flat, Texts, This, OneOf, Any, holds, Test, On, Opening, NotEnd, fits, any_fits, at, any_end, this_word, this_group, join, apart, faults, ask, under_test, unders}
 use Rattle.wast_grammar.specs.Grammar.{Syntax, word, words, among, mark, id, integer, string, only, next, seq, led, paren, group}
-use Rattle.wast_grammar.proofs.Looks.{both, absurd_of, shape_is, first_deep, flat_plain, in_join, join_left, join_right, apart_no2, asked, answered, no_end, under_in}
+use Rattle.wast_grammar.proofs.Looks.{absurd_of, shape_is, first_deep, flat_plain, in_join, join_left, join_right, apart_no2, asked, answered, no_end, under_in, heads_same}
 use Rattle.wast_grammar.proofs.TokenLaws.{word_laws, among_laws, mark_laws, id_laws, integer_laws, string_laws}
 use Rattle.wast_grammar.proofs.GrammarLaws.{Lawful, Leads, under_look, group_before, seq_laws, led_laws}
 
@@ -29,9 +29,6 @@ shallow {X} s t p ts h = no (first true ts) (first_deep true ts) h
     no : (x : Look) → x.deep ≡ true → any_fits (On false s t ∷ []) x ≡ true → X
     no x d h = absurd_of (any_fits (On false s t ∷ []) x) h (ap (λ b. cond (same false b && (same_shape s x.shape && holds t x.text)) true false) d)
 
-head_is : {X : Type 0} {x y : X} {xs ys : List X} → x ∷ xs ≡ y ∷ ys → x ≡ y
-head_is e = cc
-
 opening_asked : (x : Look) → x.deep ≡ true → (any_fits (faults (Opening ∷ [])) x ≡ false) × (any_fits (Opening ∷ []) x ≡ true)
 opening_asked x d = (rw d refl, rw d refl)
 
@@ -53,15 +50,11 @@ found word w (e ∷ es) h = elim (cases_Bool (same_text w (word e))) [
       (k.0, ap (λ b. cond b (Some e) (find_by word w es)) n ∙ k.1))
 ]
 
-left_in : (b : Bool) → not b ≡ true → b ≡ false
-left_in true h = cc
-left_in false h = refl
-
 found_but : {E : Type 0} (word : E → List ℕ) (entries : List E) (but : List (List ℕ)) (w : List ℕ) → holds (OneOf (map word entries) but) w ≡ true → (e : E) × (find_but word entries but w ≡ Some e)
 found_but word entries but w h =
-    let k = both (any_is w (map word entries)) (not (any_is w but)) h in
+    let k = and_parts (any_is w (map word entries)) (not (any_is w but)) h in
     let e = found word w entries k.0 in
-    (e.0, ap (λ b. cond b None (find_by word w entries)) (left_in (any_is w but) k.1) ∙ e.1)
+    (e.0, ap (λ b. cond b None (find_by word w entries)) (not-true (any_is w but) k.1) ∙ e.1)
 
 module _ {N P : Type 0} where
   word_only : (v : List ℕ) (ts : List (SignificantToken N P)) → at (this_word v ∷ []) ts ≡ true → LooksSpelled (word v).spells ts
@@ -143,7 +136,7 @@ module _ {N P : Type 0} where
 
   pub open_leads : Leads (spelling.token (that_open {N = N} {P = P})) (Opening ∷ [])
   open_leads = record {
-    seen = λ a t ts rest s. open_seen a t (ts ++ rest) (ap that_open (head_is s.1) ∙ s.2);
+    seen = λ a t ts rest s. open_seen a t (ts ++ rest) (ap that_open (heads_same s.1) ∙ s.2);
     only = λ ts h. open_only ts (answered (Opening ∷ []) ts true h).1;
   }
 
@@ -159,7 +152,7 @@ module _ {N P : Type 0} where
 
   pub close_leads : Leads (spelling.token (that_close {N = N} {P = P})) (On false AClose Any ∷ [])
   close_leads = record {
-    seen = λ a t ts rest s. close_seen a t (ts ++ rest) (ap that_close (head_is s.1) ∙ s.2);
+    seen = λ a t ts rest s. close_seen a t (ts ++ rest) (ap that_close (heads_same s.1) ∙ s.2);
     only = λ ts h. close_only ts (answered (On false AClose Any ∷ []) ts true h).1;
   }
 
@@ -244,7 +237,7 @@ from_under : (s : Shape) (t : Texts) (x : Look) → is_plain s ≡ true → fits
 from_under s t x plain h = elim (cases_Bool x.deep) [
   | inl y ↦ (
       let k : (same_shape s AnOpen && holds t []) ≡ true = ap (λ v. fits (On true s t) (cond v (seen_as true AnOpen []) (seen_as true x.shape x.text))) (sym y) ∙ h in
-      let e : s ≡ AnOpen = shape_is s AnOpen (both (same_shape s AnOpen) (holds t []) k).0 in
+      let e : s ≡ AnOpen = shape_is s AnOpen (and_parts (same_shape s AnOpen) (holds t []) k).0 in
       let q : false ≡ true = ap is_plain (sym e) ∙ plain in cc)
   | inr n ↦ (
       let k : (same_shape s x.shape && holds t x.text) ≡ true = ap (λ v. fits (On true s t) (cond v (seen_as true AnOpen []) (seen_as true x.shape x.text))) (sym n) ∙ h in
@@ -254,7 +247,7 @@ from_under s t x plain h = elim (cases_Bool x.deep) [
 unders_deep : (tests : List Test) (x : Look) → all_flat tests ≡ true → any_fits (unders tests) x ≡ true → x.deep ≡ true
 unders_deep [] x f h = cc
 unders_deep (t ∷ tests) x f h =
-    let k = both (is_flat t) (all_flat tests) f in
+    let k = and_parts (is_flat t) (all_flat tests) f in
     elim (cases_Bool (fits (under_test t) x)) [
       | inl y ↦ one t k.0 y
       | inr n ↦ unders_deep tests x k.1 (ap (λ v. cond v true (any_fits (unders tests) x)) (sym n) ∙ h)
@@ -262,14 +255,14 @@ unders_deep (t ∷ tests) x f h =
   where
     one : (t : Test) → is_flat t ≡ true → fits (under_test t) x ≡ true → x.deep ≡ true
     one (On true s t) f y = cc
-    one (On false s t) f y = (both x.deep (same_shape s x.shape && holds t x.text) y).0
+    one (On false s t) f y = (and_parts x.deep (same_shape s x.shape && holds t x.text) y).0
     one Opening f y = cc
     one NotEnd f y = cc
 
 unders_plain : (tests : List Test) (x : Look) → all_flat tests ≡ true → any_fits (unders tests) (under x) ≡ true → any_fits tests x ≡ true
 unders_plain [] x f h = cc
 unders_plain (t ∷ tests) x f h =
-    let k = both (is_flat t) (all_flat tests) f in
+    let k = and_parts (is_flat t) (all_flat tests) f in
     elim (cases_Bool (fits (under_test t) (under x))) [
       | inl y ↦ ap (λ v. cond v true (any_fits tests x)) (one t k.0 y)
       | inr n ↦ join_right x (t ∷ []) tests (unders_plain tests x k.1 (ap (λ v. cond v true (any_fits (unders tests) (under x))) (sym n) ∙ h))

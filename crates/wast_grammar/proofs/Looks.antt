@@ -1,7 +1,8 @@
 -- What tests say of looks.
 use Rattle.std.proofs.Common.{◌≡◌, ℕ, Bool, true, false, List, [], ◌∷◌, Option, Some, None, inl, inr, refl, sym, ◌∙◌, ap, cond, ◌&&◌, ◌||◌, not, nat_eq}
-use Rattle.std.proofs.lemmas.Bool.{cases_Bool, eqb-true, eq-eqb}
+use Rattle.std.proofs.lemmas.Bool.{cases_Bool, eqb-true, eq-eqb, and_parts, or_parts, not-true, and_from}
 use Rattle.std.specs.Cmp.Lexicographic.{bytes_decides}
+use Rattle.std.proofs.lemmas.Option.{same_Some}
 use Rattle.wast_grammar.specs.Tokens.{SignificantToken, Open, Close, Id, Word, Mark, Integer, Float, Text, Reserved, Broken}
 use Rattle.wast_grammar.specs.Spelling.{◌>>=◌, same_text, any_is}
 use Rattle.wast_grammar.specs.Look.{Shape, AnEnd, AClose, AnOpen, AWord, AMark, AnId, AnInteger, AFloat, AString, AReserved, AFault, same_shape, same, ends, Look, seen_as, first, the_end, the_close, under, Texts, This, OneOf, Begun, Any, holds, any_holds, all_hold, meet, starts_with, Test, On, Opening, NotEnd, fits, clash, any_fits, at, any_end, any_clash, apart, join, faults, ask, is_plain, is_flat, all_flat, under_test, unders, covers_text, covers, any_covers, sub}
@@ -11,24 +12,14 @@ pub bind_ok : {A B : Type 0} (r : Option A) (f : A → Option B) (y : B) → (r 
 bind_ok None f y e = cc
 bind_ok (Some x) f y e = (x, refl, e)
 
-pub some_one : {A : Type 0} (a b : A) → Some a ≡ Some b → a ≡ b
-some_one a b e = cc
+-- what one answers the other does
+pub same_answers : {A : Type 0} (r s : Option A) → ((x : A) → r ≡ Some x → s ≡ Some x) → ((x : A) → s ≡ Some x → r ≡ Some x) → r ≡ s
+same_answers None None f g = refl
+same_answers None (Some y) f g = g y refl
+same_answers (Some x) s f g = sym (f x refl)
 
 pub absurd_of : {X : Type 0} (b : Bool) → b ≡ true → b ≡ false → X
 absurd_of b p q = cc
-
-pub both : (p q : Bool) → (p && q) ≡ true → (p ≡ true) × (q ≡ true)
-both true q e = (refl, e)
-both false q e = cc
-
-pub two : (p q : Bool) → p ≡ true → q ≡ true → (p && q) ≡ true
-two true true e f = refl
-two false q e f = cc
-two true false e f = cc
-
-neither : (p q : Bool) → (p || q) ≡ false → (p ≡ false) × (q ≡ false)
-neither true q e = cc
-neither false q e = (refl, e)
 
 no_two : (p q : Bool) → (p ≡ true → q ≡ false) → (p && q) ≡ false
 no_two true q f = f refl
@@ -37,10 +28,6 @@ no_two false q f = refl
 second : (p q : Bool) → (p && q) ≡ false → p ≡ true → q ≡ false
 second true q e f = e
 second false q e f = cc
-
-not_true : (b : Bool) → not b ≡ true → b ≡ false
-not_true true e = cc
-not_true false e = refl
 
 pub cond_no : (p q : Bool) → cond p true q ≡ false → (p ≡ false) × (q ≡ false)
 cond_no true q e = cc
@@ -55,6 +42,13 @@ same_is false true e = cc
 pub same_refl : (a : Bool) → same a a ≡ true
 same_refl true = refl
 same_refl false = refl
+
+-- LISTS
+pub heads_same : {X : Type 0} {a b : X} {xs ys : List X} → a ∷ xs ≡ b ∷ ys → a ≡ b
+heads_same e = cc
+
+pub tails_same : {X : Type 0} {a b : X} {xs ys : List X} → a ∷ xs ≡ b ∷ ys → xs ≡ ys
+tails_same e = cc
 
 -- SHAPES
 pub shape_is : (s r : Shape) → same_shape s r ≡ true → s ≡ r
@@ -116,8 +110,8 @@ comparable [] q w h k = refl
 comparable (c ∷ p) [] w h k = refl
 comparable (c ∷ p) (d ∷ q) [] h k = cc
 comparable (c ∷ p) (d ∷ q) (b ∷ w) h k =
-    let x = both (nat_eq c b) (starts_with p w) h in
-    let y = both (nat_eq d b) (starts_with q w) k in
+    let x = and_parts (nat_eq c b) (starts_with p w) h in
+    let y = and_parts (nat_eq d b) (starts_with q w) k in
     let cb : c ≡ b = eqb-true c b x.0 in
     let db : d ≡ b = eqb-true d b y.0 in
     let r = comparable p q w x.1 y.1 in
@@ -129,9 +123,9 @@ begins_further [] p w h k = refl
 begins_further (c ∷ q) [] w h k = cc
 begins_further (c ∷ q) (d ∷ p) [] h k = cc
 begins_further (c ∷ q) (d ∷ p) (b ∷ w) h k =
-    let x = both (nat_eq c d) (starts_with q p) h in
-    let y = both (nat_eq d b) (starts_with p w) k in
-    two (nat_eq c b) (starts_with q w) (eq-eqb c b (eqb-true c d x.0 ∙ eqb-true d b y.0)) (begins_further q p w x.1 y.1)
+    let x = and_parts (nat_eq c d) (starts_with q p) h in
+    let y = and_parts (nat_eq d b) (starts_with p w) k in
+    and_from (nat_eq c b) (starts_with q w) (eq-eqb c b (eqb-true c d x.0 ∙ eqb-true d b y.0)) (begins_further q p w x.1 y.1)
 
 -- a word of a list, of which none is so, or all are
 none_holds : (t : Texts) (but words : List (List ℕ)) (w : List ℕ) → any_holds t but words ≡ false → any_is w words ≡ true → any_is w but ≡ false → holds t w ≡ false
@@ -178,7 +172,7 @@ each_holds t but (v ∷ words) w n h k =
 
 -- one of the words but some
 listed : (words but : List (List ℕ)) (w : List ℕ) → holds (OneOf words but) w ≡ true → (any_is w words ≡ true) × (any_is w but ≡ false)
-listed words but w h = let b = both (any_is w words) (not (any_is w but)) h in (b.0, not_true (any_is w but) b.1)
+listed words but w h = let b = and_parts (any_is w words) (not (any_is w but)) h in (b.0, not-true (any_is w but) b.1)
 
 meet_one : (words but : List (List ℕ)) (u : Texts) (w : List ℕ) → any_holds u but words ≡ false → holds (OneOf words but) w ≡ true → holds u w ≡ false
 meet_one words but u w n h = let l = listed words but w h in none_holds u but words w n l.0 l.1
@@ -224,23 +218,23 @@ deep_no_end false s e = cc
 
 pub clash_law : (t u : Test) (x : Look) → clash t u ≡ false → fits t x ≡ true → fits u x ≡ false
 clash_law (On d s t) (On c r u) x n h =
-    let a = both (same d x.deep) _ h in
-    let b = both (same_shape s x.shape) (holds t x.text) a.1 in
+    let a = and_parts (same d x.deep) _ h in
+    let b = and_parts (same_shape s x.shape) (holds t x.text) a.1 in
     no_two (same c x.deep) _ (λ f. no_two (same_shape r x.shape) (holds u x.text) (λ e.
     meet_law t u x.text (second (same_shape s r) (meet t u) (second (same d c) _ n (rw (same_is d x.deep a.0, same_is c x.deep f) (same_refl x.deep))) (rw (shape_is s x.shape b.0, shape_is r x.shape e) (shape_self x.shape))) b.1))
-clash_law (On d s t) Opening x n h = let a = both (same d x.deep) _ h in sym (same_is d x.deep a.0) ∙ n
+clash_law (On d s t) Opening x n h = let a = and_parts (same d x.deep) _ h in sym (same_is d x.deep a.0) ∙ n
 clash_law Opening (On d s t) x n h = elim (cases_Bool (fits (On d s t) x)) [
-  | inl y ↦ (let a = both (same d x.deep) _ y in absurd_of x.deep h (sym (same_is d x.deep a.0) ∙ n))
+  | inl y ↦ (let a = and_parts (same d x.deep) _ y in absurd_of x.deep h (sym (same_is d x.deep a.0) ∙ n))
   | inr z ↦ z
 ]
 clash_law (On d s t) NotEnd x n h =
-    let a = both (same d x.deep) _ h in
-    let b = both (same_shape s x.shape) (holds t x.text) a.1 in
+    let a = and_parts (same d x.deep) _ h in
+    let b = and_parts (same_shape s x.shape) (holds t x.text) a.1 in
     ap not (shape_end d s x a.0 b.0) ∙ n
 clash_law NotEnd (On d s t) x n h = elim (cases_Bool (fits (On d s t) x)) [
   | inl y ↦ (
-      let a = both (same d x.deep) _ y in
-      let b = both (same_shape s x.shape) (holds t x.text) a.1 in
+      let a = and_parts (same d x.deep) _ y in
+      let b = and_parts (same_shape s x.shape) (holds t x.text) a.1 in
       absurd_of (not (ends x.deep x.shape)) h (ap not (shape_end d s x a.0 b.0) ∙ n))
   | inr z ↦ z
 ]
@@ -251,15 +245,15 @@ clash_law NotEnd NotEnd x n h = cc
 
 covers_law : (t u : Test) (x : Look) → covers t u ≡ true → fits t x ≡ true → fits u x ≡ true
 covers_law (On d s t) (On c r u) x k h =
-    let a = both (same d c) _ k in
-    let b = both (same_shape s r) (covers_text t u) a.1 in
-    let f = both (same d x.deep) _ h in
-    let i = both (same_shape s x.shape) (holds t x.text) f.1 in
-    two (same c x.deep) _ (ap (λ z. same z x.deep) (sym (same_is d c a.0)) ∙ f.0) (two (same_shape r x.shape) (holds u x.text) (ap (λ z. same_shape z x.shape) (sym (shape_is s r b.0)) ∙ i.0) (covers_text_law t u x.text b.1 i.1))
-covers_law (On d s t) Opening x k h = let f = both (same d x.deep) _ h in sym (same_is d x.deep f.0) ∙ k
+    let a = and_parts (same d c) _ k in
+    let b = and_parts (same_shape s r) (covers_text t u) a.1 in
+    let f = and_parts (same d x.deep) _ h in
+    let i = and_parts (same_shape s x.shape) (holds t x.text) f.1 in
+    and_from (same c x.deep) _ (ap (λ z. same z x.deep) (sym (same_is d c a.0)) ∙ f.0) (and_from (same_shape r x.shape) (holds u x.text) (ap (λ z. same_shape z x.shape) (sym (shape_is s r b.0)) ∙ i.0) (covers_text_law t u x.text b.1 i.1))
+covers_law (On d s t) Opening x k h = let f = and_parts (same d x.deep) _ h in sym (same_is d x.deep f.0) ∙ k
 covers_law (On d s t) NotEnd x k h =
-    let f = both (same d x.deep) _ h in
-    let i = both (same_shape s x.shape) (holds t x.text) f.1 in
+    let f = and_parts (same d x.deep) _ h in
+    let i = and_parts (same_shape s x.shape) (holds t x.text) f.1 in
     ap not (shape_end d s x f.0 i.0) ∙ k
 covers_law Opening Opening x k h = h
 covers_law Opening NotEnd x k h = deep_no_end x.deep x.shape h
@@ -287,12 +281,12 @@ join_right x a b e = in_join x a b ∙ ap (λ v. cond (any_fits a x) true v) e �
 
 -- no test asks for an end
 pub no_end : (tests : List Test) → any_end tests ≡ false → (any_fits tests the_end ≡ false) × (any_fits tests the_close ≡ false)
-no_end tests e = neither (any_fits tests the_end) (any_fits tests the_close) e
+no_end tests e = or_parts (any_fits tests the_end) (any_fits tests the_close) e
 
 pub end_none : (tests : List Test) → any_fits tests the_end ≡ false → any_fits tests the_close ≡ false → any_end tests ≡ false
 end_none tests n m = ap (λ b. b || any_fits tests the_close) n ∙ m
 
-apart_step : (p q : Bool) → cond p false q ≡ true → (p ≡ false) × (q ≡ true)
+pub apart_step : (p q : Bool) → cond p false q ≡ true → (p ≡ false) × (q ≡ true)
 apart_step true q e = cc
 apart_step false q e = (refl, e)
 
@@ -322,14 +316,14 @@ asked tests ts b n e = ap (λ v. cond v None (Some (at tests ts))) n ∙ ap (λ 
 pub answered : {N P : Type 0} → (tests : List Test) (ts : List (SignificantToken N P)) (b : Bool) → ask tests ts ≡ Some b → (at (faults tests) ts ≡ false) × (at tests ts ≡ b)
 answered tests ts b e = elim (cases_Bool (at (faults tests) ts)) [
   | inl y ↦ (let q : None ≡ Some b = sym (ap (λ v. cond v None (Some (at tests ts))) y) ∙ e in cc)
-  | inr n ↦ (n, some_one _ _ (sym (ap (λ v. cond v None (Some (at tests ts))) n) ∙ e))
+  | inr n ↦ (n, same_Some _ _ (sym (ap (λ v. cond v None (Some (at tests ts))) n) ∙ e))
 ]
 
 -- what such tests ask is plain
 pub flat_plain : (tests : List Test) (x : Look) → all_flat tests ≡ true → any_fits tests x ≡ true → (x.deep ≡ false) × (is_plain x.shape ≡ true)
 flat_plain [] x f h = cc
 flat_plain (t ∷ tests) x f h =
-    let k = both (is_flat t) (all_flat tests) f in
+    let k = and_parts (is_flat t) (all_flat tests) f in
     elim (cases_Bool (fits t x)) [
       | inl y ↦ one t k.0 y
       | inr n ↦ flat_plain tests x k.1 (ap (λ v. cond v true (any_fits tests x)) (sym n) ∙ h)
@@ -337,10 +331,10 @@ flat_plain (t ∷ tests) x f h =
   where
     one : (t : Test) → is_flat t ≡ true → fits t x ≡ true → (x.deep ≡ false) × (is_plain x.shape ≡ true)
     one (On d s t) f y =
-        let k = both (not d) (is_plain s) f in
-        let a = both (same d x.deep) _ y in
-        let b = both (same_shape s x.shape) (holds t x.text) a.1 in
-        (sym (same_is d x.deep a.0) ∙ not_true d k.0, ap is_plain (sym (shape_is s x.shape b.0)) ∙ k.1)
+        let k = and_parts (not d) (is_plain s) f in
+        let a = and_parts (same d x.deep) _ y in
+        let b = and_parts (same_shape s x.shape) (holds t x.text) a.1 in
+        (sym (same_is d x.deep a.0) ∙ not-true d k.0, ap is_plain (sym (shape_is s x.shape b.0)) ∙ k.1)
     one Opening f y = cc
     one NotEnd f y = cc
 
@@ -357,7 +351,7 @@ under_deep true s w = refl
 under_deep false s w = refl
 
 under_fits : (t : Test) (x : Look) → fits t x ≡ true → fits (under_test t) (under x) ≡ true
-under_fits (On d s t) x h = let a = both (same d x.deep) _ h in under_true d s t x a.0 a.1
+under_fits (On d s t) x h = let a = and_parts (same d x.deep) _ h in under_true d s t x a.0 a.1
 under_fits Opening x h = under_opening x h
 under_fits NotEnd x h = under_deep x.deep x.shape x.text
 
@@ -388,7 +382,7 @@ within_self ts x e = e
 pub sub_law : (ts us : List Test) → sub ts us ≡ true → within ts us
 sub_law [] us c x h = cc
 sub_law (t ∷ ts) us c x h =
-    let k = both (any_covers t us) (sub ts us) c in
+    let k = and_parts (any_covers t us) (sub ts us) c in
     elim (cases_Bool (fits t x)) [
       | inl y ↦ any_covers_law t us x k.0 y
       | inr n ↦ sub_law ts us k.1 x (ap (λ v. cond v true (any_fits ts x)) (sym n) ∙ h)

@@ -66,6 +66,3 @@ module _ {N P A : Type 0} (r : Reader N P A) where
   pub times_next : (front : List A) (n : ℕ) (ts : List (SignificantToken N P)) (x : A × List (SignificantToken N P)) → r ts ≡ Some x →
       with_front (front ++ x.0 ∷ []) (times_reads n r x.1) ≡ with_front front (times_reads (suc n) r ts)
   times_next front n ts x e = shift front x.0 (times_reads n r x.1) ∙ ap (λ o. with_front front (o >>= λ a. times_reads n r a.1 >>= λ rest. Some (a.0 ∷ rest.0, rest.1))) (sym e)
-
-  pub times_refused : (front : List A) (n : ℕ) (ts : List (SignificantToken N P)) → r ts ≡ None → with_front front (times_reads (suc n) r ts) ≡ None
-  times_refused front n ts e = rw e refl

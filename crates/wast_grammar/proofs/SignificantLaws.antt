@@ -1,6 +1,6 @@
 -- The function of significant tokens and its relation agree.
-use Rattle.std.proofs.Common.{◌≡◌, ◌↔◌, ◌⊎◌, inl, inr, ℕ, zero, suc, ◌+◌, ◌≤◌, Bool, true, false, cond, ◌&&◌, not, List, [], ◌∷◌, ◌++◌, Option, Some, None, length, map, drop, refl, sym, ◌∙◌, ap, subst, arith, append_assoc, append-nil, length-append}
-use Rattle.std.proofs.lemmas.Bool.{cases_Bool}
+use Rattle.std.proofs.Common.{◌≡◌, ◌↔◌, inl, inr, ℕ, zero, suc, ◌+◌, ◌≤◌, Bool, true, false, cond, ◌&&◌, not, List, [], ◌∷◌, ◌++◌, Option, Some, None, length, map, drop, refl, sym, ◌∙◌, ap, subst, arith, append_assoc, append-nil, length-append}
+use Rattle.std.proofs.lemmas.Bool.{cases_Bool, and_parts}
 use Rattle.wast_lexer.specs.declared.token.TokenKind.{TokenKind}
 use Rattle.wast_lexer.specs.declared.token.TokenKind.TheVariants as kinds
 use Rattle.wast_lexer.specs.Groups.{Balanced, paren_of}
@@ -14,11 +14,8 @@ use Rattle.wast_grammar.specs.Tokens.{Open, Close, Id, Word, Mark, Integer, Floa
 use Rattle.wast_grammar.specs.Spelling.{any_is}
 use Rattle.wast_grammar.specs.Significant.{TextToken, token_of, is_trivia, is_lparen, is_unknown, begins_unknown, opens_dropped, Dropped, Shows, IsSignificant, AreSignificant, IsUnclosed, IsShown, behind, at_end, shown, significant}
 use Rattle.wast_grammar.specs.Significant.Dropped.{Nothing, Blank, Group}
-use Rattle.wast_grammar.proofs.Looks.{both}
-
-pub cases_option : (o : Option ℕ) → (o ≡ None) ⊎ ((n : ℕ) × (o ≡ Some n))
-cases_option None = inl refl
-cases_option (Some n) = inr (n, refl)
+use Rattle.wast_grammar.proofs.Looks.{heads_same, tails_same}
+use Rattle.wast_lexer.proofs.Basics.{cases_option}
 
 -- KINDS
 pub annotation_kind : (k : TokenKind) → is_annotation k ≡ true → k ≡ kinds.Annotation
@@ -87,12 +84,6 @@ whole_more (Reserved w p) ts h = refl
 whole_more Broken ts h = absurd (cc)
 
 -- LISTS
-heads_same : {X : Type 0} {a b : X} {xs ys : List X} → a ∷ xs ≡ b ∷ ys → a ≡ b
-heads_same e = cc
-
-tails_same : {X : Type 0} {a b : X} {xs ys : List X} → a ∷ xs ≡ b ∷ ys → xs ≡ ys
-tails_same e = cc
-
 -- where the image of a list splits, so does the list
 split_map : {X Y : Type 0} (f : X → Y) (ls : List X) (xs : List Y) (y : Y) (ys : List Y) → map f ls ≡ xs ++ y ∷ ys →
     (a : List X) × (c : X) × (b : List X) × (ls ≡ a ++ c ∷ b) × (map f a ≡ xs) × (f c ≡ y)
@@ -147,7 +138,7 @@ module _ (names : List (List ℕ)) where
 
   -- the same behind an annotation, which is no parenthesis
   unknown_kind : (a : Lexeme) → is_unknown names a ≡ true → a.kind ≡ kinds.Annotation
-  unknown_kind a h = annotation_kind a.kind (both (is_annotation a.kind) (not (any_is (marked_value a.text) names)) h).0
+  unknown_kind a h = annotation_kind a.kind (and_parts (is_annotation a.kind) (not (any_is (marked_value a.text) names)) h).0
 
   abbrev behind_mark : (a : Lexeme) (ls : List Lexeme) → is_unknown names a ≡ true → Closed ls → Closed (a ∷ ls)
   behind_mark a ls h g = record {
@@ -171,11 +162,6 @@ module _ (names : List (List ℕ)) where
           let same : a ≡ x = heads_same e in
           let inside = inside_plain b (map (λ l. paren_of l.kind) inner) (ap (λ k. paren_of k ∷ map (λ l. paren_of l.kind) inner) (ap (λ l. l.kind) (sym same) ∙ unknown_kind a h)) in
           (record { inner = inner; close_at = c; rest = rest; balanced = inside; closes = closes; split = tails_same e }, ap (λ y. y ∷ inner) (sym same), refl)
-
-and_true : (a b : Bool) → a ≡ true → b ≡ true → (a && b) ≡ true
-and_true true true p q = refl
-and_true true false p q = q
-and_true false b p q = absurd (cc)
 
 module _ (names : List (List ℕ)) (broken : Bool) where
   -- what is shown behind the group that closes there
@@ -372,9 +358,9 @@ module _ (names : List (List ℕ)) (broken : Bool) where
       ]
 
       dropped_first : (n : ℕ) → ((ls : List Lexeme) → length ls ≤ n → IsShown names broken ls (shown names broken 0 ls)) → (l : Lexeme) (ls : List Lexeme) → length (l ∷ ls) ≤ suc n → opens_dropped names l ls ≡ true → IsShown names broken (l ∷ ls) (shown names broken 0 (l ∷ ls))
-      dropped_first n ih l [] h drops = let q = both (is_lparen l.kind) false drops in absurd (cc)
+      dropped_first n ih l [] h drops = let q = and_parts (is_lparen l.kind) false drops in absurd (cc)
       dropped_first n ih l (a ∷ ls) h drops =
-          let q = both (is_lparen l.kind) (is_unknown names a) drops in
+          let q = and_parts (is_lparen l.kind) (is_unknown names a) drops in
           group_shown n ih l a ls (omega (arith, h)) (lparen_kind l.kind q.0) q.1
 
   pub shown_law : (ls : List Lexeme) (ts : List TextToken) → IsShown names broken ls ts ↔ (shown names broken 0 ls ≡ ts)

@@ -1,10 +1,11 @@
 -- What the texts of tokens say, and the lexer's relations.
-use Rattle.std.proofs.Common.{◌≡◌, ◌≢◌, ◌⊎◌, ◌↔◌, ℕ, Bool, true, false, List, [], ◌∷◌, ◌++◌, Option, Some, None, inl, inr, refl, sym, ◌∙◌, ap, subst, cond, arith, not, ◌&&◌, ◌||◌}
+use Rattle.std.proofs.Common.{◌≡◌, ◌≢◌, ◌⊎◌, ◌↔◌, ℕ, Bool, true, false, List, [], ◌∷◌, ◌++◌, Option, Some, None, inl, inr, refl, sym, ◌∙◌, ap, subst, cond, arith, not, ◌||◌}
 use Rattle.std.specs.Prelude.{◌==◌}
 use Rattle.std.specs.Str.{IsUtf8, is_utf8}
-use Rattle.std.proofs.lemmas.Bool.{cases_Bool}
+use Rattle.std.proofs.lemmas.Bool.{cases_Bool, and_right}
 use Rattle.std.proofs.lemmas.Bool.Decides.{nat_tests}
 use Rattle.std.proofs.lemmas.Str.{IsUtf8-from_is_utf8, is_utf8-from_IsUtf8}
+use Rattle.std.proofs.lemmas.Option.{same_Some}
 use Rattle.wast_lexer.specs.Strings.{IsString, is_quote}
 use Rattle.wast_lexer.specs.StringScan.{is_empty}
 use Rattle.wast_lexer.specs.SignToken.{SignToken}
@@ -50,13 +51,10 @@ name_parts [] name e = cc
 name_parts (c ∷ bytes) name e = elim (cases_Bool (is_utf8 (c ∷ bytes))) [
   | inl u ↦ (
       let q : Some (c ∷ bytes) ≡ Some name = sym (ap (λ b. cond (not b) None (Some (c ∷ bytes))) u) ∙ e in
-      (one q, λ h. full h, IsUtf8-from_is_utf8 (c ∷ bytes) u))
+      (same_Some _ _ q, λ h. full h, IsUtf8-from_is_utf8 (c ∷ bytes) u))
   | inr n ↦ (let q : None ≡ Some name = sym (ap (λ b. cond (not b) None (Some (c ∷ bytes))) n) ∙ e in cc)
 ]
   where
-    one : {a b : List ℕ} → Some a ≡ Some b → a ≡ b
-    one q = cc
-
     full : c ∷ bytes ≡ [] → ⊥
     full h = cc
 
@@ -108,13 +106,9 @@ digit_no_sign c h = (grind (arith, nat_tests), grind (arith, nat_tests))
 digit_no_x : (c : ℕ) → is_digit c ≡ true → (c == 120) ≡ false
 digit_no_x c h = grind (arith, nat_tests)
 
-and_no : (a b : Bool) → b ≡ false → (a && b) ≡ false
-and_no true b e = e
-and_no false b e = refl
-
 -- decimal digits have no `x` behind the first
 decimal : (c d : ℕ) (text : List ℕ) → (d == 120) ≡ false → size_of (c ∷ d ∷ text) ≡ number 10 (c ∷ d ∷ text)
-decimal c d text n = ap (λ b. cond b (number 16 text) (number 10 (c ∷ d ∷ text))) (and_no (c == 48) (d == 120) n)
+decimal c d text n = ap (λ b. cond b (number 16 text) (number 10 (c ∷ d ∷ text))) (and_right (c == 48) (d == 120) n)
 
 decimal_after : (c : ℕ) {text : List ℕ} → Digits false text → size_of (c ∷ text) ≡ number 10 (c ∷ text)
 decimal_after c (Last d p) = decimal c d [] (digit_no_x d p)

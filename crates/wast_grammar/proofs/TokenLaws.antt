@@ -1,20 +1,21 @@
 -- The laws of productions of one token and of none.
 use Rattle.std.proofs.Common.{◌≡◌, ℕ, Bool, true, false, List, [], ◌∷◌, ◌++◌, map, Option, Some, None, inl, inr, refl, sym, ◌∙◌, ap, subst, cond, not, ◌&&◌, nat_eq}
 use Rattle.std.specs.Prelude.{is_some}
-use Rattle.std.proofs.lemmas.Bool.{cases_Bool}
+use Rattle.std.proofs.lemmas.Bool.{cases_Bool, and_from}
+use Rattle.std.proofs.lemmas.Option.{same_Some, cond_some}
 use Rattle.wast_grammar.specs.Tokens.{SignificantToken, Open, Close, Id, Word, Mark, Integer, Float, Text, Broken, Literal, is_whole}
 use Rattle.wast_grammar.specs.Spelling.{◌>>=◌, same_text, any_is, find_by, find_but, after, that_word, that_one, that_mark, that_id, that_integer, that_float, that_text}
 use Rattle.wast_grammar.specs.Look.{AWord, AMark, AnId, AnInteger, AFloat, AString, Texts, This, OneOf, Begun, Any, holds, starts_with, Test, On, this_word, at, ask}
 use Rattle.wast_grammar.specs.Grammar.{Syntax, one_of, token, words, among, begun, word, mark, id, integer, float, string, nothing}
 pub use Rattle.wast_grammar.specs.Lawful.{Takes, Lawful, Leads}
-use Rattle.wast_grammar.proofs.Looks.{bind_ok, some_one, two}
+use Rattle.wast_grammar.proofs.Looks.{bind_ok}
 
 -- WHAT IS TAKEN, of an answer that is told otherwise
 pub takes_so : {N P A : Type 0} {g : Syntax N P A} {ts : List (SignificantToken N P)} (x y : A × List (SignificantToken N P)) → x ≡ y → Takes g x.0 ts x.1 → Takes g y.0 ts y.1
 takes_so {g = g} {ts = ts} x y e t = subst (λ z. Takes g z.0 ts z.1) e t
 
 pub takes_as : {N P A : Type 0} {g : Syntax N P A} {ts : List (SignificantToken N P)} (x y : A × List (SignificantToken N P)) → Some x ≡ Some y → Takes g x.0 ts x.1 → Takes g y.0 ts y.1
-takes_as x y e t = takes_so x y (some_one x y e) t
+takes_as x y e t = takes_so x y (same_Some x y e) t
 
 -- WHAT IS WHOLE
 pub whole_join : {N P : Type 0} (a b : List (SignificantToken N P)) → is_whole a ≡ true → is_whole b ≡ true → is_whole (a ++ b) ≡ true
@@ -58,11 +59,6 @@ nothing_laws {N} {P} = record {
   whole = λ a us s. ap is_whole s;
 }
 
--- such values alone
-pub held : {X : Type 0} (b : Bool) (x y : X) → cond b (Some x) None ≡ Some y → (b ≡ true) × (x ≡ y)
-held true x y e = (refl, some_one _ _ e)
-held false x y e = cc
-
 -- WORDS
 -- a word is one of a set exactly where the set has something for it
 pub any_found : {E : Type 0} (word : E → List ℕ) (w : List ℕ) (entries : List E) → any_is w (map word entries) ≡ is_some (find_by word w entries)
@@ -75,7 +71,7 @@ found_is word w entries e h = any_found word w entries ∙ ap is_some h
 among_is : {E : Type 0} (word : E → List ℕ) (entries : List E) (but : List (List ℕ)) (w : List ℕ) (e : E) → find_but word entries but w ≡ Some e → holds (OneOf (map word entries) but) w ≡ true
 among_is word entries but w e h = elim (cases_Bool (any_is w but)) [
   | inl y ↦ (let q : None ≡ Some e = sym (ap (λ b. cond b None (find_by word w entries)) y) ∙ h in cc)
-  | inr n ↦ two (any_is w (map word entries)) (not (any_is w but)) (found_is word w entries e (sym (ap (λ b. cond b None (find_by word w entries)) n) ∙ h)) (ap not n)
+  | inr n ↦ and_from (any_is w (map word entries)) (not (any_is w but)) (found_is word w entries e (sym (ap (λ b. cond b None (find_by word w entries)) n) ∙ h)) (ap not n)
 ]
 
 -- a look at a word tells whether the set has something for it
@@ -92,7 +88,7 @@ after_is : (p w v : List ℕ) → after p w ≡ Some v → starts_with p w ≡ t
 after_is [] w v e = refl
 after_is (c ∷ p) [] v e = cc
 after_is (c ∷ p) (d ∷ w) v e = elim (cases_Bool (nat_eq c d)) [
-  | inl y ↦ two (nat_eq c d) (starts_with p w) y (after_is p w v (sym (ap (λ b. cond b (after p w) None) y) ∙ e))
+  | inl y ↦ and_from (nat_eq c d) (starts_with p w) y (after_is p w v (sym (ap (λ b. cond b (after p w) None) y) ∙ e))
   | inr n ↦ (let q : None ≡ Some v = sym (ap (λ b. cond b (after p w) None) n) ∙ e in cc)
 ]
 
@@ -112,14 +108,14 @@ module _ {N P : Type 0} where
   begun_laws p f = words_laws (λ w. after p w >>= f) (Begun p) (λ w a e. let b = bind_ok (after p w) f a e in after_is p w b.0 b.1)
 
   one_starts : (v : List ℕ) (t : SignificantToken N P) (a : P) (rest : List (SignificantToken N P)) → that_one v t ≡ Some a → at (this_word v ∷ []) (t ∷ rest) ≡ true
-  one_starts v (Word w p) a rest e = ap (λ b. cond b true false) (held (same_text v w) p a e).0
+  one_starts v (Word w p) a rest e = ap (λ b. cond b true false) (cond_some (same_text v w) p a e).0
   one_starts v _ a rest e = absurd cc
 
   pub word_laws : (v : List ℕ) → Lawful (word {N = N} {P = P} v)
   word_laws v = token_laws (that_one v) (this_word v ∷ []) (one_starts v) refl
 
   mark_starts : (v : List ℕ) (t : SignificantToken N P) (a : P) (rest : List (SignificantToken N P)) → that_mark v t ≡ Some a → at (On false AMark (This v) ∷ []) (t ∷ rest) ≡ true
-  mark_starts v (Mark w p) a rest e = ap (λ b. cond b true false) (held (same_text v w) p a e).0
+  mark_starts v (Mark w p) a rest e = ap (λ b. cond b true false) (cond_some (same_text v w) p a e).0
   mark_starts v _ a rest e = absurd cc
 
   pub mark_laws : (v : List ℕ) → Lawful (mark {N = N} {P = P} v)

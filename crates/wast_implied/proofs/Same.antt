@@ -6,11 +6,12 @@ use Rattle.std.proofs.lemmas.Bool.Decides.{Decides-eqb}
 use Rattle.wast_grammar.specs.Tokens.{Name}
 use Rattle.wast_parser.specs.Spelling.{same_name}
 use Rattle.wast_parser.specs.Identifiers.{Reference, ByNumber, ByName}
+use Rattle.wast_value_types.specs.Unplaced.{unplaced_index}
 use Rattle.wast_value_types.specs.ValueTree.{HeapType, Abstract, Concrete, Exact, ValType, Number, Ref}
 use Rattle.wast_signatures.specs.TypeTree.{Local, Sig}
 use Rattle.wast_names.proofs.Order.{alike_names}
 use Rattle.wast_meaning.specs.Implied.{same_flag, same_written, same_heap, same_val, same_local, same_sig, unnamed, unnamed_local}
-use Rattle.wast_implied.specs.Shapes.{Unplaced, ValueShape, OfNumber, OfWord, OfIndex, Shape, same_value, same_shape, index_shape, heap_shape, value_shape, shape}
+use Rattle.wast_implied.specs.Shapes.{Unplaced, ValueShape, OfNumber, OfWord, OfIndex, Shape, same_value, same_shape, heap_shape, value_shape, shape}
 
 abbrev same_index : Reference Name ℕ → Reference Name ℕ → Bool
 same_index = same_written same_name
@@ -20,7 +21,7 @@ never true = refl
 never false = refl
 
 -- AS WRITTEN
-indices_alike : (i j : Reference Name ℕ) → same_written same_name i j ≡ same_written same_name (index_shape i) (index_shape j)
+indices_alike : (i j : Reference Name ℕ) → same_written same_name i j ≡ same_written same_name (unplaced_index i) (unplaced_index j)
 indices_alike (ByNumber m p) (ByNumber n q) = refl
 indices_alike (ByNumber m p) (ByName j) = refl
 indices_alike (ByName i) (ByNumber n q) = refl

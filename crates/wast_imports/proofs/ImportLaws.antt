@@ -1,6 +1,6 @@
 -- The laws of imports, and of what they and exports are of: each mirrors its production.
 use Rattle.std.proofs.Common.{ℕ, true, List, [], Option, Some, None, refl, codes}
-use Rattle.wast_signatures.specs.Look.{join}
+use Rattle.wast_signatures.specs.Look.{join, id_starts, string_starts}
 use Rattle.wast_signatures.specs.Lawful.{Lawful}
 use Rattle.wast_signatures.specs.Grammar.{Syntax, among, maybe, next, seq, wide}
 use Rattle.wast_signatures.specs.Productions.{name}
@@ -8,11 +8,10 @@ use Rattle.wast_signatures.proofs.GrammarLaws.{among_laws, word_laws, nothing_la
 use Rattle.wast_signatures.proofs.IntegerLaws.{name_laws}
 use Rattle.wast_signatures.proofs.IdentifierLaws.{identifier_laws, maybe_name_laws}
 use Rattle.wast_value_types.proofs.ValueLaws.{table_type_laws, memory_type_laws, global_type_laws}
-use Rattle.wast_signatures.specs.TypeSyntax.{id_starts}
 use Rattle.wast_signatures.proofs.SignatureLaws.{type_use_laws}
 use Rattle.wast_exports.specs.Exports.{ExportKind, Func, Table, Memory, Global, Tag, export_word, export_kinds}
 use Rattle.wast_imports.specs.ImportTree.{ExternType, Item}
-use Rattle.wast_imports.specs.ImportSyntax.{exact_starts, item_starts, member_starts, name_starts, rest_starts, rest_stops, Head, head, no_head, exact_use, func_type, extern_type, extern_starts, extern_stops, item_body, item, bare_item, member, member_name, first_member, with_rest, import_group, import_items, imports_body, imports, export_type}
+use Rattle.wast_imports.specs.ImportSyntax.{exact_starts, item_starts, member_starts, rest_starts, rest_stops, Head, head, no_head, exact_use, func_type, extern_type, extern_starts, extern_stops, item_body, item, bare_item, member, member_name, first_member, with_rest, import_group, import_items, imports_body, imports, export_type}
 
 module _ {N P : Type 0} where
   pub head_laws : Lawful (head {N = N} {P = P})
@@ -89,7 +88,7 @@ module _ {N P : Type 0} where
 
   -- IMPORTS
   pub import_items_laws : Lawful (import_items {N = N} {P = P})
-  import_items_laws = either_laws name_starts _ _ (seen_laws _ _ named_laws) import_group_laws refl refl refl refl
+  import_items_laws = either_laws string_starts _ _ (seen_laws _ _ named_laws) import_group_laws refl refl refl refl
 
   pub behind_import_laws : Lawful (seq {N = N} {P = P} name import_items)
   behind_import_laws = seq_laws _ _ name_laws import_items_laws refl

@@ -1,15 +1,12 @@
 -- Members of groups, the first before the others.
-use Rattle.std.proofs.Common.{◌≡◌, List, [], ◌∷◌, map, Some, refl, sym, ◌∙◌, ap}
+use Rattle.std.proofs.Common.{◌≡◌, List, ◌∷◌, map, Some, sym, ◌∙◌, ap}
+use Rattle.std.proofs.lemmas.Simd.{map-map}
 use Rattle.wast_signatures.specs.Tokens.{SignificantToken}
 use Rattle.wast_signatures.specs.Grammar.{Reader, map_reads, seq_reads}
 
-fused : {M I T : Type 0} (tree : I → T) (item : M → I) (ms : List M) → map tree (map item ms) ≡ map (λ m. tree (item m)) ms
-fused tree item [] = refl
-fused tree item (m ∷ ms) = ap (λ ts. tree (item m) ∷ ts) (fused tree item ms)
-
 -- the trees of all are that of the first, and those of the others
 pub all_trees : {M I T : Type 0} (tree : I → T) (item : M → I) (first : I) (more : List M) (all : List I) → all ≡ first ∷ map item more → tree first ∷ map (λ m. tree (item m)) more ≡ map tree all
-all_trees tree item first more all e = ap (λ ts. tree first ∷ ts) (sym (fused tree item more)) ∙ sym (ap (map tree) e)
+all_trees tree item first more all e = ap (λ ts. tree first ∷ ts) (sym (map-map tree item more)) ∙ sym (ap (map tree) e)
 
 module _ {N P A C : Type 0} where
   -- what is read, seen as a value

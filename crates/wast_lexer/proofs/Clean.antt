@@ -1,12 +1,11 @@
 -- The refused characters.
 use Rattle.std.proofs.Common.{◌≡◌, ℕ, ◌+◌, ◌<◌, ◌≤◌, Bool, true, false, inl, inr, List, [], ◌∷◌, length, drop, get_or, refl, ap, sym, ◌∙◌, arith}
 use Rattle.std.specs.Prelude.{◌==◌}
-use Rattle.std.proofs.lemmas.List.{length-drop}
+use Rattle.std.proofs.lemmas.List.{length-drop, drop_more}
 use Rattle.std.proofs.lemmas.Bool.{cases_Bool}
 use Rattle.std.proofs.lemmas.Bool.Decides.{nat_tests}
 use Rattle.wast_lexer.specs.Kinds.{is_clean, starts_refused, is_refused}
 use Rattle.wast_lexer.specs.Scan.{skip, is_neither}
-use Rattle.wast_lexer_strings.proofs.StringScanLaws.{cell}
 use Rattle.wast_lexer.proofs.Refused.{not_refused}
 
 not_lead : (c : ℕ) → is_neither 0xE2 0xE2 c ≡ true → (c == 0xE2) ≡ false
@@ -33,16 +32,16 @@ module _ (text : List ℕ) (start : Bool) (at to : ℕ) (so : start ≡ is_clean
   clean_here = so ∙ clean_skip (drop at text) ∙ sym (ap is_clean found)
 
   pub clean_on : to < length text → false ≡ starts_refused (drop to text) → start ≡ is_clean (drop (to + 1) text)
-  clean_on h r = clean_here ∙ ap is_clean (cell text to h) ∙ clean_cons (get_or text to 0) (drop (to + 1) text) (sym (r ∙ ap starts_refused (cell text to h)))
+  clean_on h r = clean_here ∙ ap is_clean (drop_more text to 0 h) ∙ clean_cons (get_or text to 0) (drop (to + 1) text) (sym (r ∙ ap starts_refused (drop_more text to 0 h)))
 
   pub clean_not : true ≡ starts_refused (drop to text) → start ≡ false
-  clean_not r = let h : to < length text = omega (arith, refused_long (drop to text) (sym r), length-drop to text) in clean_here ∙ ap is_clean (cell text to h) ∙ (rw (sym (r ∙ ap starts_refused (cell text to h))) refl)
+  clean_not r = let h : to < length text = omega (arith, refused_long (drop to text) (sym r), length-drop to text) in clean_here ∙ ap is_clean (drop_more text to 0 h) ∙ (rw (sym (r ∙ ap starts_refused (drop_more text to 0 h))) refl)
 
 pub refused_here : (text : List ℕ) (i : ℕ) → i + 2 < length text → starts_refused (drop i text) ≡ is_refused (get_or text i 0) (get_or text (i + 1) 0) (get_or text (i + 2) 0)
 refused_here text i h =
     let l0 : i < length text = omega arith in
     let l1 : i + 1 < length text = omega arith in
-    ap starts_refused (cell text i l0 ∙ ap (λ (y : List ℕ). get_or text i 0 ∷ y) (cell text (i + 1) l1 ∙ ap (λ (y : List ℕ). get_or text (i + 1) 0 ∷ y) (cell text (i + 1 + 1) (omega arith)))) ∙ (let n : i + 1 + 1 ≡ i + 2 = omega arith in rw n refl)
+    ap starts_refused (drop_more text i 0 l0 ∙ ap (λ (y : List ℕ). get_or text i 0 ∷ y) (drop_more text (i + 1) 0 l1 ∙ ap (λ (y : List ℕ). get_or text (i + 1) 0 ∷ y) (drop_more text (i + 1 + 1) 0 (omega arith)))) ∙ (let n : i + 1 + 1 ≡ i + 2 = omega arith in rw n refl)
 
 short : (s : List ℕ) → length s ≤ 2 → starts_refused s ≡ false
 short [] h = refl

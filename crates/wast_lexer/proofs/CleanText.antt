@@ -4,11 +4,10 @@ use lib.Utf8
 use lib.Utf8.{encode}
 use Rattle.std.specs.Prelude.{◌==◌, nat_lt}
 use Rattle.std.specs.List.{list_all, list_any}
-use Rattle.std.proofs.lemmas.Bool.{cases_Bool, or_cases}
+use Rattle.std.proofs.lemmas.Bool.{cases_Bool, or_cases, and_parts, eqb-true}
 use Rattle.std.proofs.lemmas.Bool.Decides.{nat_tests}
 use Rattle.wast_lexer.specs.Kinds.{is_clean, is_refused}
 use Rattle.wast_lexer.specs.Laws.{confusing}
-use Rattle.wast_lexer.proofs.Basics.{and_true, eq_of}
 use Rattle.wast_lexer.proofs.Refused.{not_refused}
 
 abbrev is_confusing : ℕ → Bool
@@ -21,9 +20,9 @@ refused_bytes c = is_refused (224 + c / 4096) (128 + c / 64 % 64) (128 + c % 64)
 any_of : (p : ℕ → Bool) (c : ℕ) (ns : List ℕ) → list_all p ns ≡ true → list_any (λ n. c == n) ns ≡ true → p c ≡ true
 any_of p c [] all any = absurd (cc)
 any_of p c (n ∷ ns) all any =
-    let both = and_true (p n) (list_all p ns) all in
+    let both = and_parts (p n) (list_all p ns) all in
     elim (or_cases (c == n) (list_any (λ n. c == n) ns) any) [
-      | inl is ↦ ap p (eq_of c n is) ∙ both.0
+      | inl is ↦ ap p (eqb-true c n is) ∙ both.0
       | inr more ↦ any_of p c ns both.1 more
     ]
 

@@ -1,15 +1,14 @@
 -- Where block comments end.
 use Rattle.std.proofs.Common.{◌≡◌, ℕ, zero, suc, ◌+◌, ◌-◌, Bool, false, inl, inr, ◌&&◌, List, [], ◌∷◌, ◌++◌, Some, add-one, refl, sym, ◌∙◌, ap, subst, arith, append_assoc}
 use Rattle.std.specs.Prelude.{◌==◌}
-use Rattle.std.proofs.lemmas.Bool.{cases_Bool}
+use Rattle.std.proofs.lemmas.Bool.{cases_Bool, and_parts, eqb-true}
 use Rattle.std.proofs.lemmas.Bool.Decides.{nat_tests}
 use Rattle.wast_lexer.specs.Kinds.{starts, is_open, is_close, is_semicolon, Inside}
 use Rattle.wast_lexer.specs.Kinds.Inside.{Nothing, Byte, Nested}
 use Rattle.wast_lexer.specs.Scan.{close}
-use Rattle.wast_lexer.proofs.Basics.{and_true, eq_of}
 
 not_both : (c n : ℕ) (t : Bool) → (c ≡ n → t ≡ false) → ((c == n) && t) ≡ false
-not_both c n t h = elim (cases_Bool (c == n)) [ inl is ↦ rw is (h (eq_of c n is)) | inr isnt ↦ rw isnt refl ]
+not_both c n t h = elim (cases_Bool (c == n)) [ inl is ↦ rw is (h (eqb-true c n is)) | inr isnt ↦ rw isnt refl ]
 
 pub close_byte : (d c : ℕ) (s : List ℕ) → (c ≡ 40 → starts is_semicolon s ≡ false) → (c ≡ 59 → starts is_close s ≡ false) → close d (c ∷ s) ≡ close d s
 close_byte d c [] o e = refl
@@ -61,21 +60,21 @@ close_split [] d r h = absurd (cc)
 close_split (c ∷ []) d r h = absurd (cc)
 close_split (c ∷ b ∷ s) d r h = elim (cases_Bool (is_open c && is_semicolon b)) [
   | inl o ↦
-      let both = and_true (is_open c) (is_semicolon b) o in
-      let first : c ≡ 40 = eq_of c 40 both.0 in
-      let second : b ≡ 59 = eq_of b 59 both.1 in
+      let both = and_parts (is_open c) (is_semicolon b) o in
+      let first : c ≡ 40 = eqb-true c 40 both.0 in
+      let second : b ≡ 59 = eqb-true b 59 both.1 in
       let inner = close_split s (d + 1) r (rw o at h) in
       let split = inner.1 in
       (40 ∷ 59 ∷ inner.0, cc, deeper_by_one d inner.0 inner.2)
   | inr o ↦ elim (cases_Bool (is_semicolon c && is_close b)) [
     | inl e ↦
-        let both = and_true (is_semicolon c) (is_close b) e in
-        let first : c ≡ 59 = eq_of c 59 both.0 in
-        let second : b ≡ 41 = eq_of b 41 both.1 in
+        let both = and_parts (is_semicolon c) (is_close b) e in
+        let first : c ≡ 59 = eqb-true c 59 both.0 in
+        let second : b ≡ 41 = eqb-true b 41 both.1 in
         let h' = rw (o, e) at h in
         elim (cases_Bool (d == 0)) [
           | inl z ↦
-              let none : d ≡ 0 = eq_of d 0 z in
+              let none : d ≡ 0 = eqb-true d 0 z in
               let end = rw z at h' in
               let rest : s ≡ r = cc in
               (59 ∷ 41 ∷ [], cc, subst (λ k. Levels k (59 ∷ 41 ∷ [])) (sym none) ([], Nothing, refl))

@@ -1,15 +1,13 @@
 -- Steps of the scan of comments.
 use Rattle.std.proofs.Common.{◌≡◌, ◌≢◌, ◌-◌, ℕ, ◌+◌, ◌<◌, ◌≤◌, Bool, true, false, inl, inr, List, [], ◌∷◌, length, drop, get_or, Option, None, Some, refl, ap, sym, ◌∙◌, arith}
 use Rattle.std.specs.Prelude.{◌==◌}
-use Rattle.std.proofs.lemmas.List.{drop_all, length-drop, drop-drop}
-use Rattle.std.proofs.lemmas.Bool.{cases_Bool}
+use Rattle.std.proofs.lemmas.List.{drop_all, length-drop, drop-drop, drop_more}
+use Rattle.std.proofs.lemmas.Bool.{cases_Bool, and_parts, eqb-true}
 use Rattle.std.proofs.lemmas.Bool.Decides.{nat_tests}
 use Rattle.wast_lexer.specs.declared.token.TokenKind.TheVariants.{LineComment, BlockComment}
 use Rattle.wast_lexer.specs.Kinds.{starts, is_semicolon}
 use Rattle.wast_lexer.specs.Scan.{next, comment, skip, close, starts_pair, is_neither}
-use Rattle.wast_lexer.proofs.Basics.{and_true, eq_of}
 use Rattle.wast_lexer.proofs.CommentLaws.{close_byte}
-use Rattle.wast_lexer_strings.proofs.StringScanLaws.{cell}
 use Rattle.wast_lexer.proofs.Searches.{neither_at}
 
 -- two bytes that come next
@@ -17,9 +15,9 @@ starts_is : (a b : ℕ) (s : List ℕ) → starts_pair a b s ≡ true → (rest 
 starts_is a b [] h = absurd (cc)
 starts_is a b (c ∷ []) h = absurd (cc)
 starts_is a b (c ∷ d ∷ s) h =
-    let both = and_true (c == a) (d == b) h in
-    let first : c ≡ a = eq_of c a both.0 in
-    let second : d ≡ b = eq_of d b both.1 in (s, cc)
+    let both = and_parts (c == a) (d == b) h in
+    let first : c ≡ a = eqb-true c a both.0 in
+    let second : d ≡ b = eqb-true d b both.1 in (s, cc)
 
 pub pair_here : (a b : ℕ) (text : List ℕ) (i : ℕ) → i ≤ length text → starts_pair a b (drop i text) ≡ true → (i + 1 < length text) × (drop i text ≡ a ∷ b ∷ drop (i + 2) text)
 pair_here a b text i low h =
@@ -40,7 +38,7 @@ close_no d c [] o e = refl
 close_no d c (b ∷ s) o e = rw (o, e) refl
 
 pub close_other : (d : ℕ) (text : List ℕ) (i : ℕ) → i < length text → starts_pair 40 59 (drop i text) ≡ false → starts_pair 59 41 (drop i text) ≡ false → close d (drop i text) ≡ close d (drop (i + 1) text)
-close_other d text i h o e = rw (cell text i h) (close_no d (get_or text i 0) (drop (i + 1) text) (rw (cell text i h) at o) (rw (cell text i h) at e))
+close_other d text i h o e = rw (drop_more text i 0 h) (close_no d (get_or text i 0) (drop (i + 1) text) (rw (drop_more text i 0 h) at o) (rw (drop_more text i 0 h) at e))
 
 pub close_deep : (d : ℕ) (s : List ℕ) → d ≢ 0 → close d (59 ∷ 41 ∷ s) ≡ close (d - 1) s
 close_deep d s h = let n : (d == 0) ≡ false = grind (arith, nat_tests) in rw n refl
@@ -67,13 +65,13 @@ close_past start d at text so h = so ∙ ap (close d) (drop_all at text h)
 
 starts_cons : (s : List ℕ) → true ≡ starts is_semicolon s → 59 ∷ drop 1 s ≡ s
 starts_cons [] h = absurd (cc)
-starts_cons (c ∷ s) h = ap (λ (i : ℕ). i ∷ s) (sym (eq_of c 59 (sym h)))
+starts_cons (c ∷ s) h = ap (λ (i : ℕ). i ∷ s) (sym (eqb-true c 59 (sym h)))
 
 -- two bytes that begin a comment
 pub pair_at : (n : ℕ) (text : List ℕ) (at : ℕ) → at < length text → get_or text at 0 ≡ n → true ≡ starts is_semicolon (drop (at + 1) text) → drop at text ≡ n ∷ 59 ∷ drop (at + 2) text
 pair_at n text at h here more =
     let two : drop 1 (drop (at + 1) text) ≡ drop (at + 2) text = drop-drop 1 (at + 1) text ∙ ap (λ i. drop i text) (omega arith) in
-    cell text at h ∙ ap (λ (i : ℕ). i ∷ drop (at + 1) text) here ∙ ap (λ (y : List ℕ). n ∷ y) (sym (starts_cons (drop (at + 1) text) more) ∙ ap (λ (y : List ℕ). 59 ∷ y) two)
+    drop_more text at 0 h ∙ ap (λ (i : ℕ). i ∷ drop (at + 1) text) here ∙ ap (λ (y : List ℕ). n ∷ y) (sym (starts_cons (drop (at + 1) text) more) ∙ ap (λ (y : List ℕ). 59 ∷ y) two)
 
 pub next_block : (allow opened : Bool) (text : List ℕ) (at : ℕ) → at < length text → get_or text at 0 ≡ 40 → true ≡ starts is_semicolon (drop (at + 1) text) → next allow opened (drop at text) ≡ comment allow BlockComment (drop at text) (close 0 (drop (at + 2) text))
 next_block allow opened text at h here more = let e = pair_at 40 text at h here more in ap (next allow opened) e ∙ ap (λ y. comment allow BlockComment y (close 0 (drop (at + 2) text))) (sym e)

@@ -5,10 +5,9 @@ use Rattle.std.proofs.lemmas.Bool.Decides.{nat_tests}
 use Rattle.wast_lexer.specs.Kinds.{is_idchar, Word}
 use Rattle.wast_lexer.specs.Kinds.Word.{Ends, Char, Quoted}
 use Rattle.wast_lexer.specs.Tiling.{ends}
-use Rattle.std.proofs.lemmas.Grind.{common_steps}
 use Rattle.std.specs.Str.{IsCharBoundary}
 use Rattle.std.proofs.lemmas.Str.{IsCharBoundary-after_ascii}
-use Rattle.std.proofs.lemmas.List.{get_or-drop}
+use Rattle.std.proofs.lemmas.List.{get_or-drop, get_or_append_left}
 
 abbrev pub is_low : ℕ → Bool
 is_low c = nat_lt c 128
@@ -36,10 +35,7 @@ last_low [] some h = absurd (some refl)
 last_low (c ∷ []) some h = grind (arith, nat_tests)
 last_low (c ∷ d ∷ w) some h = let more = last_low (d ∷ w) (λ e. cc) h in let n : length (c ∷ d ∷ w) - 1 ≡ suc (length (d ∷ w) - 1) = omega arith in rw n more
 
-in_front : (w rest : List ℕ) (i : ℕ) → i < length w → get_or (w ++ rest) i 0 ≡ get_or w i 0
-in_front w rest i h = grind (arith, common_steps)
-
-length_some : (w : List ℕ) → w ≢ [] → 0 < length w
+pub length_some : (w : List ℕ) → w ≢ [] → 0 < length w
 length_some [] some = absurd (some refl)
 length_some (c ∷ w) some = omega arith
 
@@ -48,7 +44,7 @@ pub cut_behind : (text w rest : List ℕ) (from : ℕ) → IsUtf8 text → w ≢
 cut_behind text w rest from utf8 some low split within =
     let last = last_low w some low in
     let size : 0 < length w = length_some w some in
-    let at : get_or text (from + (length w - 1)) 0 ≡ get_or w (length w - 1) 0 = sym (get_or-drop from text (length w - 1) 0) ∙ ap (λ y. get_or y (length w - 1) 0) split ∙ in_front w rest (length w - 1) (omega arith) in
+    let at : get_or text (from + (length w - 1)) 0 ≡ get_or w (length w - 1) 0 = sym (get_or-drop from text (length w - 1) 0) ∙ ap (λ y. get_or y (length w - 1) 0) split ∙ get_or_append_left w rest 0 (length w - 1) (omega arith) in
     let cut = IsCharBoundary-after_ascii text (from + (length w - 1)) utf8 (omega arith) (rw at last) in
     let n : from + (length w - 1) + 1 ≡ from + length w = omega arith in
     rw n at cut

@@ -3,7 +3,7 @@ use Rattle.std.proofs.Common.{◌≡◌, ◌≢◌, ℕ, Bool, true, false, inl,
 use Rattle.std.specs.Prelude.{◌==◌}
 use Rattle.std.specs.List.{list_all}
 use Rattle.std.proofs.Math.Bool.{or-true}
-use Rattle.std.proofs.lemmas.Bool.{cases_Bool, or_cases}
+use Rattle.std.proofs.lemmas.Bool.{cases_Bool, or_cases, and_parts, eqb-true}
 use Rattle.std.proofs.lemmas.Bool.Decides.{nat_tests}
 use Rattle.wast_lexer_strings.specs.Strings.{IsString}
 use Rattle.wast_lexer_numbers.specs.declared.kind.NumberKind.{NumberKind}
@@ -15,7 +15,7 @@ use Rattle.wast_lexer.specs.declared.token.TokenKind.TheVariants.{String, Id, Ke
 use Rattle.wast_lexer.specs.Kinds.{starts, is_idchar, is_clean, may_stand, is_at, is_lower, is_name, IsNameOf, IsId, IsKeyword, IsAnnotation, IsOddWord, Word}
 use Rattle.wast_lexer.specs.Kinds.Word.{Ends, Char, Quoted}
 use Rattle.wast_lexer.specs.Scan.{plain_kind, number_token, is_string, is_text_string, is_id, is_annotated}
-use Rattle.wast_lexer.proofs.Basics.{and_true, eq_of, cases_option}
+use Rattle.wast_lexer.proofs.Basics.{cases_option}
 use Rattle.wast_lexer.proofs.WordLaws.{string_complete, string_sound, text_complete, text_sound}
 use Rattle.wast_lexer.proofs.Refused.{not_refused}
 use Rattle.wast_lexer.proofs.Ascii.{names_utf8}
@@ -23,10 +23,10 @@ use Rattle.wast_lexer.proofs.Ascii.{names_utf8}
 -- ---- names
 pub name_word : (w : List ℕ) → list_all is_idchar w ≡ true → Word w
 name_word [] h = Ends
-name_word (c ∷ w) h = let both = and_true (is_idchar c) (list_all is_idchar w) h in Char both.0 (name_word w both.1)
+name_word (c ∷ w) h = let both = and_parts (is_idchar c) (list_all is_idchar w) h in Char both.0 (name_word w both.1)
 
 pub name_all : (w : List ℕ) → is_name w ≡ true → list_all is_idchar w ≡ true
-name_all w h = (and_true (starts is_idchar w) (list_all is_idchar w) h).1
+name_all w h = (and_parts (starts is_idchar w) (list_all is_idchar w) h).1
 
 name_some : (w : List ℕ) → is_name w ≡ true → w ≢ []
 name_some [] h = absurd (cc)
@@ -37,7 +37,7 @@ id_no_lead c h = grind (arith, nat_tests)
 
 names_clean : (w : List ℕ) → list_all is_idchar w ≡ true → is_clean w ≡ true
 names_clean [] h = refl
-names_clean (c ∷ w) h = let both = and_true (is_idchar c) (list_all is_idchar w) h in rw (not_refused c w (id_no_lead c both.0)) (names_clean w both.1)
+names_clean (c ∷ w) h = let both = and_parts (is_idchar c) (list_all is_idchar w) h in rw (not_refused c w (id_no_lead c both.0)) (names_clean w both.1)
 
 pub names_stand : (allow : Bool) (w : List ℕ) → list_all is_idchar w ≡ true → may_stand allow w ≡ true
 names_stand true w h = refl
@@ -75,8 +75,8 @@ id_is w (bytes, (name, split, is)) = ap is_id split ∙ id_accepted name bytes i
 pub id_sound : (w : List ℕ) → is_id w ≡ true → IsId w
 id_sound [] h = absurd (cc)
 id_sound (c ∷ w) h =
-    let both = and_true (c == 36) (is_name w || is_string w) h in
-    let split : c ∷ w ≡ 36 ∷ w = ap (λ (i : ℕ). i ∷ w) (eq_of c 36 both.0) in
+    let both = and_parts (c == 36) (is_name w || is_string w) h in
+    let split : c ∷ w ≡ 36 ∷ w = ap (λ (i : ℕ). i ∷ w) (eqb-true c 36 both.0) in
     elim (or_cases (is_name w) (is_string w) both.1) [
       | inl name ↦ (w, (w, split, inl (name, refl)))
       | inr q ↦ (let s = string_sound w q in (s.0, (w, split, inr s.1)))
@@ -121,8 +121,8 @@ annotation_is w (bytes, a) = ap is_annotated a.split ∙ accepted a.is
 pub annotation_sound : (w : List ℕ) → is_annotated w ≡ true → IsAnnotation w
 annotation_sound [] h = absurd (cc)
 annotation_sound (c ∷ w) h =
-    let both = and_true (is_at c) (is_name w || is_text_string w) h in
-    let split : c ∷ w ≡ 64 ∷ w = ap (λ (i : ℕ). i ∷ w) (eq_of c 64 both.0) in
+    let both = and_parts (is_at c) (is_name w || is_text_string w) h in
+    let split : c ∷ w ≡ 64 ∷ w = ap (λ (i : ℕ). i ∷ w) (eqb-true c 64 both.0) in
     elim (or_cases (is_name w) (is_text_string w) both.1) [
       | inl name ↦ (w, record { name = w; split = split; is = inl (name, refl); nonempty = name_some w name; utf8 = names_utf8 w (name_all w name) })
       | inr q ↦ (let s = text_sound w q in (s.0, record { name = w; split = split; is = inr s.1; nonempty = s.2; utf8 = s.3 }))
@@ -130,7 +130,7 @@ annotation_sound (c ∷ w) h =
 
 pub keyword_of : (w : List ℕ) → number w ≡ None → (starts is_lower w && is_name w) ≡ true → IsKeyword w
 keyword_of w none h =
-    let both = and_true (starts is_lower w) (is_name w) h in
+    let both = and_parts (starts is_lower w) (is_name w) h in
     record { lower = both.0; name = both.1; not_number = λ k num. (let no : None ≡ Some k = sym none ∙ number_scanned w k num in cc) }
 
 pub odd_kind : (w : List ℕ) → IsOddWord w → plain_kind w ≡ Reserved

@@ -12,11 +12,11 @@ use Rattle.wast_lexer.specs.Kinds.{starts, is_idchar, is_name}
 use Rattle.wast_lexer.specs.Scan.{skip, kind_of, plain_kind, is_string, is_text_string}
 use Rattle.std.specs.Bool.{then_some}
 use Rattle.std.specs.Prelude.{option_map}
+use Rattle.std.proofs.lemmas.Bool.{and_parts}
 use Rattle.wast_lexer.specs.Tiling.{goes_on}
 use Rattle.wast_lexer.specs.Scan.{after_word, next}
 use Rattle.wast_lexer.proofs.KindLaws.{names_stand}
 use Rattle.wast_lexer.proofs.WordSteps.{part_ends, word_clean}
-use Rattle.wast_lexer.proofs.Basics.{and_true}
 use Rattle.wast_lexer.proofs.ScanLaws.{skip_split}
 
 -- what a search passed over
@@ -32,11 +32,11 @@ no_quote c h = grind (arith, nat_tests)
 
 all_name : (w : List ℕ) → list_all is_idchar w ≡ true → is_name w ≡ not (is_empty w)
 all_name [] h = refl
-all_name (c ∷ w) h = let both = and_true (is_idchar c) (list_all is_idchar w) h in rw (both.0, both.1) refl
+all_name (c ∷ w) h = let both = and_parts (is_idchar c) (list_all is_idchar w) h in rw (both.0, both.1) refl
 
 no_string : (w : List ℕ) → list_all is_idchar w ≡ true → (is_string w ≡ false) × (is_text_string w ≡ false)
 no_string [] h = (refl, refl)
-no_string (c ∷ w) h = let q = no_quote c (and_true (is_idchar c) (list_all is_idchar w) h).0 in (rw q refl, rw q refl)
+no_string (c ∷ w) h = let q = no_quote c (and_parts (is_idchar c) (list_all is_idchar w) h).0 in (rw q refl, rw q refl)
 
 or_false : (a b : Bool) → b ≡ false → (a || b) ≡ a
 or_false true b h = refl
@@ -49,7 +49,7 @@ length_some c (d ∷ w) = let l : nat_lt 1 (length (c ∷ d ∷ w)) ≡ true = g
 -- what follows a `$` or `@`
 tail_name : (c : ℕ) (w : List ℕ) → list_all is_idchar (c ∷ w) ≡ true → ((is_name w || is_string w) ≡ nat_lt 1 (length (c ∷ w))) × ((is_name w || is_text_string w) ≡ nat_lt 1 (length (c ∷ w)))
 tail_name c w h =
-    let all = (and_true (is_idchar c) (list_all is_idchar w) h).1 in
+    let all = (and_parts (is_idchar c) (list_all is_idchar w) h).1 in
     let s = no_string w all in
     let n = all_name w all ∙ length_some c w in
     (or_false (is_name w) (is_string w) s.0 ∙ n, or_false (is_name w) (is_text_string w) s.1 ∙ n)

@@ -61,10 +61,6 @@ opens (suc d) inner o =
     let p = o.3 in
     (Opens ∷ (o.0 ++ Closes ∷ p.0), p.1, Group o.2 p.2, p.3, ap (λ (y : List Paren). Opens ∷ y) (o.4 ∙ ap (λ (y : List Paren). o.0 ++ Closes ∷ y) p.4 ∙ sym (append_assoc o.0 (Closes ∷ p.0) (Closes ∷ p.1))))
 
-none_of : (o : Option ℕ) → one_more o ≡ None → o ≡ None
-none_of None h = refl
-none_of (Some m) h = absurd (cc)
-
 one_of : (o : Option ℕ) (n : ℕ) → one_more o ≡ Some n → (m : ℕ) × (o ≡ Some m) × (n ≡ m + 1)
 one_of None n h = absurd (cc)
 one_of (Some m) n h = let e : m + 1 ≡ n = cc in (m, refl, sym e)

@@ -2,7 +2,7 @@
 use Rattle.std.proofs.Common.{◌≡◌, ◌≢◌, ℕ, ◌-◌, ◌<◌, ◌≤◌, Bool, true, false, inl, inr, ◌&&◌, List, [], ◌∷◌, ◌++◌, Option, Some, None, length, take, drop, refl, sym, ◌∙◌, ap, subst, arith, append_assoc, length-append}
 use Rattle.std.specs.Prelude.{option_map, slice_range}
 use Rattle.std.specs.List.{list_all}
-use Rattle.std.proofs.lemmas.Bool.{cases_Bool, or_cases}
+use Rattle.std.proofs.lemmas.Bool.{cases_Bool, or_cases, and_parts, eqb-true}
 use Rattle.std.proofs.lemmas.Bool.Decides.{nat_tests}
 use Rattle.std.proofs.Math.Seq.{take-append_seam}
 use Rattle.std.proofs.lemmas.List.{length-drop}
@@ -18,7 +18,7 @@ use Rattle.wast_lexer.specs.Kinds.{starts, is_space, is_open, is_close, is_semic
 use Rattle.wast_lexer.specs.Kinds.Word.{Ends, Char, Quoted}
 use Rattle.wast_lexer.specs.Tiling.{Begins, goes_on}
 use Rattle.wast_lexer.specs.Scan.{skip, is_neither, close, front, comment, next, after_word, word_token, kind_of, plain_kind, number_token, other_kind, is_string, is_id, is_annotated}
-use Rattle.wast_lexer.proofs.Basics.{and_true, apart, eq_of, cases_option}
+use Rattle.wast_lexer.proofs.Basics.{apart, cases_option}
 use Rattle.wast_lexer.proofs.CommentLaws.{close_inside, close_split}
 use Rattle.wast_lexer.proofs.WordLaws.{word_complete, word_sound, string_complete, string_sound}
 use Rattle.wast_lexer.proofs.KindLaws.{name_word, name_all, names_stand, string_word, id_word, annotation_word, number_all, id_is, id_sound, id_kind, number_kind, keyword_kind, string_kind, annotation_is, annotation_sound, keyword_of, odd_kind}
@@ -26,7 +26,7 @@ use Rattle.wast_lexer.proofs.KindLaws.{name_word, name_all, names_stand, string_
 skip_front : (p : ℕ → Bool) (w r : List ℕ) → list_all p w ≡ true → starts p r ≡ false → skip p (w ++ r) ≡ r
 skip_front p [] [] all stops = refl
 skip_front p [] (c ∷ r) all stops = rw stops refl
-skip_front p (c ∷ w) r all stops = let both = and_true (p c) (list_all p w) all in rw both.0 (skip_front p w r both.1 stops)
+skip_front p (c ∷ w) r all stops = let both = and_parts (p c) (list_all p w) all in rw both.0 (skip_front p w r both.1 stops)
 
 pub front_of : (w r : List ℕ) → front (w ++ r) r ≡ w
 front_of w r = let n : length (w ++ r) - length r ≡ length w = omega (arith, length-append w r) in rw n (take-append_seam w r)
@@ -54,7 +54,7 @@ mark_ends c h = grind (arith, nat_tests)
 on_apart : (c : ℕ) → goes_on c ≡ true → (is_space c ≡ false) × (is_open c ≡ false) × (is_close c ≡ false) × (is_semicolon c ≡ false) × (is_mark c ≡ false)
 on_apart c h = elim (or_cases (is_idchar c) (is_quote c) h) [
   | inl i ↦ (grind (arith, nat_tests), grind (arith, nat_tests), grind (arith, nat_tests), grind (arith, nat_tests), grind (arith, nat_tests))
-  | inr q ↦ (let e : c ≡ 34 = eq_of c 34 q in rw e (refl, refl, refl, refl, refl))
+  | inr q ↦ (let e : c ≡ 34 = eqb-true c 34 q in rw e (refl, refl, refl, refl, refl))
 ]
 
 word_starts : (w : List ℕ) → Word w → w ≢ [] → starts goes_on w ≡ true
@@ -64,7 +64,7 @@ word_starts w (Quoted es more) some = refl
 
 semicolon_no_word : (w : List ℕ) → Word w → starts is_semicolon w ≡ true → ⊥
 semicolon_no_word w Ends h = apart refl h
-semicolon_no_word w (Char {c} id more) h = let e = eq_of c 59 h in apart refl (rw e at id)
+semicolon_no_word w (Char {c} id more) h = let e = eqb-true c 59 h in apart refl (rw e at id)
 semicolon_no_word w (Quoted es more) h = apart refl h
 
 pub next_word : (allow opened : Bool) (c : ℕ) (s : List ℕ) → goes_on c ≡ true → next allow opened (c ∷ s) ≡ word_token allow opened (c ∷ s) (after_word None (c ∷ s))
@@ -90,7 +90,7 @@ number_begins allow opened k w rest num some follow marked =
 
 pub complete : (allow opened : Bool) (kind : TokenKind) (word rest : List ℕ) → Begins allow opened kind word rest → next allow opened (word ++ rest) ≡ Some (kind, rest)
 complete allow opened Whitespace [] rest b = absurd (b.nonempty refl)
-complete allow opened Whitespace (c ∷ w) rest b = let both = and_true (is_space c) (list_all is_space w) b.lexeme in rw both.0 (ap (λ r. Some (Whitespace, r)) (skip_front is_space w rest both.1 b.follow))
+complete allow opened Whitespace (c ∷ w) rest b = let both = and_parts (is_space c) (list_all is_space w) b.lexeme in rw both.0 (ap (λ r. Some (Whitespace, r)) (skip_front is_space w rest both.1 b.follow))
 complete allow opened LParen word rest b = rw b.lexeme (rw b.follow refl)
 complete allow opened RParen word rest b = rw b.lexeme refl
 complete allow opened LineComment word rest b =
@@ -117,7 +117,7 @@ complete allow opened Reserved word rest b = elim b.lexeme [
       let follow = b.follow.0 in
       rw one.2 (elim (or_cases (is_mark c) (is_semicolon c) one.1) [
         | inl mark ↦ (let not = mark_is c mark in rw (not.0, not.1, not.2, not.3, mark) refl)
-        | inr semicolon ↦ (let is = eq_of c 59 semicolon in rw is (rw (follow (rw (one.2, is) refl)) refl))
+        | inr semicolon ↦ (let is = eqb-true c 59 semicolon in rw is (rw (follow (rw (one.2, is) refl)) refl))
       ])
   | inr odd ↦ word_begins allow opened Reserved word rest odd.0.is_word b.nonempty (b.follow.1 (word_starts word odd.0.is_word b.nonempty)) (plain_marked opened word Reserved b.marked (odd_kind word odd.0)) odd.1
 ]
@@ -172,7 +172,7 @@ line_split allow opened s k r h =
 
 starts_semicolon : (s : List ℕ) → starts is_semicolon s ≡ true → (t : List ℕ) × (s ≡ 59 ∷ t)
 starts_semicolon [] h = absurd (cc)
-starts_semicolon (c ∷ s) h = (s, ap (λ (i : ℕ). i ∷ s) (eq_of c 59 h))
+starts_semicolon (c ∷ s) h = (s, ap (λ (i : ℕ). i ∷ s) (eqb-true c 59 h))
 
 -- the tokens that begin with `(`, and with `;`
 sound_open : (allow opened : Bool) (s : List ℕ) (k : TokenKind) (r : List ℕ) → next allow opened (40 ∷ s) ≡ Some (k, r) → Splits allow opened (40 ∷ s) k r
@@ -272,11 +272,11 @@ sound allow opened (c ∷ s) k r h = elim (cases_Bool (is_space c)) [
       give allow opened (c ∷ s) Whitespace k (skip is_space s) r (rw space at h)
       (c ∷ spaces.0, ap (λ y. c ∷ y) spaces.1, record { nonempty = λ e. cc; lexeme = rw space spaces.2; follow = spaces.3; marked = unmarked opened (is_at c) (space_is c space) })
   | inr space ↦ elim (cases_Bool (is_open c)) [
-    | inl o ↦ at_byte allow opened c 40 s k r (eq_of c 40 o) (sound_open allow opened s k r) h
+    | inl o ↦ at_byte allow opened c 40 s k r (eqb-true c 40 o) (sound_open allow opened s k r) h
     | inr o ↦ elim (cases_Bool (is_close c)) [
-      | inl e ↦ at_byte allow opened c 41 s k r (eq_of c 41 e) (λ h'. give allow opened (41 ∷ s) RParen k s r h' (41 ∷ [], refl, record { nonempty = λ e. cc; lexeme = refl; follow = tt; marked = unmarked opened false refl })) h
+      | inl e ↦ at_byte allow opened c 41 s k r (eqb-true c 41 e) (λ h'. give allow opened (41 ∷ s) RParen k s r h' (41 ∷ [], refl, record { nonempty = λ e. cc; lexeme = refl; follow = tt; marked = unmarked opened false refl })) h
       | inr e ↦ elim (cases_Bool (is_semicolon c)) [
-        | inl m ↦ at_byte allow opened c 59 s k r (eq_of c 59 m) (sound_semicolon allow opened s k r) h
+        | inl m ↦ at_byte allow opened c 59 s k r (eqb-true c 59 m) (sound_semicolon allow opened s k r) h
         | inr m ↦ elim (cases_Bool (is_mark c)) [
           | inl mark ↦ give allow opened (c ∷ s) Reserved k s r (rw (space, o, e, m, mark) at h) (c ∷ [], refl, record { nonempty = λ e. cc; lexeme = inl (c, rw mark refl, refl); follow = (λ i. absurd (apart m i), λ i. absurd (apart (mark_ends c mark) i)); marked = unmarked opened (is_at c) (mark_no_at c mark) })
           | inr mark ↦ elim (cases_Bool (goes_on c)) [

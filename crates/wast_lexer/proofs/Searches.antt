@@ -1,20 +1,19 @@
 -- What searches and loops over bytes find.
 use Rattle.std.proofs.Common.{◌≡◌, ◌-◌, ℕ, suc, ◌+◌, ◌<◌, ◌≤◌, Bool, true, false, not, ◌⊎◌, inl, inr, List, [], ◌∷◌, length, take, drop, get_or, None, Some, refl, ap, ◌∙◌, arith}
 use Rattle.std.specs.List.{prefix_len}
-use Rattle.std.proofs.lemmas.List.{drop_all, take_all, length-drop}
+use Rattle.std.proofs.lemmas.List.{drop_all, take_all, length-drop, drop_more}
 use Rattle.std.proofs.lemmas.List.Sums.{prefix_len_is}
-use Rattle.std.proofs.lemmas.Bool.{cases_Bool}
+use Rattle.std.proofs.lemmas.Bool.{cases_Bool, not_from_true}
 use Rattle.std.proofs.lemmas.Bool.Decides.{nat_tests}
 use Rattle.memchr.specs.Find.{IsFirstByte, is_byte2}
-use Rattle.wast_lexer_strings.proofs.StringScanLaws.{cell}
 use Rattle.wast_lexer.specs.Kinds.{starts}
 use Rattle.wast_lexer.specs.Scan.{skip, is_neither}
 
 pub skip_on : (p : ℕ → Bool) (text : List ℕ) (i : ℕ) → i < length text → p (get_or text i 0) ≡ true → skip p (drop i text) ≡ skip p (drop (i + 1) text)
-skip_on p text i h passes = rw (cell text i h) (rw passes refl)
+skip_on p text i h passes = rw (drop_more text i 0 h) (rw passes refl)
 
 pub skip_stop : (p : ℕ → Bool) (text : List ℕ) (i : ℕ) → i < length text → p (get_or text i 0) ≡ false → skip p (drop i text) ≡ drop i text
-skip_stop p text i h passes = rw (cell text i h) (rw passes refl)
+skip_stop p text i h passes = rw (drop_more text i 0 h) (rw passes refl)
 
 pub skip_none : (p : ℕ → Bool) (text : List ℕ) (i : ℕ) → length text ≤ i → skip p (drop i text) ≡ drop i text
 skip_none p text i h = rw (drop_all i text h) refl
@@ -29,15 +28,12 @@ not_true : (b : Bool) → (b ≡ true → ⊥) → not b ≡ true
 not_true true h = absurd (h refl)
 not_true false h = refl
 
-not_false : (b : Bool) → b ≡ true → not b ≡ false
-not_false b h = rw h refl
-
 pub neither_at : (a b c : ℕ) → is_neither a b c ≡ true → (c ≡ a) ⊎ (c ≡ b) → ⊥
 neither_at a b c h e = grind (arith, nat_tests)
 
 -- a search finds where the bytes that are neither end
 pub first_is : (a b : ℕ) (s : List ℕ) (n : ℕ) → IsFirstByte (is_byte2 a b) s (Some n) → skip (is_neither a b) s ≡ drop n s
-first_is a b s n h = skip_is (is_neither a b) s ∙ ap (λ k. drop k s) (prefix_len_is (is_neither a b) s n 0 (omega arith) (λ k less. not_true (is_byte2 a b (get_or s k 0)) (h.0.before k (omega arith) less)) (λ less. not_false (is_byte2 a b (get_or s n 0)) h.1))
+first_is a b s n h = skip_is (is_neither a b) s ∙ ap (λ k. drop k s) (prefix_len_is (is_neither a b) s n 0 (omega arith) (λ k less. not_true (is_byte2 a b (get_or s k 0)) (h.0.before k (omega arith) less)) (λ less. not_from_true (is_byte2 a b (get_or s n 0)) h.1))
 
 pub none_is : (a b : ℕ) (s : List ℕ) → IsFirstByte (is_byte2 a b) s None → skip (is_neither a b) s ≡ []
 none_is a b s h = skip_is (is_neither a b) s ∙ ap (λ k. drop k s) (prefix_len_is (is_neither a b) s (length s) 0 (omega arith) (λ k less. not_true (is_byte2 a b (get_or s k 0)) (h k (omega arith) less)) (λ less. absurd (omega arith))) ∙ drop_all (length s) s (omega arith)

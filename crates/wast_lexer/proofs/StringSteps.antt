@@ -1,10 +1,10 @@
 -- Steps of the scan of a word that begins with a string.
 use Rattle.std.proofs.Common.{◌≡◌, ℕ, ◌+◌, ◌<◌, ◌≤◌, Bool, true, false, ◌&&◌, List, [], ◌∷◌, ◌++◌, length, drop, get_or, None, Some, refl, ap, sym, ◌∙◌, append_assoc}
 use Rattle.std.specs.Prelude.{slice_range}
+use Rattle.std.proofs.lemmas.List.{drop_more}
 use Rattle.wast_lexer_strings.specs.Strings.{IsString}
 use Rattle.wast_lexer_strings.specs.StringScan.{Read, read}
 use Rattle.wast_lexer_strings.specs.StringScan.State.{Within}
-use Rattle.wast_lexer_strings.proofs.StringScanLaws.{cell}
 use Rattle.wast_lexer_strings.proofs.Sound.{read_sound}
 use Rattle.wast_lexer.specs.declared.token.TokenKind.TheVariants.{String}
 use Rattle.wast_lexer.specs.Kinds.{starts, is_at}
@@ -24,7 +24,7 @@ module _ (allow opened : Bool) (text : List ℕ) (at : ℕ) (inside : at < lengt
   string_on = ap goes_on quote
 
   string_here : drop at text ≡ 34 ∷ drop (at + 1) text
-  string_here = cell text at inside ∙ ap (λ (c : ℕ). c ∷ drop (at + 1) text) quote
+  string_here = drop_more text at 0 inside ∙ ap (λ (c : ℕ). c ∷ drop (at + 1) text) quote
 
   string_word : after_word None (drop at text) ≡ word_behind (read Within (drop (at + 1) text))
   string_word = ap (after_word None) string_here ∙ word_read (drop (at + 1) text) Within

@@ -1,15 +1,15 @@
 -- What a table of tokens rests on.
-use Rattle.std.proofs.Common.{◌≡◌, ◌≢◌, ℕ, zero, suc, ◌+◌, ◌-◌, ◌<◌, ◌≤◌, Bool, true, false, List, [], ◌∷◌, ◌++◌, length, drop, get_or, map, refl, sym, ◌∙◌, ap, subst, arith}
+use Rattle.std.proofs.Common.{◌≡◌, ◌≢◌, ℕ, suc, ◌+◌, ◌-◌, ◌<◌, ◌≤◌, Bool, true, false, List, [], ◌∷◌, ◌++◌, length, drop, get_or, map, refl, sym, ◌∙◌, ap, subst, arith}
 use Rattle.std.specs.Prelude.{slice_range, nat_lt}
-use Rattle.std.specs.List.{All}
-use Rattle.std.proofs.lemmas.List.{get_or-drop, length-drop, drop-drop, take-append-drop, length-take-le, map-append}
-use Rattle.std.proofs.lemmas.List.Elements.{All-append}
+use Rattle.std.proofs.lemmas.List.{get_or-drop, length-drop, length-take-le, map-append, get_or_append_left}
 use Rattle.std.proofs.lemmas.Bool.Decides.{nat_tests}
+use Rattle.std.proofs.lemmas.List.Folds.{drop_split}
 use Rattle.wast_lexer.specs.declared.token.Token.{Token}
 use Rattle.wast_lexer.specs.Kinds.{is_open}
 use Rattle.wast_lexer.specs.Lexeme.{Lexeme, lexeme_of}
 use Rattle.wast_lexer.specs.Tiling.{Begins, Tiles, TilesUpTo, ends}
 use Rattle.wast_lexer.specs.Parse.{is_opened, IsTokenAt}
+use Rattle.wast_lexer.proofs.Cuts.{length_some}
 
 -- one token more
 pub tiles_more : (allow opened : Bool) (from : ℕ) (text : List ℕ) (ts : List Lexeme) (opens : Bool) (to : ℕ) (follows : List ℕ) (t : Lexeme) (rest : List ℕ)
@@ -30,20 +30,8 @@ ends_last p [] some = absurd (some refl)
 ends_last p (c ∷ []) some = refl
 ends_last p (c ∷ d ∷ w) some = ends_last p (d ∷ w) (λ e. cc) ∙ (let n : length (c ∷ d ∷ w) - 1 ≡ suc (length (d ∷ w) - 1) = omega arith in ap (λ i. p (get_or (c ∷ d ∷ w) i 0)) (sym n))
 
-some_length : (w : List ℕ) → w ≢ [] → 0 < length w
-some_length [] some = absurd (some refl)
-some_length (c ∷ w) some = omega arith
-
--- the text from a place on, cut at another
-pub cut_at : (text : List ℕ) (from to : ℕ) → from ≤ to → drop from text ≡ slice_range text from to ++ drop to text
-cut_at text from to low = sym (take-append-drop (to - from) (drop from text)) ∙ ap (λ y. slice_range text from to ++ y) (drop-drop (to - from) from text ∙ (let n : from + (to - from) ≡ to = omega (arith, low) in ap (λ i. drop i text) n))
-
 pub range_length : (text : List ℕ) (from to : ℕ) → from ≤ to → to ≤ length text → length (slice_range text from to) ≡ to - from
 range_length text from to low high = length-take-le (to - from) (drop from text) (omega (arith, length-drop from text))
-
-in_front : (w rest : List ℕ) (i : ℕ) → i < length w → get_or (w ++ rest) i 0 ≡ get_or w i 0
-in_front [] rest i h = absurd (omega arith)
-in_front (c ∷ w) rest i h = elim i as (λ k. k < length (c ∷ w) → get_or ((c ∷ w) ++ rest) k 0 ≡ get_or (c ∷ w) k 0) [ zero ↦ λ _. refl | suc k ↦ λ l. in_front w rest k (omega (arith, l)) ] h
 
 -- what stands before the end of a word
 pub opened_is : (text : List ℕ) (from to : ℕ) → from < to → to ≤ length text → is_opened text to ≡ ends is_open (slice_range text from to)
@@ -54,7 +42,7 @@ opened_is text from to low high =
     let pos : nat_lt 0 to ≡ true = grind (arith, nat_tests) in
     let last : get_or text (to - 1) 0 ≡ get_or w (length w - 1) 0 =
     (let n : to - 1 ≡ from + (length w - 1) = omega (arith, size, low) in ap (λ i. get_or text i 0) n)
-    ∙ sym (get_or-drop from text (length w - 1) 0) ∙ ap (λ y. get_or y (length w - 1) 0) (cut_at text from to (omega (arith, low))) ∙ in_front w (drop to text) (length w - 1) (omega (arith, size, low)) in
+    ∙ sym (get_or-drop from text (length w - 1) 0) ∙ ap (λ y. get_or y (length w - 1) 0) (drop_split text from to (omega (arith, low))) ∙ get_or_append_left w (drop to text) 0 (length w - 1) (omega (arith, size, low)) in
     rw pos (ap is_open last ∙ sym (ends_last is_open w some))
 
 -- the loop reads one token more
@@ -69,7 +57,7 @@ table_more allow text tokens from to t s is =
     let size = range_length text from to low is.within in
     let less : from < to = grow is.begins.nonempty size low in
     let more = tiles_more allow false 0 text (map (lexeme_of text) tokens) (is_opened text from) from (drop from text) l (drop to text) s is.place
-    (cut_at text from to low ∙ ap (λ y. y ++ drop to text) (sym word)) (subst (λ y. Begins allow (is_opened text from) t.kind y (drop to text)) (sym word) is.begins) in
+    (drop_split text from to low ∙ ap (λ y. y ++ drop to text) (sym word)) (subst (λ y. Begins allow (is_opened text from) t.kind y (drop to text)) (sym word) is.begins) in
     let opens : ends is_open l.text ≡ is_opened text to = ap (ends is_open) word ∙ sym (opened_is text from to less is.within) in
     let place : from + length l.text ≡ to = omega (arith, ap length word, size, low) in
     subst (λ ts. TilesUpTo allow false 0 text ts (is_opened text to) to (drop to text)) (sym (map-append (lexeme_of text) tokens (t ∷ [])))
@@ -77,16 +65,10 @@ table_more allow text tokens from to t s is =
     (subst (λ o. TilesUpTo allow false 0 text (map (lexeme_of text) tokens ++ l ∷ []) o (from + length l.text) (drop to text)) opens more))
   where
     grow : slice_range text from to ≢ [] → length (slice_range text from to) ≡ to - from → from ≤ to → from < to
-    grow some size low = let l = some_length (slice_range text from to) some in omega (arith, l, size)
-
-pub all_more : (P : Token → Type 0) (ts : List Token) (t : Token) → All P ts → P t → All P (ts ++ t ∷ [])
-all_more P ts t h k = All-append P ts (t ∷ []) h (λ i d l. elim i as (λ j. j < 1 → P (get_or (t ∷ []) j d)) [ zero ↦ λ _. k | suc j ↦ λ l. absurd (omega (arith, l)) ] l)
-
-pub all_none : (P : Token → Type 0) → All P []
-all_none P k d h = absurd (omega (arith, h))
+    grow some size low = let l = length_some (slice_range text from to) some in omega (arith, l, size)
 
 pub token_moves : (allow : Bool) (text : List ℕ) (from to : ℕ) (t : Token) → IsTokenAt allow text from to t → from < to
 token_moves allow text from to t is =
     let low : from ≤ to = omega (arith, is.len) in
-    let l = some_length (slice_range text from to) is.begins.nonempty in
+    let l = length_some (slice_range text from to) is.begins.nonempty in
     omega (arith, l, range_length text from to low is.within)

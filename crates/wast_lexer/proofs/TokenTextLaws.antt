@@ -12,19 +12,20 @@ use Rattle.wast_lexer_strings.specs.declared.error.LexError.TheVariants.{Invalid
 use Rattle.std.specs.Prelude.{Some}
 use Rattle.std.specs.Str.{IsUtf8, IsCharBoundary}
 use Rattle.std.proofs.lemmas.Str.{IsCharBoundary-after_ascii}
+use Rattle.std.proofs.lemmas.Bool.{and_parts, eqb-true}
 use Rattle.wast_lexer.specs.declared.fault.LexFault.{LexFault}
 use Rattle.wast_lexer.specs.declared.fault.LexFault.TheVariants.{Lex, Memory}
 use Rattle.wast_lexer.specs.Kinds.{starts, is_idchar, IsNameOf, IsId, IsIdOf, IsAnnotation, IsAnnotationOf}
 use Rattle.wast_lexer.specs.TokenText.{is_plain, IsIdFault, IsRefusal}
-use Rattle.wast_lexer.proofs.Basics.{and_true, apart, eq_of}
+use Rattle.wast_lexer.proofs.Basics.{apart}
 
 all_front : (a b : List ℕ) → is_plain (a ++ b) ≡ true → is_plain a ≡ true
 all_front [] b h = refl
-all_front (c ∷ a) b h = let both = and_true (not (is_backslash c)) (is_plain (a ++ b)) h in rw both.0 (all_front a b both.1)
+all_front (c ∷ a) b h = let both = and_parts (not (is_backslash c)) (is_plain (a ++ b)) h in rw both.0 (all_front a b both.1)
 
 all_back : (a b : List ℕ) → is_plain (a ++ b) ≡ true → is_plain b ≡ true
 all_back [] b h = h
-all_back (c ∷ a) b h = all_back a b (and_true (not (is_backslash c)) (is_plain (a ++ b)) h).1
+all_back (c ∷ a) b h = all_back a b (and_parts (not (is_backslash c)) (is_plain (a ++ b)) h).1
 
 -- what has no escape stands for itself
 pub plain_elements : {inner bytes : List ℕ} → Elements inner bytes → is_plain inner ≡ true → bytes ≡ inner
@@ -48,7 +49,7 @@ plain_is word bytes s h =
 -- ---- names
 quote_first : (s : List ℕ) → starts is_quote s ≡ true → (0 < length s) × (get_or s 0 0 ≡ 34)
 quote_first [] h = absurd (cc)
-quote_first (c ∷ s) h = (omega arith, eq_of c 34 h)
+quote_first (c ∷ s) h = (omega arith, eqb-true c 34 h)
 
 -- behind the first quote a text may be cut
 pub quote_cut : (s : List ℕ) → IsUtf8 s → starts is_quote s ≡ true → IsCharBoundary s 1
@@ -58,8 +59,8 @@ pub name_string : (name bytes : List ℕ) → IsNameOf name bytes → starts is_
 name_string name bytes (inr s) q = s
 name_string [] bytes (inl h) q = absurd (cc)
 name_string (c ∷ name) bytes (inl h) q =
-    let id : is_idchar c ≡ true = (and_true (is_idchar c) (list_all is_idchar (c ∷ name)) h.0).0 in
-    let at : is_idchar 34 ≡ true = subst (λ (i : ℕ). is_idchar i ≡ true) (eq_of c 34 q) id in absurd (cc)
+    let id : is_idchar c ≡ true = (and_parts (is_idchar c) (list_all is_idchar (c ∷ name)) h.0).0 in
+    let at : is_idchar 34 ≡ true = subst (λ (i : ℕ). is_idchar i ≡ true) (eqb-true c 34 q) id in absurd (cc)
 
 string_once : (word a b : List ℕ) → IsString word a → IsString word b → a ≡ b
 string_once word a b s t =

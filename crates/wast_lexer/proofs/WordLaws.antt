@@ -2,7 +2,7 @@
 use Rattle.std.proofs.Common.{◌≡◌, ◌≢◌, ℕ, zero, suc, ◌≤◌, true, false, not, inl, inr, ◌&&◌, List, [], ◌∷◌, ◌++◌, Option, Some, None, length, refl, sym, ◌∙◌, ap, arith, append_assoc, length-append}
 use Rattle.std.specs.Str.{IsUtf8, is_utf8}
 use Rattle.std.proofs.lemmas.Str.{IsUtf8-from_is_utf8, is_utf8-from_IsUtf8}
-use Rattle.std.proofs.lemmas.Bool.{cases_Bool}
+use Rattle.std.proofs.lemmas.Bool.{cases_Bool, and_parts, eqb-true}
 use Rattle.wast_lexer_strings.specs.Strings.{is_quote, IsString}
 use Rattle.wast_lexer_strings.specs.StringScan.{Read, more, State, on_step, step, read, is_empty, is_text}
 use Rattle.wast_lexer_strings.specs.StringScan.State.{Within}
@@ -13,7 +13,7 @@ use Rattle.wast_lexer.specs.Kinds.{starts, is_idchar, Word}
 use Rattle.wast_lexer.specs.Kinds.Word.{Ends, Char, Quoted}
 use Rattle.wast_lexer.specs.Tiling.{goes_on}
 use Rattle.wast_lexer.specs.Scan.{after_word, is_whole, is_string, is_text_string}
-use Rattle.wast_lexer.proofs.Basics.{and_true, eq_of, cases_option}
+use Rattle.wast_lexer.proofs.Basics.{cases_option}
 
 -- a word that goes on behind a string
 abbrev pub word_behind : Option Read → Option (List ℕ)
@@ -62,7 +62,7 @@ word_sound (suc n) (c ∷ s) r l h = elim (cases_Bool (is_idchar c)) [
           let size : length q'.rest ≤ n = omega (arith, l, ap length string.2, length-append string.0 (34 ∷ q'.rest)) in
           let found = word_sound n q'.rest r size (ap word_behind (sym some.1) ∙ sym (word_read s Within) ∙ on) in (
             34 ∷ (string.0 ++ 34 ∷ found.0),
-            ap (λ (k : ℕ). k ∷ s) (eq_of c 34 q) ∙ ap (λ (y : List ℕ). 34 ∷ y) (string.2 ∙ ap (λ (y : List ℕ). string.0 ++ 34 ∷ y) found.1 ∙ sym (append_assoc string.0 (34 ∷ found.0) r)),
+            ap (λ (k : ℕ). k ∷ s) (eqb-true c 34 q) ∙ ap (λ (y : List ℕ). 34 ∷ y) (string.2 ∙ ap (λ (y : List ℕ). string.0 ++ 34 ∷ y) found.1 ∙ sym (append_assoc string.0 (34 ∷ found.0) r)),
             Quoted string.1 found.2,
             found.3,
           )
@@ -84,12 +84,12 @@ empty_is (c ∷ s) h = absurd (cc)
 pub read_all : (c : ℕ) (s : List ℕ) (r : Read) → is_quote c ≡ true → read Within s ≡ Some r → is_empty r.rest ≡ true → IsString (c ∷ s) r.bytes
 read_all c s r q e none =
     let string = read_sound s Within r e in
-    (string.0, string.1, ap (λ (k : ℕ). k ∷ s) (eq_of c 34 q) ∙ ap (λ (y : List ℕ). 34 ∷ y) (string.2 ∙ ap (λ (y : List ℕ). string.0 ++ 34 ∷ y) (empty_is r.rest none)))
+    (string.0, string.1, ap (λ (k : ℕ). k ∷ s) (eqb-true c 34 q) ∙ ap (λ (y : List ℕ). 34 ∷ y) (string.2 ∙ ap (λ (y : List ℕ). string.0 ++ 34 ∷ y) (empty_is r.rest none)))
 
 pub string_sound : (w : List ℕ) → is_string w ≡ true → (bytes : List ℕ) × IsString w bytes
 string_sound [] h = absurd (cc)
 string_sound (c ∷ s) h =
-    let both = and_true (is_quote c) (is_whole (read Within s)) h in
+    let both = and_parts (is_quote c) (is_whole (read Within s)) h in
     elim (cases_option (read Within s)) [
       | inl none ↦ (let no : is_whole None ≡ true = ap is_whole (sym none) ∙ both.1 in absurd (cc))
       | inr some ↦ (some.0.bytes, read_all c s some.0 both.0 some.1 (ap is_whole (sym some.1) ∙ both.1))
@@ -109,13 +109,13 @@ text_complete w b s some utf8 = ap is_text_string s.2 ∙ ap is_text (string_rea
 pub text_sound : (w : List ℕ) → is_text_string w ≡ true → (bytes : List ℕ) × IsString w bytes × (bytes ≢ []) × IsUtf8 bytes
 text_sound [] h = absurd (cc)
 text_sound (c ∷ s) h =
-    let both = and_true (is_quote c) (is_text (read Within s)) h in
+    let both = and_parts (is_quote c) (is_text (read Within s)) h in
     elim (cases_option (read Within s)) [
       | inl none ↦ (let no : is_text None ≡ true = ap is_text (sym none) ∙ both.1 in absurd (cc))
       | inr some ↦
           let r = some.0 in
           let whole : (is_utf8 r.bytes && not (is_empty r.bytes) && is_empty r.rest) ≡ true = ap is_text (sym some.1) ∙ both.1 in
-          let first = and_true (is_utf8 r.bytes && not (is_empty r.bytes)) (is_empty r.rest) whole in
-          let parts = and_true (is_utf8 r.bytes) (not (is_empty r.bytes)) first.0 in
+          let first = and_parts (is_utf8 r.bytes && not (is_empty r.bytes)) (is_empty r.rest) whole in
+          let parts = and_parts (is_utf8 r.bytes) (not (is_empty r.bytes)) first.0 in
           (r.bytes, read_all c s r both.0 some.1 first.1, bytes_some r.bytes parts.1, IsUtf8-from_is_utf8 r.bytes parts.0)
     ]

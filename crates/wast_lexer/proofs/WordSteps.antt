@@ -2,8 +2,8 @@
 use Rattle.std.proofs.Common.{◌≡◌, ◌≢◌, ℕ, ◌+◌, ◌<◌, ◌≤◌, Bool, true, false, ◌&&◌, inl, inr, List, [], ◌∷◌, length, take, drop, get_or, Option, None, Some, refl, ap, sym, ◌∙◌, arith}
 use Rattle.std.specs.Prelude.{◌==◌, if◌then◌else◌, option_map, slice_range}
 use Rattle.std.specs.List.{list_all}
-use Rattle.std.proofs.lemmas.List.{drop_all, length-drop, drop-drop}
-use Rattle.std.proofs.lemmas.Bool.{cases_Bool}
+use Rattle.std.proofs.lemmas.List.{drop_all, length-drop, drop-drop, drop_more}
+use Rattle.std.proofs.lemmas.Bool.{cases_Bool, eqb-true}
 use Rattle.std.proofs.lemmas.Bool.Decides.{nat_tests}
 use Rattle.wast_lexer_strings.specs.Strings.{is_quote}
 use Rattle.wast_lexer_strings.specs.StringScan.{Read, read, is_empty}
@@ -12,10 +12,9 @@ use Rattle.wast_lexer.specs.Kinds.{starts, is_idchar, is_name, may_stand}
 use Rattle.wast_lexer.specs.Tiling.{goes_on}
 use Rattle.wast_lexer.specs.Scan.{after_word, is_whole, is_string, is_text_string, front, word_token, kind_of, next, skip}
 use Rattle.std.proofs.str.Laws.{order}
-use Rattle.wast_lexer.proofs.Basics.{apart, eq_of}
+use Rattle.wast_lexer.proofs.Basics.{apart}
 use Rattle.wast_lexer.proofs.WordLaws.{word_behind, word_read, word_stops, word_sound}
 use Rattle.wast_lexer.proofs.ScanLaws.{next_word}
-use Rattle.wast_lexer_strings.proofs.StringScanLaws.{cell}
 use Rattle.wast_lexer.proofs.Searches.{skip_yes, skip_no, skip_ends}
 
 neither_goes : (s : List ℕ) → starts is_idchar s ≡ false → starts is_quote s ≡ false → starts goes_on s ≡ false
@@ -24,7 +23,7 @@ neither_goes (c ∷ s) i q = rw (i, q) refl
 
 quote_cons : (s : List ℕ) → true ≡ starts is_quote s → 34 ∷ drop 1 s ≡ s
 quote_cons [] h = absurd (cc)
-quote_cons (c ∷ s) h = ap (λ (i : ℕ). i ∷ s) (sym (eq_of c 34 (sym h)))
+quote_cons (c ∷ s) h = ap (λ (i : ℕ). i ∷ s) (sym (eqb-true c 34 (sym h)))
 
 -- identifier characters are passed over
 pub word_skip : (s : List ℕ) → after_word None s ≡ after_word None (skip is_idchar s)
@@ -55,19 +54,19 @@ front_range text at end low high = ap (λ n. take n (drop at text)) (omega (arit
 pub word_at : (allow opened : Bool) (text : List ℕ) (at end : ℕ) → at < length text → goes_on (get_or text at 0) ≡ true → at ≤ end → end ≤ length text → after_word None (drop at text) ≡ Some (drop end text)
     → next allow opened (drop at text) ≡ (if may_stand allow (slice_range text at end) then option_map (λ k. (k, drop end text)) (kind_of opened (slice_range text at end)) else None)
 word_at allow opened text at end inside on low high h =
-    ap (next allow opened) (cell text at inside) ∙ next_word allow opened (get_or text at 0) (drop (at + 1) text) on
-    ∙ ap (λ y. word_token allow opened y (after_word None y)) (sym (cell text at inside)) ∙ ap (word_token allow opened (drop at text)) h
+    ap (next allow opened) (drop_more text at 0 inside) ∙ next_word allow opened (get_or text at 0) (drop (at + 1) text) on
+    ∙ ap (λ y. word_token allow opened y (after_word None y)) (sym (drop_more text at 0 inside)) ∙ ap (word_token allow opened (drop at text)) h
     ∙ ap (λ y. if may_stand allow y then option_map (λ k. (k, drop end text)) (kind_of opened y) else None) (front_range text at end low high)
 
 pub word_fails : (allow opened : Bool) (text : List ℕ) (at : ℕ) → at < length text → goes_on (get_or text at 0) ≡ true → after_word None (drop at text) ≡ None → next allow opened (drop at text) ≡ None
 word_fails allow opened text at inside on h =
-    ap (next allow opened) (cell text at inside) ∙ next_word allow opened (get_or text at 0) (drop (at + 1) text) on
-    ∙ ap (λ y. word_token allow opened y (after_word None y)) (sym (cell text at inside)) ∙ ap (word_token allow opened (drop at text)) h
+    ap (next allow opened) (drop_more text at 0 inside) ∙ next_word allow opened (get_or text at 0) (drop (at + 1) text) on
+    ∙ ap (λ y. word_token allow opened y (after_word None y)) (sym (drop_more text at 0 inside)) ∙ ap (word_token allow opened (drop at text)) h
 
 pub word_moves : (text : List ℕ) (at end : ℕ) → at < length text → goes_on (get_or text at 0) ≡ true → at ≤ end → end ≤ length text → after_word None (drop at text) ≡ Some (drop end text) → at < end
 word_moves text at end inside on low high h =
     let found = word_sound (length (drop at text)) (drop at text) (drop end text) (omega arith) h in
-    let starts_on : starts goes_on (drop at text) ≡ true = ap (starts goes_on) (cell text at inside) ∙ on in
+    let starts_on : starts goes_on (drop at text) ≡ true = ap (starts goes_on) (drop_more text at 0 inside) ∙ on in
     elim (order at end) [
       | inl less ↦ less
       | inr more ↦ (let same : at ≡ end = omega arith in absurd (apart found.3 (ap (λ i. starts goes_on (drop i text)) (sym same) ∙ starts_on)))
@@ -84,7 +83,7 @@ no_string (c ∷ word) h = let q : is_quote c ≡ false = grind (arith, nat_test
 
 pub end_is : (word : List ℕ) (end : ℕ) → end ≤ length word → (end == length word) ≡ is_empty (drop end word)
 end_is word end h = elim (order end (length word)) [
-  | inl less ↦ (let isnt : (end == length word) ≡ false = grind (arith, nat_tests) in isnt ∙ sym (ap is_empty (cell word end less)))
+  | inl less ↦ (let isnt : (end == length word) ≡ false = grind (arith, nat_tests) in isnt ∙ sym (ap is_empty (drop_more word end 0 less)))
   | inr more ↦ (let is : (end == length word) ≡ true = grind (arith, nat_tests) in is ∙ sym (ap is_empty (drop_all end word more)))
 ]
 

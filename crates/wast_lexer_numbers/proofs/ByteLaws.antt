@@ -3,7 +3,7 @@ use Rattle.std.proofs.Common.{◌≡◌, ℕ, Bool, true, false, ◌&&◌, ◌||
 use Rattle.std.specs.Prelude.{◌==◌, nat_le}
 use Rattle.std.specs.List.{list_all}
 use Rattle.std.proofs.lemmas.Bool.Decides.{nat_tests}
-use Rattle.std.proofs.lemmas.Bool.{or_cases}
+use Rattle.std.proofs.lemmas.Bool.{or_cases, and_parts}
 use Rattle.wast_lexer_numbers.specs.declared.kind.SignToken.{SignToken}
 use Rattle.wast_lexer_numbers.specs.declared.kind.SignToken.TheVariants.{Plus, Minus}
 use Rattle.wast_lexer_numbers.specs.declared.kind.FloatKind.TheVariants.{Inf, Nan, NanVal, Normal}
@@ -16,13 +16,9 @@ use Rattle.wast_lexer_numbers.specs.Numbers.Digits.{Last, Next, Gap}
 abbrev pub is_number_byte : ℕ → Bool
 is_number_byte c = is_digit c || (nat_le 65 c && nat_le c 90) || (nat_le 97 c && nat_le c 122) || (c == 43 || c == 45 || c == 46 || c == 58 || c == 95)
 
-and_true : (a b : Bool) → (a && b) ≡ true → (a ≡ true) × (b ≡ true)
-and_true true b h = (refl, h)
-and_true false b h = (h, cc)
-
-all_append : (p : ℕ → Bool) (a b : List ℕ) → list_all p a ≡ true → list_all p b ≡ true → list_all p (a ++ b) ≡ true
+pub all_append : (p : ℕ → Bool) (a b : List ℕ) → list_all p a ≡ true → list_all p b ≡ true → list_all p (a ++ b) ≡ true
 all_append p [] b h k = k
-all_append p (c ∷ a) b h k = let both = and_true (p c) (list_all p a) h in rw both.0 (all_append p a b both.1 k)
+all_append p (c ∷ a) b h k = let both = and_parts (p c) (list_all p a) h in rw both.0 (all_append p a b both.1 k)
 
 base_byte : (hex : Bool) (c : ℕ) → is_base hex c ≡ true → is_number_byte c ≡ true
 base_byte false c h = rw h refl
@@ -77,4 +73,4 @@ number_bytes k w (sign, text, u, split) = ap (list_all is_number_byte) split ∙
 
 pub all_more : (p q : ℕ → Bool) → ((c : ℕ) → p c ≡ true → q c ≡ true) → (w : List ℕ) → list_all p w ≡ true → list_all q w ≡ true
 all_more p q f [] h = refl
-all_more p q f (c ∷ w) h = let both = and_true (p c) (list_all p w) h in rw (f c both.0) (all_more p q f w both.1)
+all_more p q f (c ∷ w) h = let both = and_parts (p c) (list_all p w) h in rw (f c both.0) (all_more p q f w both.1)

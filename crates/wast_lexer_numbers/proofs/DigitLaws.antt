@@ -1,8 +1,7 @@
 -- The scan of digits and their grammar.
-use Rattle.std.proofs.Common.{◌≡◌, ℕ, Bool, true, false, List, [], ◌∷◌, ◌++◌, Some, refl, sym, ◌∙◌, ap, inl, inr, arith}
+use Rattle.std.proofs.Common.{◌≡◌, ℕ, Bool, true, false, List, [], ◌∷◌, ◌++◌, Some, refl, sym, ◌∙◌, ap, inl, inr}
 use Rattle.std.specs.Prelude.{◌==◌}
-use Rattle.std.proofs.lemmas.Bool.{cases_Bool}
-use Rattle.std.proofs.lemmas.Bool.Decides.{nat_tests}
+use Rattle.std.proofs.lemmas.Bool.{cases_Bool, eqb-true}
 use Rattle.wast_lexer_numbers.specs.Numbers.{is_base, Digits}
 use Rattle.wast_lexer_numbers.specs.Numbers.Digits.{Last, Next, Gap}
 use Rattle.wast_lexer_numbers.specs.NumberScan.{after}
@@ -28,9 +27,6 @@ abbrev pub Behind : Bool → Bool → List ℕ → List ℕ → Type 0
 Behind hex true text rest = (ds : List ℕ) × Digits hex ds × (text ≡ ds ++ rest)
 Behind hex false text rest = (c : ℕ) → is_base hex c ≡ true → (ds : List ℕ) × Digits hex ds × (c ∷ text ≡ ds ++ rest)
 
-pub eq_of : (c n : ℕ) → (c == n) ≡ true → c ≡ n
-eq_of c n h = grind (arith, nat_tests)
-
 -- what is scanned is digits
 pub scanned_digits : (hex : Bool) (text : List ℕ) (gap : Bool) (rest : List ℕ) → after hex gap text ≡ Some rest → Behind hex gap text rest
 scanned_digits hex [] true rest h = absurd (cc)
@@ -45,7 +41,7 @@ scanned_digits hex (c ∷ text) false rest h = elim (cases_Bool (is_base hex c))
   | inr p ↦ elim (cases_Bool (c == 95)) [
     | inl u ↦ (let h' : after hex true text ≡ Some rest = rw (after, p, u) at h in
         let more = scanned_digits hex text true rest h' in
-        λ d q. (d ∷ 95 ∷ more.0, Gap d more.0 q more.1, ap (λ (k : ℕ). d ∷ k ∷ text) (eq_of c 95 u) ∙ ap (λ (y : List ℕ). d ∷ 95 ∷ y) more.2))
+        λ d q. (d ∷ 95 ∷ more.0, Gap d more.0 q more.1, ap (λ (k : ℕ). d ∷ k ∷ text) (eqb-true c 95 u) ∙ ap (λ (y : List ℕ). d ∷ 95 ∷ y) more.2))
     | inr u ↦ (let h' = rw (after, p, u) at h in let e : c ∷ text ≡ rest = cc in
         λ d q. (d ∷ [], Last d q, ap (λ (y : List ℕ). d ∷ y) e))
   ]

@@ -1,8 +1,8 @@
 -- The scan of a number and its grammar.
-use Rattle.std.proofs.Common.{◌≡◌, ℕ, Bool, true, false, ◌&&◌, ◌||◌, List, [], ◌∷◌, ◌++◌, Option, Some, None, is_some, refl, sym, ◌∙◌, ap, subst, ◌⊎◌, inl, inr, arith}
+use Rattle.std.proofs.Common.{◌≡◌, ℕ, Bool, true, false, ◌||◌, List, [], ◌∷◌, ◌++◌, Option, Some, None, is_some, refl, sym, ◌∙◌, ap, subst, ◌⊎◌, inl, inr, arith, append-nil}
 use Rattle.std.specs.Prelude.{◌==◌}
 use Rattle.std.proofs.Math.Bool.{or-true}
-use Rattle.std.proofs.lemmas.Bool.{cases_Bool, or_cases}
+use Rattle.std.proofs.lemmas.Bool.{cases_Bool, or_cases, and_parts, eqb-true}
 use Rattle.std.proofs.lemmas.Bool.Decides.{nat_tests}
 use Rattle.wast_lexer_numbers.specs.declared.kind.SignToken.{SignToken}
 use Rattle.wast_lexer_numbers.specs.declared.kind.SignToken.TheVariants.{Plus, Minus}
@@ -14,15 +14,7 @@ use Rattle.wast_lexer_numbers.specs.Numbers.{is_digit, is_base, is_power, Digits
 use Rattle.wast_lexer_numbers.specs.Numbers.Digits.{Last, Next, Gap}
 use Rattle.wast_lexer_numbers.specs.FloatSteps.{exponent_of}
 use Rattle.wast_lexer_numbers.specs.NumberScan.{begins_number, after, prefixed, sign_of, unsigned, is_all, ends_power, power_after, ends_fraction, float_if, kind_after, magnitude, nan_if, based, payload, body, number}
-use Rattle.wast_lexer_numbers.proofs.DigitLaws.{digits_scanned, scanned_digits, eq_of}
-
-pub append_none : (b : List ℕ) → b ++ [] ≡ b
-append_none [] = refl
-append_none (c ∷ b) = ap (λ (y : List ℕ). c ∷ y) (append_none b)
-
-and_true : (a b : Bool) → (a && b) ≡ true → (a ≡ true) × (b ≡ true)
-and_true true b h = (refl, h)
-and_true false b h = (h, cc)
+use Rattle.wast_lexer_numbers.proofs.DigitLaws.{digits_scanned, scanned_digits}
 
 -- ---- what is written is scanned
 -- the first byte of digits is one
@@ -48,12 +40,12 @@ signed (Some Plus) text n = (refl, refl)
 signed (Some Minus) text n = (refl, refl)
 
 all_digits : (hex : Bool) (ds : List ℕ) → Digits hex ds → (gap : Bool) → is_all (after hex gap ds) ≡ true
-all_digits hex ds d gap = ap is_all (sym (ap (after hex gap) (append_none ds)) ∙ digits_scanned hex ds [] d refl gap)
+all_digits hex ds d gap = ap is_all (sym (ap (after hex gap) (append-nil ds)) ∙ digits_scanned hex ds [] d refl gap)
 
 exponent_ends : (hex : Bool) (e : Option (List ℕ)) (text : List ℕ) → IsExponent hex e text → ends_power hex text ≡ true
 exponent_ends hex None text h = ap (ends_power hex) h
 exponent_ends hex (Some power) text (letter, sign, digits, is, ds, split, whole) =
-    let none : NoSign digits = subst NoSign (append_none digits) (digits_no_sign false digits [] ds) in
+    let none : NoSign digits = subst NoSign (append-nil digits) (digits_no_sign false digits [] ds) in
     ap (ends_power hex) (whole ∙ ap (λ (y : List ℕ). letter ∷ y) split)
     ∙ (rw (is, (signed sign digits none).0) (all_digits false digits ds true))
 
@@ -63,8 +55,8 @@ point_stops true text = refl
 point_stops false text = refl
 
 power_apart : (hex : Bool) (c : ℕ) → is_power hex c ≡ true → (is_base hex c ≡ false) × ((c == 95) ≡ false) × ((c == 46) ≡ false)
-power_apart true c h = elim (or_cases (c == 80) (c == 112) h) [ inl i ↦ rw (eq_of c 80 i) (refl, refl, refl) | inr i ↦ rw (eq_of c 112 i) (refl, refl, refl) ]
-power_apart false c h = elim (or_cases (c == 69) (c == 101) h) [ inl i ↦ rw (eq_of c 69 i) (refl, refl, refl) | inr i ↦ rw (eq_of c 101 i) (refl, refl, refl) ]
+power_apart true c h = elim (or_cases (c == 80) (c == 112) h) [ inl i ↦ rw (eqb-true c 80 i) (refl, refl, refl) | inr i ↦ rw (eqb-true c 112 i) (refl, refl, refl) ]
+power_apart false c h = elim (or_cases (c == 69) (c == 101) h) [ inl i ↦ rw (eqb-true c 69 i) (refl, refl, refl) | inr i ↦ rw (eqb-true c 101 i) (refl, refl, refl) ]
 
 exponent_stops : (hex : Bool) (e : Option (List ℕ)) (text : List ℕ) → IsExponent hex e text → after hex false text ≡ Some text
 exponent_stops hex None text h = rw h refl
@@ -91,17 +83,17 @@ magnitude_scanned hex sign p text m some =
     ap (magnitude hex sign) m.split ∙ ap (kind_after hex sign) (digits_scanned hex p.integral (m.fraction ++ m.exponent) m.digits f.0 true) ∙ f.1
 
 integer_scanned : (hex : Bool) (sign : Option SignToken) (ds : List ℕ) → Digits hex ds → magnitude hex sign ds ≡ Some (Integer (record { sign = sign; hex = hex }))
-integer_scanned hex sign ds d = ap (kind_after hex sign) (sym (ap (after hex true) (append_none ds)) ∙ digits_scanned hex ds [] d refl true)
+integer_scanned hex sign ds d = ap (kind_after hex sign) (sym (ap (after hex true) (append-nil ds)) ∙ digits_scanned hex ds [] d refl true)
 
 -- a decimal magnitude is none of the other forms
 decimal_body : (sign : Option SignToken) (text : List ℕ) (k : NumberKind) → magnitude false sign text ≡ Some k → body sign text ≡ Some k
 decimal_body sign [] k h = absurd (cc)
 decimal_body sign (c ∷ text) k h = elim (cases_Bool (c == 105)) [
-  | inl i ↦ (let h' = rw (eq_of c 105 i) at h in absurd (cc))
+  | inl i ↦ (let h' = rw (eqb-true c 105 i) at h in absurd (cc))
   | inr i ↦ elim (cases_Bool (c == 110)) [
-    | inl n ↦ (let h' = rw (eq_of c 110 n) at h in absurd (cc))
+    | inl n ↦ (let h' = rw (eqb-true c 110 n) at h in absurd (cc))
     | inr n ↦ elim (cases_Bool (c == 48)) [
-      | inl z ↦ at_zero (eq_of c 48 z) text h
+      | inl z ↦ at_zero (eqb-true c 48 z) text h
       | inr z ↦ rw (i, n, z) h
     ]
   ]
@@ -110,7 +102,7 @@ decimal_body sign (c ∷ text) k h = elim (cases_Bool (c == 105)) [
     at_zero : c ≡ 48 → (text : List ℕ) → magnitude false sign (c ∷ text) ≡ Some k → body sign (c ∷ text) ≡ Some k
     at_zero z [] h = rw z (rw z at h)
     at_zero z (d ∷ text) h = elim (cases_Bool (d == 120)) [
-      | inl x ↦ (let h' = rw (z, eq_of d 120 x) at h in absurd (cc))
+      | inl x ↦ (let h' = rw (z, eqb-true d 120 x) at h in absurd (cc))
       | inr x ↦ rw z (rw x (rw z at h))
     ]
 
@@ -132,7 +124,7 @@ base_no_sign true ds rest d = (refl, refl)
 base_no_sign false ds rest d = digits_no_sign false ds rest d
 
 unsigned_no_sign : (sign : Option SignToken) (k : NumberKind) (text : List ℕ) → IsUnsigned sign k text → NoSign text
-unsigned_no_sign sign (Integer kind) text u = subst NoSign (ap (λ y. base_text kind.hex ++ y) (append_none u.0) ∙ sym u.3) (base_no_sign kind.hex u.0 [] u.1)
+unsigned_no_sign sign (Integer kind) text u = subst NoSign (ap (λ y. base_text kind.hex ++ y) (append-nil u.0) ∙ sym u.3) (base_no_sign kind.hex u.0 [] u.1)
 unsigned_no_sign sign (Float Inf) text u = subst NoSign (sym u) (refl, refl)
 unsigned_no_sign sign (Float Nan) text u = subst NoSign (sym u) (refl, refl)
 unsigned_no_sign sign (Float NanVal) text u = subst NoSign (sym u.2) (refl, refl)
@@ -150,7 +142,7 @@ pub prefixed_split : (bytes text rest : List ℕ) → prefixed bytes text ≡ So
 prefixed_split [] text rest h = cc
 prefixed_split (b ∷ bytes) [] rest h = absurd (cc)
 prefixed_split (b ∷ bytes) (c ∷ text) rest h = elim (cases_Bool (c == b)) [
-  | inl e ↦ (let more = prefixed_split bytes text rest (rw e at h) in ap (λ (i : ℕ). i ∷ text) (eq_of c b e) ∙ ap (λ (y : List ℕ). b ∷ y) more)
+  | inl e ↦ (let more = prefixed_split bytes text rest (rw e at h) in ap (λ (i : ℕ). i ∷ text) (eqb-true c b e) ∙ ap (λ (y : List ℕ). b ∷ y) more)
   | inr e ↦ (let h' = rw e at h in absurd (cc))
 ]
 
@@ -160,19 +152,19 @@ all_is (Some []) h = refl
 all_is (Some (c ∷ text)) h = absurd (cc)
 
 whole : (bytes text : List ℕ) → is_all (prefixed bytes text) ≡ true → text ≡ bytes
-whole bytes text h = prefixed_split bytes text [] (all_is (prefixed bytes text) h) ∙ append_none bytes
+whole bytes text h = prefixed_split bytes text [] (all_is (prefixed bytes text) h) ∙ append-nil bytes
 
 digits_all : (hex : Bool) (text : List ℕ) → is_all (after hex true text) ≡ true → Digits hex text
 digits_all hex text h =
     let s = scanned_digits hex text true [] (all_is (after hex true text) h) in
-    subst (Digits hex) (sym (s.2 ∙ append_none s.0)) s.1
+    subst (Digits hex) (sym (s.2 ∙ append-nil s.0)) s.1
 
 pub sign_split : (text : List ℕ) → text ≡ sign_text (sign_of text) ++ unsigned text
 sign_split [] = refl
 sign_split (c ∷ text) = elim (cases_Bool (c == 43)) [
-  | inl p ↦ rw p (ap (λ (i : ℕ). i ∷ text) (eq_of c 43 p))
+  | inl p ↦ rw p (ap (λ (i : ℕ). i ∷ text) (eqb-true c 43 p))
   | inr p ↦ elim (cases_Bool (c == 45)) [
-    | inl m ↦ rw (p, m) (ap (λ (i : ℕ). i ∷ text) (eq_of c 45 m))
+    | inl m ↦ rw (p, m) (ap (λ (i : ℕ). i ∷ text) (eqb-true c 45 m))
     | inr m ↦ rw (p, m) refl
   ]
 ]
@@ -181,7 +173,7 @@ sign_split (c ∷ text) = elim (cases_Bool (c == 43)) [
 pub exponent_is : (hex : Bool) (text : List ℕ) → ends_power hex text ≡ true → IsExponent hex (exponent_of text) text
 exponent_is hex [] h = refl
 exponent_is hex (c ∷ text) h =
-    let both = and_true (is_power hex c) (is_all (after false true (unsigned text))) h in
+    let both = and_parts (is_power hex c) (is_all (after false true (unsigned text))) h in
     (c, sign_of text, unsigned text, both.0, digits_all false (unsigned text) both.1, sign_split text, refl)
 
 -- what may follow the point, as a fraction and an exponent
@@ -209,13 +201,13 @@ float_is true k h = (refl, cc)
 float_is false k h = absurd (cc)
 
 tail_is : (hex : Bool) (sign : Option SignToken) (text ds tail : List ℕ) (k : NumberKind) → Digits hex ds → text ≡ ds ++ tail → kind_after hex sign (Some tail) ≡ Some k → IsMagnitudeOf hex sign k text
-tail_is hex sign text ds [] k d split h = inl (cc, subst (Digits hex) (sym (split ∙ append_none ds)) d)
+tail_is hex sign text ds [] k d split h = inl (cc, subst (Digits hex) (sym (split ∙ append-nil ds)) d)
 tail_is hex sign text ds (c ∷ tail) k d split h = elim (cases_Bool (c == 46)) [
   | inl p ↦
       let f = float_is (ends_fraction hex tail) k (rw p at h) in
       let b = fraction_behind hex tail f.0 in
       let parts : Parts = record { integral = ds; fraction = Some b.0; exponent = b.1 } in
-      let is : c ∷ tail ≡ (46 ∷ b.0) ++ b.2 = ap (λ (i : ℕ). i ∷ tail) (eq_of c 46 p) ∙ ap (λ (y : List ℕ). 46 ∷ y) b.5 in
+      let is : c ∷ tail ≡ (46 ∷ b.0) ++ b.2 = ap (λ (i : ℕ). i ∷ tail) (eqb-true c 46 p) ∙ ap (λ (y : List ℕ). 46 ∷ y) b.5 in
       inr (f.1, parts, record { fraction = 46 ∷ b.0; exponent = b.2; digits = d; is_fraction = (b.3, refl); is_exponent = b.4; split = split ∙ ap (λ y. ds ++ y) is }, refl)
   | inr p ↦
       let f = float_is (ends_power hex (c ∷ tail)) k (rw p at h) in

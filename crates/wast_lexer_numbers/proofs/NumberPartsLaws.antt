@@ -1,31 +1,26 @@
 -- What the readers of numbers rest on.
-use Rattle.std.proofs.Common.{◌≡◌, ℕ, ◌-◌, ◌≤◌, Bool, true, false, inl, inr, ◌&&◌, List, [], ◌∷◌, ◌++◌, Option, Some, None, length, take, drop, get_or, refl, sym, ◌∙◌, ap, subst, arith, length-append}
+use Rattle.std.proofs.Common.{◌≡◌, ℕ, ◌-◌, ◌≤◌, Bool, true, false, inl, inr, List, [], ◌∷◌, ◌++◌, Option, Some, None, length, take, drop, get_or, refl, sym, ◌∙◌, ap, subst, arith, length-append}
 use Rattle.std.specs.Prelude.{slice_range}
 use Rattle.std.specs.List.{list_all}
 use Rattle.std.proofs.Math.Seq.{take-append_seam, drop-append_seam}
-use Rattle.std.proofs.lemmas.Bool.{cases_Bool}
+use Rattle.std.proofs.lemmas.Bool.{cases_Bool, and_parts, eqb-true}
 use Rattle.std.proofs.lemmas.Bool.Decides.{nat_tests}
 use Rattle.wast_lexer_numbers.specs.declared.kind.SignToken.{SignToken}
 use Rattle.wast_lexer_numbers.specs.declared.kind.FloatKind.TheVariants.{Normal}
 use Rattle.wast_lexer_numbers.specs.declared.kind.NumberKind.{NumberKind}
 use Rattle.wast_lexer_numbers.specs.declared.kind.NumberKind.TheVariants.{Float}
-use Rattle.wast_lexer_numbers.specs.declared.parts.Float.TheVariants as parts
 use Rattle.wast_lexer_numbers.specs.Numbers.{Digits, IsNumber, inf, nan, nan_prefix, sign_text, base_text}
 use Rattle.wast_lexer_numbers.specs.FloatSteps.{is_point_first, is_ascii}
 use Rattle.wast_lexer_numbers.specs.NumberScan.{after, prefixed, sign_of, unsigned, is_all, ends_power, ends_fraction, float_if, magnitude, nan_if, based, payload, body}
 use Rattle.std.specs.Str.{IsUtf8, IsCharBoundary}
 use Rattle.std.proofs.lemmas.Str.{IsCharBoundary-after_ascii}
 use Rattle.wast_lexer_numbers.proofs.NumberLaws.{number_scanned, sign_split, prefixed_split}
-use Rattle.wast_lexer_numbers.proofs.DigitLaws.{scanned_digits, eq_of}
+use Rattle.wast_lexer_numbers.proofs.DigitLaws.{scanned_digits}
 use Rattle.wast_lexer_numbers.proofs.ByteLaws.{is_number_byte, number_bytes, all_more}
-
-and_true : (a b : Bool) → (a && b) ≡ true → (a ≡ true) × (b ≡ true)
-and_true true b h = (refl, h)
-and_true false b h = (h, cc)
 
 pub all_behind : (p : ℕ → Bool) (a b : List ℕ) → list_all p (a ++ b) ≡ true → list_all p b ≡ true
 all_behind p [] b h = h
-all_behind p (c ∷ a) b h = all_behind p a b (and_true (p c) (list_all p (a ++ b)) h).1
+all_behind p (c ∷ a) b h = all_behind p a b (and_parts (p c) (list_all p (a ++ b)) h).1
 
 -- the digits in front, by the length of what follows them
 pub record Cut (hex : Bool) (text rest : List ℕ) : Type 0 where
@@ -61,7 +56,7 @@ float_is false h = absurd (cc)
 
 pub point_first : (text : List ℕ) → is_point_first text ≡ true → text ≡ 46 ∷ drop 1 text
 point_first [] h = absurd (cc)
-point_first (c ∷ text) h = ap (λ (i : ℕ). i ∷ text) (eq_of c 46 h)
+point_first (c ∷ text) h = ap (λ (i : ℕ). i ∷ text) (eqb-true c 46 h)
 
 pub value_fraction : (hex : Bool) (sign : Option SignToken) (text rest : List ℕ) → magnitude hex sign text ≡ Some (Float Normal) → after hex true text ≡ Some rest → is_point_first rest ≡ true → ends_fraction hex (drop 1 rest) ≡ true
 value_fraction hex sign text rest h a p =

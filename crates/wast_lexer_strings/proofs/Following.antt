@@ -10,7 +10,8 @@ use Rattle.wast_lexer_strings.specs.declared.piece.Piece.TheVariants.{Byte, Char
 use Rattle.wast_lexer_strings.specs.StringScan.{meant}
 use Rattle.std.proofs.lemmas.Bool.{cases_Bool}
 use Rattle.std.proofs.lemmas.Str.{IsUtf8-from_is_utf8, is_utf8-from_IsUtf8}
-use Rattle.wast_lexer_strings.proofs.StringScanLaws.{more_more, cell}
+use Rattle.std.proofs.lemmas.List.{drop_more}
+use Rattle.wast_lexer_strings.proofs.StringScanLaws.{more_more}
 use Rattle.simdutf8.specs.Steps.{IsClosed}
 use Rattle.simdutf8.proofs.Chars.{StepsThen-IsUtf8}
 use Rattle.wast_lexer_strings.specs.declared.utf8.Tail.{Tail}
@@ -54,7 +55,7 @@ utf8_is b false e = elim (cases_Bool (is_utf8 b)) [ inl h ↦ (let no : false �
 pub at_quote : (text : List ℕ) (from at : ℕ) (t : Tail) (some closed : Bool) → at < length text → get_or text at 0 ≡ 34 → Reads text from at t some → IsTrue closed ↔ IsClosed t.x t.y t.z
     → is_text (read Within (drop from text)) ≡ (closed && some && is_empty (drop (at + 1) text))
 at_quote text from at t some closed inside q inv e =
-    let here : read Within (drop at text) ≡ Some (record { bytes = []; rest = drop (at + 1) text }) = ap (read Within) (cell text at inside ∙ ap (λ (i : ℕ). i ∷ drop (at + 1) text) q) in
+    let here : read Within (drop at text) ≡ Some (record { bytes = []; rest = drop (at + 1) text }) = ap (read Within) (drop_more text at 0 inside ∙ ap (λ (i : ℕ). i ∷ drop (at + 1) text) q) in
     let u : is_utf8 (inv.0 ++ []) ≡ closed = utf8_is (inv.0 ++ []) closed (λ h. e.1 ((inv.2 []).0 h), λ h. (inv.2 []).1 (e.0 h)) in
     ap is_text (inv.1 ∙ ap (more inv.0) here) ∙ rw (u, some_is inv.0) (let s = sym inv.3 in rw s refl)
   where

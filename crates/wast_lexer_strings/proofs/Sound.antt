@@ -1,7 +1,7 @@
 -- What a scan reads is a string.
 use Rattle.std.proofs.Common.{◌≡◌, ℕ, ◌+◌, ◌*◌, Bool, true, false, ◌&&◌, ◌⊎◌, inl, inr, List, [], ◌∷◌, ◌++◌, Option, Some, None, refl, sym, ◌∙◌, ap, subst, arith, append_assoc}
 use Rattle.std.specs.Prelude.{encode_utf8, nat_lt, ◌==◌}
-use Rattle.std.proofs.lemmas.Bool.{cases_Bool}
+use Rattle.std.proofs.lemmas.Bool.{cases_Bool, eqb-true}
 use Rattle.std.proofs.lemmas.Bool.Decides.{nat_tests}
 use Rattle.wast_lexer_strings.specs.Strings.{is_quote, is_backslash, is_hex, hex_value, is_string_byte, escaped, is_scalar_value, is_digits, number, Element, Elements}
 use Rattle.wast_lexer_strings.specs.StringScan.{Read, more, State, Step, letter_step, digit_step, step, read}
@@ -31,9 +31,6 @@ Reaches (Digit h) w b rest = is_hex h ≡ true → InString (92 ∷ h ∷ w) b r
 Reaches Open w b rest = InString (92 ∷ 117 ∷ w) b rest
 Reaches (Gap n) w b rest = Scalars n w b rest
 Reaches (Number n) w b rest = (m c : ℕ) → is_hex c ≡ true → 16 * m + hex_value c ≡ n → Scalars m (c ∷ w) b rest
-
-eq_of : (c n : ℕ) → (c == n) ≡ true → c ≡ n
-eq_of c n h = grind (arith, nat_tests)
 
 prepend : (word bytes w b rest : List ℕ) → Element word bytes → InString w b rest → InString (word ++ w) (bytes ++ b) rest
 prepend word bytes w b rest e i = (word ++ i.0, More e i.1, ap (λ y. word ++ y) i.2 ∙ sym (append_assoc word i.0 (34 ∷ rest)))
@@ -121,7 +118,7 @@ back Within to c x w b rest e r = elim (cases_Bool (is_quote c)) [
   | inl q ↦ (let e' = rw q at e in absurd (cc))
   | inr q ↦ elim (cases_Bool (is_backslash c)) [
     | inl k ↦ (let e' = rw (q, k) at e in let s : Escape ≡ to = cc in let none : [] ≡ x = cc in
-        subst (λ (y : List ℕ). InString (c ∷ w) (y ++ b) rest) none (subst (λ (i : ℕ). InString (i ∷ w) b rest) (sym (eq_of c 92 k)) (subst (λ i. Reaches i w b rest) (sym s) r)))
+        subst (λ (y : List ℕ). InString (c ∷ w) (y ++ b) rest) none (subst (λ (i : ℕ). InString (i ∷ w) b rest) (sym (eqb-true c 92 k)) (subst (λ i. Reaches i w b rest) (sym s) r)))
     | inr k ↦ elim (cases_Bool (is_string_byte c)) [
       | inl p ↦ (let e' = rw (p, q, k) at e in let s : Within ≡ to = cc in let one : c ∷ [] ≡ x = cc in
           subst (λ (y : List ℕ). InString (c ∷ w) (y ++ b) rest) one (prepend (c ∷ []) (c ∷ []) w b rest (Plain p) (subst (λ i. Reaches i w b rest) (sym s) r)))
@@ -131,7 +128,7 @@ back Within to c x w b rest e r = elim (cases_Bool (is_quote c)) [
 ]
 back Escape to c x w b rest e r = elim (cases_Bool (c == 117)) [
   | inl u ↦ (let e' = rw u at e in let s : Open ≡ to = cc in let none : [] ≡ x = cc in
-      subst (λ (y : List ℕ). InString (92 ∷ c ∷ w) (y ++ b) rest) none (subst (λ (i : ℕ). InString (92 ∷ i ∷ w) b rest) (sym (eq_of c 117 u)) (subst (λ i. Reaches i w b rest) (sym s) r)))
+      subst (λ (y : List ℕ). InString (92 ∷ c ∷ w) (y ++ b) rest) none (subst (λ (i : ℕ). InString (92 ∷ i ∷ w) b rest) (sym (eqb-true c 117 u)) (subst (λ i. Reaches i w b rest) (sym s) r)))
   | inr u ↦ elim (cases_Bool (is_hex c)) [
     | inl h ↦ (let e' = rw (u, h) at e in let s : Digit c ≡ to = cc in let none : [] ≡ x = cc in
         let r' : Reaches (Digit c) w b rest = subst (λ i. Reaches i w b rest) (sym s) r in
@@ -147,7 +144,7 @@ back (Digit f) to c x w b rest e r = elim (cases_Bool (is_hex c)) [
 back Open to c x w b rest e r = elim (cases_Bool (c == 123)) [
   | inl u ↦ (let e' = rw u at e in let s : Gap 0 ≡ to = cc in let none : [] ≡ x = cc in
       let r' : Reaches (Gap 0) w b rest = subst (λ i. Reaches i w b rest) (sym s) r in
-      subst (λ (y : List ℕ). InString (92 ∷ 117 ∷ c ∷ w) (y ++ b) rest) none (subst (λ (i : ℕ). InString (92 ∷ 117 ∷ i ∷ w) b rest) (sym (eq_of c 123 u)) (braced w b rest r')))
+      subst (λ (y : List ℕ). InString (92 ∷ 117 ∷ c ∷ w) (y ++ b) rest) none (subst (λ (i : ℕ). InString (92 ∷ 117 ∷ i ∷ w) b rest) (sym (eqb-true c 123 u)) (braced w b rest r')))
   | inr u ↦ (let e' = rw u at e in absurd (cc))
 ]
 back (Gap n) to c x w b rest e r = (of_digit n c to x w b rest e r).1
@@ -155,13 +152,13 @@ back (Number n) to c x w b rest e r = elim (cases_Bool (c == 125)) [
   | inl u ↦ elim (cases_Bool (is_scalar_value n)) [
     | inl ok ↦ (let e' = rw (u, ok) at e in let s : Within ≡ to = cc in let one : encode_utf8 n ≡ x = cc in
         let i : InString w b rest = subst (λ i. Reaches i w b rest) (sym s) r in
-        λ m d h is. subst (λ (y : List ℕ). Scalars m (d ∷ c ∷ w) (y ++ b) rest) one (subst (λ (k : ℕ). Scalars m (d ∷ k ∷ w) (encode_utf8 n ++ b) rest) (sym (eq_of c 125 u)) (on_close n d w b rest ok i h m is)))
+        λ m d h is. subst (λ (y : List ℕ). Scalars m (d ∷ c ∷ w) (y ++ b) rest) one (subst (λ (k : ℕ). Scalars m (d ∷ k ∷ w) (encode_utf8 n ++ b) rest) (sym (eqb-true c 125 u)) (on_close n d w b rest ok i h m is)))
     | inr ok ↦ (let e' = rw (u, ok) at e in absurd (cc))
   ]
   | inr u ↦ elim (cases_Bool (c == 95)) [
     | inl v ↦ (let e' = rw (u, v) at e in let s : Gap n ≡ to = cc in let none : [] ≡ x = cc in
         let g : Scalars n w b rest = subst (λ i. Reaches i w b rest) (sym s) r in
-        λ m d h is. subst (λ (y : List ℕ). Scalars m (d ∷ c ∷ w) (y ++ b) rest) none (subst (λ (k : ℕ). Scalars m (d ∷ k ∷ w) b rest) (sym (eq_of c 95 v)) (on_gap n d w b rest g h m is)))
+        λ m d h is. subst (λ (y : List ℕ). Scalars m (d ∷ c ∷ w) (y ++ b) rest) none (subst (λ (k : ℕ). Scalars m (d ∷ k ∷ w) b rest) (sym (eqb-true c 95 v)) (on_gap n d w b rest g h m is)))
     | inr v ↦ (let e' : digit_step n c ≡ Go to x = rw (u, v) at e in
         let g = of_digit n c to x w b rest e' r in
         λ m d h is. on_digit n d (c ∷ w) (x ++ b) rest g.1 h m is)
@@ -182,7 +179,7 @@ no_digit n c e = elim (cases_Bool (is_hex c && nat_lt (16 * n + hex_value c) 111
 
 done_within : (s : State) (c : ℕ) → step s c ≡ Done → (s ≡ Within) × (c ≡ 34)
 done_within Within c e = elim (cases_Bool (is_quote c)) [
-  | inl q ↦ (refl, eq_of c 34 q)
+  | inl q ↦ (refl, eqb-true c 34 q)
   | inr q ↦ elim (cases_Bool (is_backslash c)) [
     | inl k ↦ (let e' = rw (q, k) at e in absurd (cc))
     | inr k ↦ elim (cases_Bool (is_string_byte c)) [

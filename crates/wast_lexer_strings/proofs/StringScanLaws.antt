@@ -1,9 +1,8 @@
 -- Laws of the scan of a string.
-use Rattle.std.proofs.Common.{◌≡◌, ℕ, ◌+◌, ◌*◌, ◌<◌, ◌≤◌, Bool, true, false, ◌&&◌, inl, inr, List, [], ◌∷◌, ◌++◌, Option, Some, None, length, take, drop, get_or, refl, sym, ◌∙◌, ap, subst, arith, append_assoc, add-one}
+use Rattle.std.proofs.Common.{◌≡◌, ℕ, ◌+◌, ◌*◌, ◌<◌, ◌≤◌, Bool, true, false, inl, inr, List, [], ◌∷◌, ◌++◌, Option, Some, None, length, take, drop, get_or, refl, sym, ◌∙◌, ap, subst, arith, append_assoc, append-nil}
 use Rattle.std.specs.Prelude.{encode_utf8, nat_lt, ◌==◌, ◌-◌, slice_range}
-use Rattle.std.proofs.Math.Seq.{drop-cons}
-use Rattle.std.proofs.lemmas.List.{drop_all, take_more, get_or-drop, length-drop}
-use Rattle.std.proofs.lemmas.Bool.{cases_Bool}
+use Rattle.std.proofs.lemmas.List.{drop_all, take_more, get_or-drop, length-drop, drop_more}
+use Rattle.std.proofs.lemmas.Bool.{cases_Bool, and_parts, eqb-true}
 use Rattle.std.proofs.lemmas.Bool.Decides.{nat_tests}
 use Rattle.wast_lexer_strings.specs.Strings.{is_quote, is_backslash, is_hex, hex_value, is_string_byte, escaped, is_scalar_value, is_digits, number, Element, Elements, IsString}
 use Rattle.wast_lexer_strings.specs.StringScan.{Read, more, State, on_step, digit_step, step, read}
@@ -15,9 +14,6 @@ use Rattle.wast_lexer_strings.specs.StringScan.Step.{Go}
 abbrev pub spelled : Bool → ℕ → State
 spelled true n = Gap n
 spelled false n = Number n
-
-pub cell : (text : List ℕ) (i : ℕ) → i < length text → drop i text ≡ get_or text i 0 ∷ drop (i + 1) text
-cell text i h = rw (add-one, drop-cons text i 0) refl
 
 pub more_none : (o : Option Read) → more [] o ≡ o
 more_none None = refl
@@ -53,7 +49,7 @@ pub plain_more : (text : List ℕ) (from at : ℕ) → from ≤ at → at < leng
     → read Within (drop from text) ≡ more (slice_range text from (at + 1)) (read Within (drop (at + 1) text))
 plain_more text from at low inside plain inv =
     let c = get_or text at 0 in
-    let one : read Within (drop at text) ≡ more (c ∷ []) (read Within (drop (at + 1) text)) = ap (read Within) (cell text at inside) ∙ read_go Within Within (c ∷ []) c (drop (at + 1) text) (plain_step c plain) in
+    let one : read Within (drop at text) ≡ more (c ∷ []) (read Within (drop (at + 1) text)) = ap (read Within) (drop_more text at 0 inside) ∙ read_go Within Within (c ∷ []) c (drop (at + 1) text) (plain_step c plain) in
     inv ∙ ap (more (slice_range text from at)) one ∙ more_more (slice_range text from at) (c ∷ []) _ ∙ ap (λ b. more b (read Within (drop (at + 1) text))) (range_more text from at low inside)
 
 hex_apart : (c : ℕ) → is_hex c ≡ true → (c == 117) ≡ false
@@ -114,10 +110,6 @@ grows n (c ∷ digits) = elim (cases_Bool (c == 95)) [
 scalar_small : (n : ℕ) → is_scalar_value n ≡ true → n < 1114112
 scalar_small n h = grind (arith, nat_tests)
 
-and_true : (a b : Bool) → (a && b) ≡ true → (a ≡ true) × (b ≡ true)
-and_true true b h = (refl, h)
-and_true false b h = (h, cc)
-
 digits_read : (n : ℕ) (digits : List ℕ) (s : List ℕ) → is_digits digits ≡ true → is_scalar_value (number n digits) ≡ true
     → read (Gap n) (digits ++ 125 ∷ s) ≡ more (encode_utf8 (number n digits)) (read Within s)
 digits_read n [] s h ok = absurd (cc)
@@ -129,7 +121,7 @@ digits_read n (c ∷ []) s h ok =
     read_go (Gap n) (Number m) [] c (125 ∷ s) (number_step n c h (scalar_small m ok'))
     ∙ more_none _ ∙ read_go (Number m) Within (encode_utf8 m) 125 s (close_step m ok') ∙ ap (λ k. more (encode_utf8 k) (read Within s)) (sym is)
 digits_read n (c ∷ d ∷ digits) s h ok =
-    let both = and_true (is_hex c) _ h in
+    let both = and_parts (is_hex c) _ h in
     let a = hex_not c both.0 in
     let m = 16 * n + hex_value c in
     let is : number n (c ∷ d ∷ digits) ≡ number m (d ∷ digits) = rw (number, a.1) refl in
@@ -147,15 +139,12 @@ digits_read n (c ∷ d ∷ digits) s h ok =
           first ∙ as_gap m d (digits ++ 125 ∷ s) (is_hex_first d digits tail) ∙ digits_read m (d ∷ digits) s tail ok' ∙ ap (λ k. more (encode_utf8 k) (read Within s)) (sym is)
     ]
   where
-    eq_95 : (d : ℕ) → (d == 95) ≡ true → d ≡ 95
-    eq_95 d u = grind (arith, nat_tests)
-
     gap_step : (m d : ℕ) → (d == 95) ≡ true → step (Number m) d ≡ Go (Gap m) []
-    gap_step m d u = ap (step (Number m)) (eq_95 d u)
+    gap_step m d u = ap (step (Number m)) (eqb-true d 95 u)
 
     is_hex_first : (d : ℕ) (digits : List ℕ) → is_digits (d ∷ digits) ≡ true → is_hex d ≡ true
     is_hex_first d [] t = t
-    is_hex_first d (e ∷ digits) t = (and_true (is_hex d) _ t).0
+    is_hex_first d (e ∷ digits) t = (and_parts (is_hex d) _ t).0
 
     as_gap : (m d : ℕ) (t : List ℕ) → is_hex d ≡ true → read (Number m) (d ∷ t) ≡ read (Gap m) (d ∷ t)
     as_gap m d t h = ap (λ y. on_step y (λ to bytes. more bytes (read to t)) (Some (record { bytes = []; rest = t })) None) (more_digit m d h)
@@ -171,11 +160,7 @@ elements_read None' s = sym (more_none _)
 elements_read (More {word} {bytes} {text} {rest} e es) s = rw (append_assoc word text s) (element_read e (text ++ s) ∙ ap (more bytes) (elements_read es s) ∙ more_more bytes rest (read Within s))
 
 pub string_read : {t b : List ℕ} → Elements t b → (s : List ℕ) → read Within (t ++ 34 ∷ s) ≡ Some (record { bytes = b; rest = s })
-string_read {t} {b} es s = elements_read es (34 ∷ s) ∙ ap (λ (y : List ℕ). Some (record { bytes = y; rest = s })) (append_none b)
-  where
-    append_none : (b : List ℕ) → b ++ [] ≡ b
-    append_none [] = refl
-    append_none (c ∷ b) = ap (λ (y : List ℕ). c ∷ y) (append_none b)
+string_read {t} {b} es s = elements_read es (34 ∷ s) ∙ ap (λ (y : List ℕ). Some (record { bytes = y; rest = s })) (append-nil b)
 
 pub whole_read : (word bytes : List ℕ) → IsString word bytes → read Within (drop 1 word) ≡ Some (record { bytes = bytes; rest = [] })
 whole_read word bytes s = ap (λ (y : List ℕ). read Within (drop 1 y)) s.2 ∙ string_read s.1 []
@@ -186,21 +171,17 @@ no_more out r h = cc
 pub not_read : (word bytes out : List ℕ) (at : ℕ) → IsString word bytes → read Within (drop 1 word) ≡ more out (read Within (drop at word)) → read Within (drop at word) ≡ None → ⊥
 not_read word bytes out at s inv none = no_more out (record { bytes = bytes; rest = [] }) (sym (whole_read word bytes s) ∙ inv ∙ ap (more out) none)
 
-pub append_none : (b : List ℕ) → b ++ [] ≡ b
-append_none [] = refl
-append_none (c ∷ b) = ap (λ (y : List ℕ). c ∷ y) (append_none b)
-
 abbrev made : List ℕ → List ℕ → Read
 made bytes rest = record { bytes = bytes; rest = rest }
 
 pub all_read : (word bytes out : List ℕ) (at : ℕ) → at < length word → get_or word at 0 ≡ 34 → IsString word bytes → read Within (drop 1 word) ≡ more out (read Within (drop at word)) → IsString word out
 all_read word bytes out at inside q s inv =
-    let here : read Within (drop at word) ≡ Some (record { bytes = []; rest = drop (at + 1) word }) = ap (read Within) (cell word at inside ∙ ap (λ (i : ℕ). i ∷ drop (at + 1) word) q) in
+    let here : read Within (drop at word) ≡ Some (record { bytes = []; rest = drop (at + 1) word }) = ap (read Within) (drop_more word at 0 inside ∙ ap (λ (i : ℕ). i ∷ drop (at + 1) word) q) in
     let left = made bytes [] in
     let right = made (out ++ []) (drop (at + 1) word) in
     let e : Some left ≡ Some right = sym (whole_read word bytes s) ∙ inv ∙ ap (more out) here in
     let is : left ≡ right = cc in
-    subst (IsString word) (ap (λ (y : Read). y.bytes) is ∙ append_none out) s
+    subst (IsString word) (ap (λ (y : Read). y.bytes) is ∙ append-nil out) s
 
 pub past_read : (word bytes out : List ℕ) (at : ℕ) → length word ≤ at → IsString word bytes → read Within (drop 1 word) ≡ more out (read Within (drop at word)) → ⊥
 past_read word bytes out at past s inv = not_read word bytes out at s inv (ap (read Within) (drop_all at word past))

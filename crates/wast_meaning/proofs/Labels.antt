@@ -2,7 +2,7 @@
 use Rattle.std.proofs.Common.{◌≡◌, ℕ, zero, suc, List, [], ◌∷◌, drop, refl, sym, ◌∙◌, ap}
 use Rattle.wasm_encoder_base.specs.Balanced.{Turn, Opens, Closes, Stays}
 use Rattle.wast_field_syntax.specs.InstructionTree.{Instruction}
-use Rattle.wast_meaning.specs.Scope.{turn_of_head, own_label, labels_left, labels_from, open_labels, turned}
+use Rattle.wast_meaning.specs.Scope.{turn_of_head, own_label, labels_left, labels_found, labels_from, open_labels, labels_seen, turned}
 
 drop_more : {A : Type 0} (k : ℕ) (xs : List A) → drop k (drop 1 xs) ≡ drop (suc k) xs
 drop_more zero [] = refl
@@ -28,3 +28,9 @@ fewer (i ∷ before) k =
 pub stacked : {N P : Type 0} (i : Instruction N P) (before : List (Instruction N P)) →
     open_labels (i ∷ before) ≡ labels_left (turn_of_head i.head) (own_label i.operands) (open_labels before)
 stacked i before = turned_drop (turn_of_head i.head) (own_label i.operands) (labels_from before) 0 (fewer before)
+
+-- those among which an instruction looks labels up
+pub found_so : {N P : Type 0} (turn : Turn) (before : List (Instruction N P)) → labels_seen turn before ≡ labels_found turn (open_labels before)
+found_so Opens before = refl
+found_so Closes before = fewer before 1
+found_so Stays before = refl

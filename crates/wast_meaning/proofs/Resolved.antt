@@ -42,7 +42,7 @@ module _ {N P : Type 0} where
       (record { outside = taking_keeps taken p; in_constant = λ before i. taking_keeps taken p; in_function = λ g before i. taking_keeps taken p }) f h
 
   -- NO TYPE IS IMPLIED
-  abbrev unless : Option (Reference N P) → Sig N P → List (Sig N P)
+  abbrev pub unless : Option (Reference N P) → Sig N P → List (Sig N P)
   unless i s = elim i [ None ↦ s ∷ [] | Some j ↦ [] ]
 
   no_use_sig : (i : Option (Reference N P)) (s : Sig N P) → has_number i ≡ true → unless i s ≡ []

@@ -1,6 +1,7 @@
 -- The gaps of stops: how many they are, and which custom sections stand in them.
-use Rattle.std.proofs.Common.{◌≡◌, ℕ, ◌+◌, Bool, true, false, cond, ◌&&◌, ◌||◌, List, [], ◌∷◌, ◌++◌, map, length, filter, refl, sym, ap, ◌∙◌, arith}
+use Rattle.std.proofs.Common.{◌≡◌, ℕ, ◌+◌, Bool, true, false, cond, ◌&&◌, ◌||◌, List, [], ◌∷◌, map, length, filter, refl, sym, ap, ◌∙◌, arith}
 use Rattle.std.specs.List.{flat_map, list_any}
+use Rattle.std.proofs.lemmas.List.Folds.{list_any-append}
 use Rattle.wasm_encoder_base.specs.Table.{same_text}
 use Rattle.wasm_encoder_custom.specs.Custom.{Custom}
 use Rattle.wast_customs.specs.CustomTree as tree
@@ -35,10 +36,6 @@ or_assoc : (a b c : Bool) → ((a || b) || c) ≡ (a || (b || c))
 or_assoc true b c = refl
 or_assoc false b c = refl
 
-any_append : {A : Type 0} (p : A → Bool) (xs ys : List A) → list_any p (xs ++ ys) ≡ (list_any p xs || list_any p ys)
-any_append p [] ys = refl
-any_append p (x ∷ xs) ys = ap (λ b. p x || b) (any_append p xs ys) ∙ sym (or_assoc (p x) (list_any p xs) (list_any p ys))
-
 abbrev place_in : Stop → List CustomPlace
 place_in (At place) = place ∷ []
 place_in (Of kind) = []
@@ -49,7 +46,7 @@ calls name cs = list_any (λ c. same_text name c.name) cs
 called_behind : (name : List ℕ) (xs : List Custom) (gs : List (List Custom)) → is_called name (precede xs gs) ≡ (calls name xs || is_called name gs)
 called_behind name xs [] = refl
 called_behind name xs (g ∷ gs) =
-    ap (λ b. b || is_called name gs) (any_append (λ c. same_text name c.name) xs g) ∙ or_assoc (calls name xs) (calls name g) (is_called name gs)
+    ap (λ b. b || is_called name gs) (list_any-append (λ c. same_text name c.name) xs g) ∙ or_assoc (calls name xs) (calls name g) (is_called name gs)
 
 called_kind : (name : List ℕ) (b : Bool) (gs : List (List Custom)) → is_called name (elim b as (λ b. List (List Custom)) [ true ↦ [] ∷ gs | false ↦ gs ]) ≡ is_called name gs
 called_kind name true gs = refl

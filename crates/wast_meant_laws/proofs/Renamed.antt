@@ -11,7 +11,7 @@ use Rattle.wasm_layout.specs.Lays.{bare}
 use Rattle.wast_resolve_laws.specs.Renamed.{renamed, FieldList, fields_renamed}
 use Rattle.wast_resolve_laws.proofs.Renamed.{renamed_so}
 use Rattle.wast_resolve_laws.proofs.Renamed as one_test
-use Rattle.wast_resolve_laws.proofs.RenamedFields.{names_kept}
+use Rattle.wast_resolve_laws.proofs.RenamedFields.{naming_so, names_kept}
 use Rattle.wast_conversions.specs.Covered.{Form}
 use Rattle.wast_meant.specs.NamesMeant.{GivenName, Identifier, Bytes}
 use Rattle.wast_meant.specs.Covered.{uncovered}
@@ -78,9 +78,6 @@ module _ {N M P Q : Type 0} (names : Iso N M) (places : Iso P Q) where
   form_so : (o : Option (P × Form)) → renamed FoundForm names places o ≡ option_map (form_moved places.fun) o
   form_so o = renamed_so FoundForm (λ N M P Q f g o. option_map (form_moved g) o) (λ N P o. option_still (form_moved (λ p. p)) (λ found. refl) o) names places o
 
-  pub naming_so : (naming : ℕ → N) → renamed (λ N P. ℕ → N) names places naming ≡ (λ n. names.fun (naming n))
-  naming_so naming = renamed_so (λ N P. ℕ → N) (λ N M P Q f g naming. λ n. f (naming n)) (λ N P naming. refl) names places naming
-
   called_so : (o : Option (GivenName N)) → renamed Called names places o ≡ option_map (given_renamed names.fun) o
   called_so o = renamed_so Called (λ N M P Q f g o. option_map (given_renamed f) o) (λ N P o. option_still (given_renamed (λ n. n)) given_still o) names places o
 
@@ -91,7 +88,7 @@ module _ {N M P Q : Type 0} (names : Iso N M) (places : Iso P Q) where
     -- the forms that aren't covered, whatever names are made
     pub uncovered_renamed : (naming : ℕ → N) → uncovered (λ n. names.fun (naming n)) (fields_renamed names places fs) ≡ option_map (form_moved places.fun) (uncovered naming fs)
     uncovered_renamed naming =
-        ap (λ made. uncovered made (fields_renamed names places fs)) (sym (naming_so naming))
+        ap (λ made. uncovered made (fields_renamed names places fs)) (sym (naming_so names places naming))
         ∙ one_test.free Given FoundForm (λ N P eq x. uncovered x.0 x.1) names places eq new keeps (naming, fs)
         ∙ form_so (uncovered naming fs)
 

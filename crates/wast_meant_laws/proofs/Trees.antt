@@ -12,7 +12,7 @@ use Rattle.wasm_layout.specs.AbstractModule.{AbstractModule}
 use Rattle.wasm_layout.specs.Lays.{bare}
 use Rattle.wast_resolve_laws.specs.Renamed.{FieldList}
 use Rattle.wast_resolve_laws.proofs.Renamed.{free}
-use Rattle.wast_resolve_laws.proofs.RenamedFields.{names_kept}
+use Rattle.wast_resolve_laws.proofs.RenamedFields.{naming_so, names_kept}
 use Rattle.wast_meant.specs.NamesMeant.{GivenName}
 use Rattle.wast_meant.specs.Meaning.{Meaning}
 use Rattle.wast_meant.specs.Means.{naming_of}
@@ -20,7 +20,7 @@ use Rattle.wast_meant.specs.Binary.{module_with, bytes_of, in_bytes}
 use Rattle.wast_meant.proofs.OneMeaning.{one_meaning}
 use Rattle.wast_meant_laws.specs.Renamed.{Renaming, MadeStay, renamed_by, tree_renamed, given_renamed}
 use Rattle.wast_meant_laws.proofs.Free.{said}
-use Rattle.wast_meant_laws.proofs.Renamed.{Given, Meant, naming_so, meant_so}
+use Rattle.wast_meant_laws.proofs.Renamed.{Given, Meant, meant_so}
 use Rattle.wast_meant_laws.proofs.Bare.{bare_renamed}
 
 -- fresh names, a tree and a module

@@ -6,6 +6,7 @@ use Rattle.wasm_encoder_custom.specs.Custom.{Custom}
 use Rattle.wast_customs.specs.CustomTree.{CustomPlace}
 use Rattle.wasm_layout.specs.Section.{SectionKind}
 use Rattle.wasm_layout.specs.Layout.{if_there, Section, Piece, Known, Free, weave}
+use Rattle.wasm_layout.proofs.HintPlaces.{no_gaps}
 use Rattle.wast_meant.specs.CustomsMeant.{Stop, At, Of, precede, gaps_from}
 use Rattle.wast_meant_laws.specs.Stops.{stop_pieces}
 
@@ -13,10 +14,6 @@ use Rattle.wast_meant_laws.specs.Stops.{stop_pieces}
 abbrev pub kind_in : Stop → List SectionKind
 kind_in (At place) = []
 kind_in (Of kind) = kind ∷ []
-
-no_gaps : (ss : List Section) → weave ss [] ≡ map Known ss
-no_gaps [] = refl
-no_gaps (s ∷ ss) = refl
 
 -- what precedes the first gap stands in front
 woven_behind : (ss : List Section) (xs : List Custom) (gaps : List (List Custom)) → weave ss (precede xs gaps) ≡ map Free xs ++ weave ss gaps

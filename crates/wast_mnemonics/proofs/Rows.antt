@@ -2,14 +2,14 @@
 use Rattle.std.proofs.Common.{slice_get, take, ◌∷◌, Bool, ◌≡◌, ℕ, true, false, List, [], map, length, Option, Some, None, option_map, refl, sym, ap, ◌∙◌, subst, nat_eq, nat_le, cond, ◌&&◌, is_some}
 use Rattle.std.proofs.lemmas.Bool.{and_parts}
 use Rattle.std.proofs.lemmas.Bool.Decides.{Decides-eqb}
-use Rattle.std.proofs.lemmas.Option.{slice_get-map}
+use Rattle.std.proofs.lemmas.Option.{slice_get-map, same_Some}
 use Rattle.std.specs.Cmp.Lexicographic.{bytes_decides}
 use Rattle.wasm_encoder_base.specs.Table.{table}
 use Rattle.wasm_encoder_base.specs.Uncovered.{uncovered}
 use Rattle.wasm_encoder_base.specs.Leb.{uleb, leb, digits}
 use Rattle.wast_grammar.specs.Spelling.{find_by, any_is, same_text}
 use Rattle.wast_grammar.proofs.GrammarLaws.{any_found}
-use Rattle.wast_grammar.proofs.Looks.{some_one}
+use Rattle.wast_grammar.proofs.Looks.{heads_same, tails_same}
 use Rattle.wast_mnemonics.specs.Laws.{EveryWord}
 use Rattle.wast_mnemonics.specs.declared.table.TheConstants.{LONGEST, WORDS}
 use Rattle.wast_mnemonics.specs.TextTable.{TextEntry, text_table}
@@ -33,20 +33,14 @@ all_there : all_placed (map mnemonic text_table) ≡ true
 unfolding all_placed row_number hash text_table table uncovered uleb leb digits
 all_there = refl
 
-same_first : {A : Type 0} {x y : A} {xs ys : List A} → x ∷ xs ≡ y ∷ ys → x ≡ y
-same_first h = cc
-
-same_others : {A : Type 0} {x y : A} {xs ys : List A} → x ∷ xs ≡ y ∷ ys → xs ≡ ys
-same_others h = cc
-
 -- what two functions agree on in all of a list they agree on in what is found there
 agree_step : {A B : Type 0} (f g : A → B) (b : Bool) (x e : A) (o : Option A) → f x ≡ g x → (o ≡ Some e → f e ≡ g e) → cond b (Some x) o ≡ Some e → f e ≡ g e
-agree_step f g true x e o first others q = subst (λ y. f y ≡ g y) (some_one _ _ q) first
+agree_step f g true x e o first others q = subst (λ y. f y ≡ g y) (same_Some _ _ q) first
 agree_step f g false x e o first others q = others q
 
 agree_found : {A B : Type 0} (word : A → List ℕ) (f g : A → B) (w : List ℕ) (es : List A) (e : A) → map f es ≡ map g es → find_by word w es ≡ Some e → f e ≡ g e
 agree_found word f g w [] e h k = cc
-agree_found word f g w (x ∷ es) e h k = agree_step f g (same_text w (word x)) x e (find_by word w es) (same_first h) (agree_found word f g w es e (same_others h)) k
+agree_found word f g w (x ∷ es) e h k = agree_step f g (same_text w (word x)) x e (find_by word w es) (heads_same h) (agree_found word f g w es e (tails_same h)) k
 
 -- the entry of a word is that of its mnemonic
 pub every_word : EveryWord
@@ -61,7 +55,7 @@ not_found t e = none_of (find_by mnemonic t text_table) (sym (any_found mnemonic
 
 -- what two functions agree on in all of a list they agree on at each place
 agree_at : {A B : Type 0} (f g : A → B) (es : List A) (n : ℕ) (e : A) → map f es ≡ map g es → slice_get es n ≡ Some e → f e ≡ g e
-agree_at f g es n e h k = some_one _ _ (sym (ap (option_map f) k) ∙ sym (slice_get-map f es n) ∙ ap (λ l. slice_get l n) h ∙ slice_get-map g es n ∙ ap (option_map g) k)
+agree_at f g es n e h k = same_Some _ _ (sym (ap (option_map f) k) ∙ sym (slice_get-map f es n) ∙ ap (λ l. slice_get l n) h ∙ slice_get-map g es n ∙ ap (option_map g) k)
 
 text_is : (t : List ℕ) (r : Row) → has_text t r ≡ true → text_of r ≡ t
 text_is t r h =

@@ -1,11 +1,10 @@
 -- The laws of fields: each mirrors its production.
 use Rattle.std.proofs.Common.{[], ◌∷◌, refl}
 use Rattle.std.specs.Prelude.{codes}
-use Rattle.wast_parser.specs.Look.{this_group}
+use Rattle.wast_parser.specs.Look.{this_group, type_starts}
 use Rattle.wast_parser.specs.Lawful.{Lawful}
 use Rattle.wast_parser.proofs.GrammarLaws.{word_laws, seen_laws, seq_laws, either_laws, paren_laws}
 use Rattle.wast_parser.proofs.IdentifierLaws.{index_laws}
-use Rattle.wast_signatures.specs.TypeSyntax.{type_starts}
 use Rattle.wast_core_types.proofs.TypeLaws.{type_item_laws, rec_group_laws}
 use Rattle.wast_exports.specs.Exports.{export_starts, import_starts}
 use Rattle.wast_exports.proofs.ExportLaws.{export_laws}

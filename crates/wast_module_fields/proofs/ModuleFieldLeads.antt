@@ -1,12 +1,12 @@
 -- Where fields begin.
 use Rattle.std.proofs.Common.{◌≡◌, ℕ, List, [], ◌∷◌, ◌++◌, refl, codes}
 use Rattle.wast_parser.specs.Tokens.{Close, Word}
-use Rattle.wast_parser.specs.Look.{this_group}
+use Rattle.wast_parser.specs.Look.{this_group, type_starts}
 use Rattle.wast_parser.specs.Lawful.{Lawful, Leads}
 use Rattle.wast_parser.specs.Grammar.{Syntax, paren}
 use Rattle.wast_parser.specs.Identifiers.{ByNumber}
 use Rattle.wast_parser.proofs.LeadLaws.{seen_leads, either_leads}
-use Rattle.wast_signatures.specs.TypeSyntax.{type_starts, rec_body}
+use Rattle.wast_signatures.specs.TypeSyntax.{rec_body}
 use Rattle.wast_core_types.proofs.TypeLaws.{rec_group_laws}
 use Rattle.wast_core_types.proofs.Samples.{type_item_leads}
 use Rattle.wast_exports.specs.Exports.{export_starts, import_starts, export_body}

@@ -12,19 +12,10 @@ use Rattle.wasm_encoder_base.specs.Lists.{Listed, listed, list_bytes, with_item,
 use Rattle.wasm_encoder_custom.specs.Names.{naming_bytes, inner_naming_bytes}
 use Rattle.wasm_layout.specs.AbstractModule.{Naming, InnerNaming}
 use Rattle.wasm_layout.specs.Layout as layout
-use Rattle.wast_meant.specs.NamesMeant.{naming, named_from, named, inner_naming, inner_from, inner_named}
+use Rattle.wast_meant.specs.NamesMeant.{entries, naming, named, inner_naming, group_naming, inner_named}
 use Rattle.wast_name_maps.specs.Listed.{name_item, inner_item}
-use Rattle.wast_name_maps.specs.Numbered.{Numbered, none_yet, entries, Fit, NameFits, NamesJoined, GroupFits, group_naming, GroupsJoined, GroupsJoin}
+use Rattle.wast_name_maps.specs.Numbered.{Numbered, none_yet, Fit, NameFits, NamesJoined, GroupFits, GroupsJoined, GroupsJoin}
 use Rattle.wast_name_maps.proofs.Joining.{joined_nothing, joined_single, fit_nothing, can_single, room_single}
-
--- ENTRIES are what has names
-pub named_are : {A : Type 0} (n : ℕ) (os : List (Option A)) → entries naming n os ≡ named_from n os
-named_are n [] = refl
-named_are n (o ∷ os) = ap (λ v. naming n o ++ v) (named_are (suc n) os)
-
-pub groups_are : (n : ℕ) (gs : List (List (Option (List ℕ)))) → entries group_naming n gs ≡ inner_from n gs
-groups_are n [] = refl
-groups_are n (g ∷ gs) = ap (λ v. inner_naming n (named g) ++ v) (groups_are (suc n) gs)
 
 -- ONE NAME
 abbrev at : Listed → ℕ → Numbered
@@ -46,7 +37,7 @@ names_passed s new k h = joined_nothing s new (replicate k None) (none_named s.n
 pub list_is : (names : Numbered) (os : List (Option (List ℕ))) → NamesJoined none_yet names os → names.list ≡ listed name_item (named os)
 list_is names os h =
     let es = entries naming 0 os in
-    ap (λ (s : Numbered). s.list) h.same ∙ ap (λ n. record { count = n; bytes = flat_map name_item es }) (zero-add (length es)) ∙ ap (listed name_item) (named_are 0 os)
+    ap (λ (s : Numbered). s.list) h.same ∙ ap (λ n. record { count = n; bytes = flat_map name_item es }) (zero-add (length es))
 
 pub map_bytes : (ns : List (Naming (List ℕ))) → list_bytes (listed name_item ns) ≡ counted naming_bytes (map layout.naming ns)
 map_bytes ns = ap (λ n. uleb n ++ flat_map name_item ns) (sym (length-map ns layout.naming)) ∙ ap (λ b. uleb (length (map layout.naming ns)) ++ b) (sym (flat_map-map naming_bytes layout.naming ns))
@@ -61,7 +52,7 @@ from_none ns h = omega arith
 pub groups_list_is : (groups : Numbered) (gs : List (List (Option (List ℕ)))) → GroupsJoined none_yet groups gs → groups.list ≡ listed inner_item (inner_named gs)
 groups_list_is groups gs h =
     let es = entries group_naming 0 gs in
-    ap (λ (s : Numbered). s.list) h.same ∙ ap (λ n. record { count = n; bytes = flat_map inner_item es }) (zero-add (length es)) ∙ ap (listed inner_item) (groups_are 0 gs)
+    ap (λ (s : Numbered). s.list) h.same ∙ ap (λ n. record { count = n; bytes = flat_map inner_item es }) (zero-add (length es))
 
 pub inner_bytes : (ns : List (InnerNaming (List ℕ))) → list_bytes (listed inner_item ns) ≡ counted inner_naming_bytes (map layout.inner_naming ns)
 inner_bytes ns = ap (λ n. uleb n ++ flat_map inner_item ns) (sym (length-map ns layout.inner_naming)) ∙ ap (λ b. uleb (length (map layout.inner_naming ns)) ++ b) (sym (flat_map-map inner_naming_bytes layout.inner_naming ns))
@@ -82,7 +73,7 @@ group_joins {T} r names os list new n h some = of (named os) refl r
         let ns = x ∷ xs in
         let b : InnerNaming (List ℕ) = record { index = n; names = ns } in
         let bytes : list_bytes names.list ≡ counted naming_bytes (map layout.naming ns) = ap list_bytes (list_is names os h ∙ ap (listed name_item) e) ∙ map_bytes ns in
-        let all : entries naming 0 os ≡ ns = named_are 0 os ∙ e in
+        let all : entries naming 0 os ≡ ns = e in
         joined_single (at list n) (at new (n + 1)) (os ∷ []) b (some_inside n os x xs e) (ap (λ l. at l (n + 1)) (same ∙ ap (λ v. with_item list (uleb n ++ v)) bytes))
         (record { index = index; each = subst (AllByRecursion NameFits) all h.fit.each; count = small_count (x ∷ xs) (subst (λ v. 0 < length v → 0 + length v < 2 ^ 32) all h.fit.count (omega arith)) }) room
     of (x ∷ xs) e (Err y) same index room large = λ is fits.
@@ -95,11 +86,13 @@ inside_fits : (s : Numbered) (os : List (Option (List ℕ))) → Fit group_namin
 inside_fits s os h = of (named os) refl
   where
     of : (ns : List (Naming (List ℕ))) → named os ≡ ns → Fit naming NameFits none_yet os
-    of [] e = fit_nothing none_yet os (named_are 0 os ∙ e)
+    of [] e =
+        let all : entries naming 0 os ≡ [] = e in
+        fit_nothing none_yet os all
     of (x ∷ xs) e =
         let b : InnerNaming (List ℕ) = record { index = s.next; names = x ∷ xs } in
         let can : GroupFits b = can_single s (os ∷ []) b (some_inside s.next os x xs e) h in
-        let all : entries naming 0 os ≡ x ∷ xs = named_are 0 os ∙ e in
+        let all : entries naming 0 os ≡ x ∷ xs = e in
         record { each = subst (AllByRecursion NameFits) (sym all) can.each; count = subst (λ v. 0 < length v → 0 + length v < 2 ^ 32) (sym all) (λ l. from_none (x ∷ xs) can.count) }
 
 pub unfit_inside : (s : Numbered) (os : List (Option (List ℕ))) (e : EncodeError) → (e ≡ TooLarge → ¬ Fit naming NameFits none_yet os) → e ≡ TooLarge → ¬ Fit group_naming GroupFits s (os ∷ [])

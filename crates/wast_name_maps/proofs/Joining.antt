@@ -6,8 +6,9 @@ use Rattle.wasm_encoder_bytes.specs.declared.error.EncodeError.{EncodeError}
 use Rattle.wasm_encoder_bytes.specs.declared.error.EncodeError.TheVariants.{TooLarge}
 use Rattle.wasm_encoder_base.specs.Lists.{with_item, with_items, HasRoom}
 use Rattle.wasm_layout.proofs.Joined.{all_joined, all_front, all_back}
+use Rattle.wast_meant.specs.NamesMeant.{entries}
 use Rattle.wast_spaces.proofs.Joins.{one_more, all_of}
-use Rattle.wast_name_maps.specs.Numbered.{Numbered, none_yet, entries, behind, Fit, Joined, Joins}
+use Rattle.wast_name_maps.specs.Numbered.{Numbered, none_yet, behind, Fit, Joined, Joins}
 
 -- SO MANY: counts that fit together, and apart
 count_front : (c a b : ℕ) → (0 < a + b → c + (a + b) < 2 ^ 32) → 0 < a → c + a < 2 ^ 32

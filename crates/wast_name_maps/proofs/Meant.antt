@@ -5,6 +5,7 @@ use Rattle.std.specs.List.{flat_map, list_all}
 use Rattle.std.proofs.lemmas.List.{map-append}
 use Rattle.std.proofs.lemmas.List.Elements.{filter-append}
 use Rattle.std.proofs.lemmas.Option.{slice_get-map}
+use Rattle.std.proofs.lemmas.Simd.{map-map}
 use Rattle.wasm_encoder_base.specs.Balanced.{Turn, Opens, Closes, Stays}
 use Rattle.wasm_encoder_base.specs.Table.{Space, Types}
 use Rattle.wasm_encoder_custom.specs.Names as binary
@@ -54,10 +55,6 @@ module _ {A B : Type 0} (f : A → B) where
       ∙ ap (λ v. inner_naming n (named (map (option_map f) g)) ++ v) (inner_named_with (suc n) gs)
 
 -- LISTS
-map_twice : {A B C : Type 0} (g : B → C) (f : A → B) (xs : List A) → map g (map f xs) ≡ map (λ x. g (f x)) xs
-map_twice g f [] = refl
-map_twice g f (x ∷ xs) = ap (λ v. g (f x) ∷ v) (map_twice g f xs)
-
 abbrev all_bytes : List (Option (GivenName Name)) → List (Option (List ℕ))
 all_bytes names = map (option_map bytes_of) names
 
@@ -79,7 +76,7 @@ items_meant given_as id fs space =
 
 -- LOCALS
 local_seen : (ls : List (Local Name ℕ)) → all_bytes (meant.local_names is_made ls) ≡ local_names ls
-local_seen ls = map_twice (option_map bytes_of) (λ l. given_name is_made l.given l.id) ls
+local_seen ls = map-map (option_map bytes_of) (λ l. given_name is_made l.given l.id) ls
 
 sig_seen : (s : Option (Sig Name ℕ)) → all_bytes (meant.param_names is_made s) ≡ sig_names s
 sig_seen s = local_seen (unwrap_or s no_sig).params
@@ -343,14 +340,14 @@ module _ (fs : List (Field Name ℕ)) where
 
   locals_meant : are_settled fs ≡ true → map all_bytes (map (names_of_locals is_made (scope_of same_name fs)) (flat_map bodies_in fs)) ≡ groups_for binary.Locals
   locals_meant h =
-      map_twice all_bytes (names_of_locals is_made (scope_of same_name fs)) (flat_map bodies_in fs)
+      map-map all_bytes (names_of_locals is_made (scope_of same_name fs)) (flat_map bodies_in fs)
       ∙ fields_seen (scope_of same_name fs) (counts_in fs) (scope_counts fs h) fs h
       ∙ gathered bodies_in (locals_by (counts_in fs)) (field_groups binary.Locals (counts_in fs))
       (functions_in binary.Locals (counts_in fs) (locals_by (counts_in fs)) (λ f. refl) refl (λ u. refl) (λ t. refl)) fs
 
   labels_meant : map all_bytes (map (names_of_labels is_made) (flat_map bodies_in fs)) ≡ groups_for binary.Labels
   labels_meant =
-      map_twice all_bytes (names_of_labels is_made) (flat_map bodies_in fs)
+      map-map all_bytes (names_of_labels is_made) (flat_map bodies_in fs)
       ∙ (λ i. map (λ o. labels_seen o i) (flat_map bodies_in fs))
       ∙ gathered bodies_in labels_of (field_groups binary.Labels (counts_in fs)) (functions_in binary.Labels (counts_in fs) labels_of (λ f. refl) refl (λ u. refl) (λ t. refl)) fs
 
@@ -359,11 +356,11 @@ module _ (fs : List (Field Name ℕ)) where
 
   fields_meant : map all_bytes (map (λ b. map (identifier is_made) b.fields) (items_in Types fs)) ≡ groups_for binary.Fields
   fields_meant =
-      map_twice all_bytes (λ b. map (identifier is_made) b.fields) (items_in Types fs)
+      map-map all_bytes (λ b. map (identifier is_made) b.fields) (items_in Types fs)
       ∙ ap (map (λ b. all_bytes (map (identifier is_made) b.fields))) (types_are fs)
-      ∙ map_twice (λ b. all_bytes (map (identifier is_made) b.fields)) bound_type (types_in fs)
-      ∙ map_twice (λ t. all_bytes (map (identifier is_made) (fields_of t.definition.comp.inner))) (λ t. t.0) (flat_map written_types fs)
-      ∙ (λ i. map (λ t. map_twice (option_map bytes_of) (identifier is_made) (fields_of t.0.definition.comp.inner) i) (flat_map written_types fs))
+      ∙ map-map (λ b. all_bytes (map (identifier is_made) b.fields)) bound_type (types_in fs)
+      ∙ map-map (λ t. all_bytes (map (identifier is_made) (fields_of t.definition.comp.inner))) (λ t. t.0) (flat_map written_types fs)
+      ∙ (λ i. map (λ t. map-map (option_map bytes_of) (identifier is_made) (fields_of t.0.definition.comp.inner) i) (flat_map written_types fs))
       ∙ gathered written_types field_names (field_groups binary.Fields (counts_in fs)) (types_written binary.Fields (counts_in fs) field_names (λ t b. refl) refl (λ u. refl) (λ f. refl)) fs
 
   abbrev type_params : TypeItem Name ℕ × Bool → Names
@@ -371,13 +368,13 @@ module _ (fs : List (Field Name ℕ)) where
 
   params_meant : map all_bytes (map (λ t. meant.param_names is_made (func_sig t.0.definition.comp.inner)) (flat_map written_types fs)) ≡ groups_for binary.Parameters
   params_meant =
-      map_twice all_bytes (λ t. meant.param_names is_made (func_sig t.0.definition.comp.inner)) (flat_map written_types fs)
+      map-map all_bytes (λ t. meant.param_names is_made (func_sig t.0.definition.comp.inner)) (flat_map written_types fs)
       ∙ (λ i. map (λ t. sig_seen (func_sig t.0.definition.comp.inner) i) (flat_map written_types fs))
       ∙ gathered written_types type_params (field_groups binary.Parameters (counts_in fs)) (types_written binary.Parameters (counts_in fs) type_params (λ t b. refl) refl (λ u. refl) (λ f. refl)) fs
 
   tag_params_meant : map all_bytes (map (λ u. meant.param_names is_made u.inline) (flat_map tags_in fs)) ≡ groups_for binary.TagParameters
   tag_params_meant =
-      map_twice all_bytes (λ u. meant.param_names is_made u.inline) (flat_map tags_in fs)
+      map-map all_bytes (λ u. meant.param_names is_made u.inline) (flat_map tags_in fs)
       ∙ (λ i. map (λ u. sig_seen u.inline i) (flat_map tags_in fs))
       ∙ gathered tags_in (tag_names (counts_in fs)) (field_groups binary.TagParameters (counts_in fs)) (tags_of (counts_in fs)) fs
 

@@ -19,12 +19,12 @@ use Rattle.wasm_layout.specs.Present.{MapKind, OfItems, Inner, map_order, has_an
 use Rattle.wasm_layout.specs.Present.MapKind.{OfModule}
 use Rattle.wasm_layout.specs.IsModule.{Rise, IsMap, IsInner, AreInner, AreNames}
 use Rattle.wast_meant.specs.NamesMeant as meant
-use Rattle.wast_meant.specs.NamesMeant.{named, named_from, inner_named, inner_from}
+use Rattle.wast_meant.specs.NamesMeant.{entries, named, named_from, group_naming, inner_named, inner_from}
 use Rattle.wast_name_maps.specs.Listed.{name_item, inner_item}
-use Rattle.wast_name_maps.specs.Numbered.{Numbered, none_yet, entries, Fit, NameFits, NamesJoined, GroupFits, group_naming, GroupsJoined}
+use Rattle.wast_name_maps.specs.Numbered.{Numbered, none_yet, Fit, NameFits, NamesJoined, GroupFits, GroupsJoined}
 use Rattle.wasm_layout.proofs.Joined.{all_joined}
 use Rattle.wast_name_maps.proofs.Joining.{flat_of}
-use Rattle.wast_name_maps.proofs.Entries.{named_are, groups_are, list_is, groups_list_is, map_bytes, inner_bytes}
+use Rattle.wast_name_maps.proofs.Entries.{list_is, groups_list_is, map_bytes, inner_bytes}
 use Rattle.wast_name_maps.specs.Fits.{NamesFit}
 use Rattle.wast_name_maps.specs.Kinds.{map_view}
 use Rattle.wast_name_maps.specs.Maps.{section_data}
@@ -127,7 +127,7 @@ items_size_fits names s h = subst (λ b. length b < 2 ^ 32) (sym (map_bytes (nam
 pub items_fit : (names : NameMaps (List ℕ)) (s : Space) (os : List (Option (List ℕ))) → named os ≡ names.items s → NamesFit names → Fit meant.naming NameFits none_yet os
 items_fit names s os same h =
     let ns = names.items s in
-    let all : entries meant.naming 0 os ≡ ns = named_are 0 os ∙ same in
+    let all : entries meant.naming 0 os ≡ ns = same in
     let size = items_size_fits names s h in
     let parts = length-append (uleb (length ns)) (flat_map name_item ns) in
     let few = few_names ns in
@@ -143,7 +143,7 @@ inside_size_fits names s h = subst (λ b. length b < 2 ^ 32) (sym (inner_bytes (
 pub inside_fit : (names : NameMaps (List ℕ)) (s : InnerSpace) (gs : List (List (Option (List ℕ)))) → inner_named gs ≡ names.inner s → NamesFit names → Fit group_naming GroupFits none_yet gs
 inside_fit names s gs same h =
     let ns = names.inner s in
-    let all : entries group_naming 0 gs ≡ ns = groups_are 0 gs ∙ same in
+    let all : entries group_naming 0 gs ≡ ns = same in
     let size = inside_size_fits names s h in
     let parts = length-append (uleb (length ns)) (flat_map inner_item ns) in
     let few = few_groups ns in
@@ -159,7 +159,7 @@ rises n least (None ∷ os) l h = rises (suc n) least os (omega arith) h
 rises n least (Some name ∷ os) l h = (l, h.0.index, rises (suc n) (suc n) os (le_refl (suc n)) h.1)
 
 pub items_rise : (os : List (Option (List ℕ))) → Fit meant.naming NameFits none_yet os → IsMap (named os)
-items_rise os h = rises 0 0 os (le_refl 0) (subst (AllByRecursion NameFits) (named_are 0 os) h.each)
+items_rise os h = rises 0 0 os (le_refl 0) h.each
 
 groups_rise : (n least : ℕ) (gs : List (List (Option (List ℕ)))) → least ≤ n → AllByRecursion GroupFits (inner_from n gs) → Rise least (map (λ r. r.index) (inner_from n gs))
 groups_rise n least [] l h = tt
@@ -182,8 +182,7 @@ groups_inner n (g ∷ gs) h = of (named g) refl (groups_inner (suc n) gs) h
 
 pub inside_rise : (gs : List (List (Option (List ℕ)))) → Fit group_naming GroupFits none_yet gs → AreInner (inner_named gs)
 inside_rise gs h =
-    let each = subst (AllByRecursion GroupFits) (groups_are 0 gs) h.each in
-    record { indices = groups_rise 0 0 gs (le_refl 0) each; each = groups_inner 0 gs each }
+    record { indices = groups_rise 0 0 gs (le_refl 0) h.each; each = groups_inner 0 gs h.each }
 
 -- ONE SUBSECTION of the list of a map
 pub nothing_if : (number : ℕ) (list : Listed) (base : List ℕ) → nat_eq list.count 0 ≡ true → base ≡ base ++ subsection_if number list

@@ -1,19 +1,16 @@
 -- Items that join a space one after the other.
-use Rattle.std.proofs.Common.{◌≡◌, ℕ, zero, suc, ◌+◌, ◌<◌, ◌≤◌, List, [], ◌∷◌, ◌++◌, Option, None, map, take, length, get_or, refl, sym, ◌∙◌, ap, add-one}
+use Rattle.std.proofs.Common.{◌≡◌, ℕ, zero, suc, ◌+◌, ◌<◌, ◌≤◌, List, [], ◌∷◌, ◌++◌, Option, None, map, take, length, replicate, get_or, refl, sym, ◌∙◌, ap, add-one}
 use Rattle.std.proofs.lemmas.List.{map-append, take_more, take_all}
+use Rattle.std.proofs.lemmas.Simd.{map-map}
 use Rattle.wast_grammar.specs.Tokens.{Name}
 use Rattle.wast_grammar.specs.Spelling.{same_name}
 use Rattle.wast_parser.specs.Identifiers.{Named}
 use Rattle.wast_names.specs.Space as names
 use Rattle.wast_names.proofs.Walk.{reached_append}
-use Rattle.wast_numbered.specs.Place.{so_many, joined}
+use Rattle.wast_numbered.specs.Place.{joined}
 
 abbrev grows : names.Space Name → Option (Named Name ℕ) → names.Space Name
 grows t id = names.grown same_name t (names.name_in id)
-
-pub twice : {X Y Z : Type 0} (g : Y → Z) (h : X → Y) (xs : List X) → map (λ x. g (h x)) xs ≡ map g (map h xs)
-twice g h [] = refl
-twice g h (x ∷ xs) = ap (λ l. g (h x) ∷ l) (twice g h xs)
 
 -- LOOPS
 pub joined_more : {X : Type 0} (v : X → Option (Named Name ℕ)) (s now new : names.Space Name) (xs : List X) (i : ℕ) (x : X) → i < length xs → x ≡ get_or xs i x
@@ -24,12 +21,12 @@ joined_more v s now new xs i x lt at before grown =
 
 pub joined_all : {X Y : Type 0} (g : Y → Option (Named Name ℕ)) (h : X → Y) (s now : names.Space Name) (xs : List X) (i : ℕ) → length xs ≤ i
     → now ≡ joined s (map (λ x. g (h x)) (take i xs)) → now ≡ joined s (map g (map h xs))
-joined_all g h s now xs i end before = before ∙ ap (λ l. joined s (map (λ x. g (h x)) l)) (take_all i xs end) ∙ ap (joined s) (twice g h xs)
+joined_all g h s now xs i end before = before ∙ ap (λ l. joined s (map (λ x. g (h x)) l)) (take_all i xs end) ∙ ap (joined s) (sym (map-map g h xs))
 
 -- one more without a name
-one_later : (n : ℕ) (s : names.Space Name) → joined (names.grown same_name s None) (so_many None n) ≡ names.grown same_name (joined s (so_many None n)) None
+one_later : (n : ℕ) (s : names.Space Name) → joined (names.grown same_name s None) (replicate n None) ≡ names.grown same_name (joined s (replicate n None)) None
 one_later zero s = refl
 one_later (suc n) s = one_later n (names.grown same_name s None)
 
-pub nameless_more : (s now new : names.Space Name) (n : ℕ) → now ≡ joined s (so_many None n) → new ≡ names.grown same_name now None → new ≡ joined s (so_many None (n + 1))
+pub nameless_more : (s now new : names.Space Name) (n : ℕ) → now ≡ joined s (replicate n None) → new ≡ names.grown same_name now None → new ≡ joined s (replicate (n + 1) None)
 nameless_more s now new n before grown = rw (add-one) (grown ∙ ap (λ t. names.grown same_name t None) before ∙ sym (one_later n s))

@@ -22,12 +22,12 @@ use Rattle.wast_core_instr.specs.declared.proposal.ProposalOp.{ProposalOp}
 use Rattle.wast_core_instr.specs.declared.proposal.ProposalOp.TheVariants as proposals
 use Rattle.wast_meaning.specs.Changed.{instr_changed, instrs_changed}
 use Rattle.wast_meaning.specs.Numbered.{numbering}
-use Rattle.wast_meaning.specs.Scope.{turn_of_head, own_label, labels_left, labels_seen, open_labels}
+use Rattle.wast_meaning.specs.Scope.{turn_of_head, own_label, labels_left, labels_found, labels_seen, open_labels}
 use Rattle.wast_meaning.specs.Spaces.{listed}
-use Rattle.wast_meaning.proofs.Labels.{fewer, stacked}
+use Rattle.wast_meaning.proofs.Labels.{stacked, found_so}
 use Rattle.wast_spaces.specs.declared.spaces.Spaces.{Spaces}
 use Rattle.wast_numbered.specs.Place.{by_place, here}
-use Rattle.wast_numbered.specs.Steps.{behind, seen, step_of}
+use Rattle.wast_numbered.specs.Steps.{behind, step_of}
 
 -- INSTRUCTIONS WITHOUT A LABEL of their own
 bulk_unlabelled : (op : BulkOp) → None ≡ own_label (bulk_operands op)
@@ -64,12 +64,7 @@ unlabelled i b l c t u = refl
 abbrev Blocks : Type 0
 Blocks = List (Option (Named Name ℕ))
 
-seen_so : (t : Turn) (before : List (spec.Instruction Name ℕ)) → seen t (open_labels before) ≡ labels_seen t before
-seen_so Opens before = refl
-seen_so Closes before = sym (fewer before 1)
-seen_so Stays before = refl
-
-behind_so : {A : Type 0} (t : Turn) (label : A) (labels : List A) → behind t label (seen t labels) ≡ labels_left t label labels
+behind_so : {A : Type 0} (t : Turn) (label : A) (labels : List A) → behind t label (labels_found t labels) ≡ labels_left t label labels
 behind_so Opens label labels = refl
 behind_so Closes label labels = refl
 behind_so Stays label labels = refl
@@ -89,12 +84,12 @@ abbrev pub Does : Type 0
 Does = Turn × Option (Named Name ℕ)
 
 pub labels_more : (xs : List Instruction) (x : Instruction) (step : Does) (labels new : Blocks) → step ≡ step_of (instruction_tree x) → labels ≡ open_labels (before_now xs)
-    → new ≡ behind step.0 step.1 (seen step.0 labels) → new ≡ open_labels (before_now (xs ++ x ∷ []))
+    → new ≡ behind step.0 step.1 (labels_found step.0 labels) → new ≡ open_labels (before_now (xs ++ x ∷ []))
 labels_more xs x step labels new is before next =
     let i = instruction_tree x in
     next
-    ∙ ap (λ l. behind step.0 step.1 (seen step.0 l)) before
-    ∙ ap (λ (s : Does). behind s.0 s.1 (seen s.0 (open_labels (before_now xs)))) is
+    ∙ ap (λ l. behind step.0 step.1 (labels_found step.0 l)) before
+    ∙ ap (λ (s : Does). behind s.0 s.1 (labels_found s.0 (open_labels (before_now xs)))) is
     ∙ behind_so (turn_of_head i.head) (own_label i.operands) (open_labels (before_now xs))
     ∙ sym (stacked i (before_now xs))
     ∙ ap open_labels (sym (before_more xs x))
@@ -105,13 +100,13 @@ module _ (s : Spaces) (locals : names.Space Name) where
 
   pub made_more : (xs : List Instruction) (x y : Instruction) (made new : List Instruction) (step : Does) (labels : Blocks) → step ≡ step_of (instruction_tree x) → labels ≡ open_labels (before_now xs)
       → map instruction_tree made ≡ instrs_changed (by_place s locals) [] (map instruction_tree xs)
-      → instruction_tree y ≡ instr_changed (numbering (here s locals (listed same_name (seen step.0 labels)))) (instruction_tree x)
+      → instruction_tree y ≡ instr_changed (numbering (here s locals (listed same_name (labels_found step.0 labels)))) (instruction_tree x)
       → new ≡ made ++ y ∷ []
       → map instruction_tree new ≡ instrs_changed (by_place s locals) [] (map instruction_tree (xs ++ x ∷ []))
   made_more xs x y made new step labels is before made_so y_so push =
       let i = instruction_tree x in
-      let seen_here : seen step.0 labels ≡ labels_seen (turn_of_head i.head) (before_now xs)
-      = ap (seen step.0) before ∙ ap (λ (s : Does). seen s.0 (open_labels (before_now xs))) is ∙ seen_so (turn_of_head i.head) (before_now xs) in
+      let seen_here : labels_found step.0 labels ≡ labels_seen (turn_of_head i.head) (before_now xs)
+      = ap (labels_found step.0) before ∙ ap (λ (s : Does). labels_found s.0 (open_labels (before_now xs))) is ∙ sym (found_so (turn_of_head i.head) (before_now xs)) in
       let tree : instruction_tree y ≡ instr_changed (by_place s locals (before_now xs) i) i = y_so ∙ ap (λ l. at_labels l i) seen_here in
       ap (map instruction_tree) push ∙ map-append instruction_tree made (y ∷ [])
       ∙ ap (λ l. l ++ instruction_tree y ∷ []) made_so

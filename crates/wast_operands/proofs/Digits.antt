@@ -1,7 +1,6 @@
 -- Digits, one after the other.
-use Rattle.std.proofs.Common.{◌≡◌, ◌≢◌, ℕ, ◌+◌, ◌<◌, Bool, true, false, List, [], ◌∷◌, refl, sym, ◌∙◌, ap, cond, drop, get_or, length, add-one, inl, inr}
+use Rattle.std.proofs.Common.{◌≡◌, ◌≢◌, ℕ, Bool, true, false, List, [], ◌∷◌, refl, sym, ◌∙◌, ap, cond, inl, inr}
 use Rattle.std.specs.Prelude.{◌==◌, Some, codes}
-use Rattle.std.proofs.Math.Seq.{drop-cons}
 use Rattle.std.proofs.lemmas.Bool.{cases_Bool, eqb-true, eq-eqb}
 use Rattle.wast_vector_operands.specs.Numbers.{is_base}
 use Rattle.wast_vector_operands.specs.Spelling.{after}
@@ -12,9 +11,6 @@ abbrev pub may_end : Bool → Bool → List ℕ → Bool
 may_end hex false text = are_digits hex text
 may_end hex true [] = true
 may_end hex true (c ∷ text) = cond (c == 95) (are_digits hex text) (are_digits hex (c ∷ text))
-
-pub at_place : (text : List ℕ) (i : ℕ) → i < length text → drop i text ≡ get_or text i 0 ∷ drop (i + 1) text
-at_place text i h = drop-cons text i 0 h ∙ ap (λ k. get_or text i 0 ∷ drop k text) (sym (add-one i))
 
 -- `_` is no digit
 line : (hex : Bool) (c : ℕ) → is_base hex c ≡ true → (c == 95) ≡ false

@@ -2,7 +2,7 @@
 use Rattle.std.proofs.Common.{◌≡◌, ℕ, Bool, true, false, [], ◌∷◌, Some, None, inr, refl}
 use Rattle.std.specs.Prelude.{◌-◌, ◌^◌, codes}
 use Rattle.wast_vector_operands.specs.Tokens.{Id, Word}
-use Rattle.wast_vector_operands.specs.Look.{apart, join, faults}
+use Rattle.wast_vector_operands.specs.Look.{apart, join, faults, id_starts, index_starts, integer_starts, type_starts}
 use Rattle.wast_vector_operands.specs.Grammar.{Syntax, led, wide, seq}
 use Rattle.wast_vector_operands.specs.Identifiers.{ByName}
 use Rattle.wast_vector_operands.specs.Integers.{unsigned}
@@ -10,18 +10,15 @@ use Rattle.wast_vector_operands.proofs.Looks.{sub_law}
 use Rattle.wast_vector_operands.proofs.GrammarLaws.{Lawful, Leads, led_laws, word_laws, among_laws, begun_laws, nothing_laws, seen_laws, only_laws, seq_laws, next_laws, maybe_laws, many_laws, either_laws, group_laws, bound_laws, wide_laws}
 use Rattle.wast_vector_operands.proofs.LeadLaws.{seen_leads, among_leads, group_leads}
 use Rattle.wast_vector_operands.proofs.IdentifierLaws.{identifier_laws, index_laws, item_ref_laws}
-use Rattle.wast_vector_operands.proofs.IntegerLaws.{number_laws}
+use Rattle.wast_vector_operands.proofs.IntegerLaws.{number_laws, u32_laws}
 use Rattle.wast_operands.specs.OperandTree.{Modifiers, OnSwitch}
-use Rattle.wast_vector_operands.specs.VectorSyntax.{integer_starts, lane}
+use Rattle.wast_vector_operands.specs.VectorSyntax.{lane}
 use Rattle.wast_vector_operands.proofs.VectorLaws.{lane_laws}
-use Rattle.wast_operands.specs.OperandSyntax.{u64_number, alignment, ordering_word, orderings, id_starts, index_starts, ordering_starts, offset_starts, align_starts, type_starts, handle_starts, lane_starts, is_bare, two_indices, u32_operand, index_count, label_table, optional_index, optional_indices, one_or_two, ordering, optional_ordering, ordered, array_target, target, one_or_two_orderings, offset, align, modifiers, mem_arg, behind_integer, integer_first, behind_modifiers, untargeted_lane, mem_arg_lane, handled, handle_body, handle, handlers, resume, resume_throw}
+use Rattle.wast_operands.specs.OperandSyntax.{u64_number, alignment, ordering_word, orderings, ordering_starts, offset_starts, align_starts, handle_starts, lane_starts, is_bare, two_indices, index_count, label_table, optional_index, optional_indices, one_or_two, ordering, optional_ordering, ordered, array_target, target, one_or_two_orderings, offset, align, modifiers, mem_arg, behind_integer, integer_first, behind_modifiers, untargeted_lane, mem_arg_lane, handled, handle_body, handle, handlers, resume, resume_throw}
 
 module _ {N P : Type 0} where
   pub two_indices_laws : Lawful (two_indices {N = N} {P = P})
   two_indices_laws = seq_laws _ _ index_laws index_laws refl
-
-  pub u32_laws : Lawful (u32_operand {N = N} {P = P})
-  u32_laws = seen_laws _ _ (number_laws (2 ^ 32 - 1) None unsigned)
 
   pub index_count_laws : Lawful (index_count {N = N} {P = P})
   index_count_laws = seq_laws _ _ index_laws u32_laws refl

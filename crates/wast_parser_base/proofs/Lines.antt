@@ -8,6 +8,7 @@ use Rattle.memchr.specs.Find.{IsFirstByte, is_byte}
 use Rattle.std.proofs.Math.Seq.{take-nil}
 use Rattle.std.proofs.lemmas.Bool.{eq-eqb, eqb-true, ne_eqb}
 use Rattle.std.proofs.lemmas.Bool.Decides.{eqb_tells}
+use Rattle.std.proofs.lemmas.List.{nil_from_length}
 use Rattle.wast_lexer.specs.Span.{column_of, line_feeds, line_of, since_line_feed}
 use Rattle.wast_parser_base.specs.Snippet.{line_at, until_line_feed, without_return}
 
@@ -104,10 +105,6 @@ some_of_test : (n : ℕ) → false ≡ nat_eq n 0 → 0 < n
 some_of_test zero test = cc
 some_of_test (suc n) test = omega arith
 
-empty_list : (l : List ℕ) → length l ≡ 0 → l ≡ []
-empty_list [] empty = refl
-empty_list (x ∷ xs) empty = absurd (omega arith)
-
 pub return_of : (line bytes : List ℕ) → bytes ≡ line → false ≡ nat_eq (length bytes) 0 → get_or bytes (length bytes - 1) 0 ≡ 13
     → slice_range line 0 (length line - 1) ≡ without_return line
 return_of line bytes same some last =
@@ -177,7 +174,7 @@ module _ (source : List ℕ) (offset column : ℕ) (front back : List ℕ) (part
   -- nothing is left of the line from the offset on
   ended : true ≡ nat_eq (length back) 0 → line_at source offset ≡ without_return front
   ended empty =
-      parts.whole ∙ ap (λ l. without_return (front ++ l)) (empty_list back (eqb-true (length back) 0 (sym empty)))
+      parts.whole ∙ ap (λ l. without_return (front ++ l)) (nil_from_length back (eqb-true (length back) 0 (sym empty)))
       ∙ ap without_return (append-nil front)
 
   pub before_at_end : true ≡ nat_eq (length back) 0 → without_return front ≡ take column (line_at source offset)
@@ -186,7 +183,7 @@ module _ (source : List ℕ) (offset column : ℕ) (front back : List ℕ) (part
 
   pub after_at_end : true ≡ nat_eq (length back) 0 → back ≡ drop column (line_at source offset)
   after_at_end empty =
-      empty_list back (eqb-true (length back) 0 (sym empty))
+      nil_from_length back (eqb-true (length back) 0 (sym empty))
       ∙ sym (ap (drop column) (ended empty) ∙ drop_of_length-le (without_return front) (omega (arith, length-without_return-le front, parts.front_len)))
 
   -- something is

@@ -1,7 +1,8 @@
 -- The test for a place of a text.
-use Rattle.std.proofs.Common.{◌≡◌, ℕ, Bool, true, false, List, [], ◌++◌, refl, sym, ap, ◌∙◌, arith, append-nil, if◌then◌else◌}
+use Rattle.std.proofs.Common.{◌≡◌, ℕ, true, false, List, [], ◌++◌, sym, ap, ◌∙◌, arith, append-nil, if◌then◌else◌}
 use Rattle.std.specs.Str.{IsCharBoundary}
 use Rattle.std.proofs.lemmas.Bool.Decides.{nat_tests}
+use Rattle.std.proofs.lemmas.Bool.{false_from_ne_true}
 use Rattle.wast_parser_base.specs.Snippet.{excerpt, is_place, place_lines}
 
 place_of_boundary : (text : List ℕ) (offset : ℕ) → IsCharBoundary text offset → is_place text offset ≡ true
@@ -9,10 +10,6 @@ place_of_boundary text offset boundary = grind (arith, nat_tests)
 
 boundary_of_place : (text : List ℕ) (offset : ℕ) → is_place text offset ≡ true → IsCharBoundary text offset
 boundary_of_place text offset place = (grind (arith, nat_tests), λ within high. grind (arith, nat_tests))
-
-false_of : (b : Bool) → (b ≡ true → ⊥) → b ≡ false
-false_of true not_so = absurd (not_so refl)
-false_of false not_so = refl
 
 pub lines_of_place : (text : List ℕ) (offset : ℕ) → IsCharBoundary text offset → excerpt text offset ≡ place_lines text offset
 unfolding place_lines
@@ -24,5 +21,5 @@ pub lines_of_no_place : (old text : List ℕ) (offset : ℕ) → (IsCharBoundary
 unfolding place_lines
 lines_of_no_place old text offset none =
     let hidden : is_place text offset ≡ false =
-    false_of (is_place text offset) (λ is. let test : false ≡ true = none (boundary_of_place text offset is) in cc) in
+    false_from_ne_true (is_place text offset) (λ is. let test : false ≡ true = none (boundary_of_place text offset is) in cc) in
     sym (ap (λ b. old ++ (if b then excerpt text offset else [])) hidden ∙ append-nil old)

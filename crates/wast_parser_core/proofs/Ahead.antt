@@ -4,6 +4,7 @@ use Rattle.std.specs.Prelude.{slice_get, is_some}
 use Rattle.std.proofs.Math.Seq.{drop-cons}
 use Rattle.std.proofs.lemmas.List.{drop_all, drop-map, drop-drop, take-append-drop, length-take-le, length-map}
 use Rattle.std.proofs.lemmas.Option.{slice_get_within, slice_get_cases, get_or_from_slice_get}
+use Rattle.std.proofs.lemmas.Bool.{and_from}
 use Rattle.wast_lexer.specs.declared.token.Token.{Token}
 use Rattle.wast_lexer.specs.declared.token.TokenKind.TheVariants as kinds
 use Rattle.wast_lexer.specs.declared.fault.LexFault.{LexFault}
@@ -11,11 +12,11 @@ use Rattle.wast_lexer.specs.Groups.{IsGroupAt, paren_of, parens}
 use Rattle.wast_lexer.specs.ParenEnds.{closing}
 use Rattle.wast_lexer.specs.Lexeme.{Lexeme, lexeme_of}
 use Rattle.wast_lexer.specs.TokenText.{text_of}
+use Rattle.wast_lexer.proofs.Basics.{cases_option}
 use Rattle.wast_lexer.proofs.ParenEndLaws.{groups}
 use Rattle.wast_grammar.specs.Tokens.{Broken}
 use Rattle.wast_grammar.specs.Significant.{token_of, is_trivia, is_lparen, begins_unknown, opens_dropped, at_end, shown}
-use Rattle.wast_grammar.proofs.Looks.{two}
-use Rattle.wast_grammar.proofs.SignificantLaws.{cases_option, trivia_none, trivia_opens, after, passed}
+use Rattle.wast_grammar.proofs.SignificantLaws.{trivia_none, trivia_opens, after, passed}
 use Rattle.wast_parser_core.specs.State.{State, ahead}
 
 -- LISTS
@@ -84,7 +85,7 @@ ahead_dropped s i t got is d =
     let ls = lexemes s (i + 1) in
     let l = lexeme_of s.source.text t in
     ap (shown names broken 0) (lexemes_more s i t got)
-    ∙ ap (λ b. cond b (shown names broken 1 ls) (token_of l.kind l.text l.place ++ shown names broken 0 ls)) (two (is_lparen t.kind) (begins_unknown names ls) (ap is_lparen is) d)
+    ∙ ap (λ b. cond b (shown names broken 1 ls) (token_of l.kind l.text l.place ++ shown names broken 0 ls)) (and_from (is_lparen t.kind) (begins_unknown names ls) (ap is_lparen is) d)
     ∙ passed names broken 0 ls
     ∙ ap (λ y. after names broken ls (closing 0 y)) (behind_it s.source.text s.source.tokens i)
 

@@ -1,5 +1,5 @@
 -- Words by how they begin.
-use Rattle.std.proofs.Common.{◌≡◌, ℕ, Bool, true, false, List, [], ◌∷◌, ◌++◌, Option, Some, None, ◌+◌, length, take, drop, cond, ◌&&◌, refl, sym, ◌∙◌, ap}
+use Rattle.std.proofs.Common.{◌≡◌, ℕ, true, false, List, [], ◌∷◌, ◌++◌, Option, Some, None, ◌+◌, length, take, drop, cond, ◌&&◌, refl, sym, ◌∙◌, ap}
 use Rattle.std.specs.Prelude.{nat_eq, is_some, option_map, MatchOption}
 use denote.Ref.{Bor}
 use Rattle.wast_lexer.specs.declared.token.Token.{Token}
@@ -10,7 +10,7 @@ use Rattle.wast_grammar.specs.Look.{ask, On, AWord, Begun, starts_with}
 use Rattle.wast_parser_core.specs.Kinds.{is_keyword}
 use Rattle.wast_parser_core.specs.State.{State, ahead, IsNext}
 use Rattle.wast_parser_core.proofs.Names.{same_sym}
-use Rattle.wast_parser_core.proofs.Words.{keyword_kind}
+use Rattle.wast_parser_core.proofs.Words.{keyword_kind, if_same}
 
 -- what follows a front is what is left without it
 after_front : (p w : List ℕ) → after p w ≡ cond (same_text p (take (length p) w)) (Some (drop (length p) w)) None
@@ -34,9 +34,5 @@ asked_begun p s t i n is =
     let w = text_of s.source.text t in
     let rest = ahead (record s { at = i }) in
     ap (ask (On false AWord (Begun p) ∷ [])) (n.found ∙ ap (λ k. token_of k w t.offset ++ rest) (keyword_kind t.kind is))
-    ∙ told (starts_with p w)
+    ∙ if_same (starts_with p w)
     ∙ ap Some (begins p w)
-  where
-    told : (b : Bool) → Some (cond b true false) ≡ Some b
-    told true = refl
-    told false = refl

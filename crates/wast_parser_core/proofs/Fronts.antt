@@ -1,5 +1,6 @@
 -- Tokens in front, by their kind.
 use Rattle.std.proofs.Common.{◌≡◌, ℕ, true, false, List, [], ◌∷◌, ◌++◌, Some, None, refl, sym, ◌∙◌, ap}
+use Rattle.std.proofs.lemmas.Option.{same_Some}
 use Rattle.wast_lexer.specs.declared.token.Token.{Token}
 use Rattle.wast_lexer.specs.declared.token.TokenKind.{TokenKind}
 use Rattle.wast_lexer.specs.declared.token.TokenKind.TheVariants as kinds
@@ -9,7 +10,6 @@ use Rattle.wast_grammar.specs.Significant.{TextToken, token_of, is_trivia, is_lp
 use Rattle.wast_grammar.specs.Spelling.{that_open, that_close}
 use Rattle.wast_grammar.specs.Look.{ask, Opening, On, AClose, Any}
 use Rattle.wast_grammar.specs.Grammar.{one_of}
-use Rattle.wast_grammar.proofs.Looks.{some_one}
 use Rattle.wast_grammar.proofs.SignificantLaws.{lparen_kind}
 use Rattle.wast_parser_core.specs.Kinds.{is_rparen}
 use Rattle.wast_parser_core.specs.State.{State, ahead, IsNext, past}
@@ -90,7 +90,7 @@ not_close s t i n h = ap (one_of that_close) n.found ∙ no_close t.kind (text_o
 -- what a parenthesis in front leaves
 pub opened : (ts us : List TextToken) (p : ℕ) → one_of that_open ts ≡ Some (p, us) → ts ≡ Open p ∷ us
 opened [] us p h = absurd (cc)
-opened (Open q ∷ ts) us p h = let e = some_one (q, ts) (p, us) h in ap (λ z. Open z ∷ ts) (ap (λ x. x.0) e) ∙ ap (λ z. Open p ∷ z) (ap (λ x. x.1) e)
+opened (Open q ∷ ts) us p h = let e = same_Some (q, ts) (p, us) h in ap (λ z. Open z ∷ ts) (ap (λ x. x.0) e) ∙ ap (λ z. Open p ∷ z) (ap (λ x. x.1) e)
 opened (Close q ∷ ts) us p h = absurd (cc)
 opened (Id n q ∷ ts) us p h = absurd (cc)
 opened (Word n q ∷ ts) us p h = absurd (cc)
@@ -104,7 +104,7 @@ opened (Broken ∷ ts) us p h = absurd (cc)
 pub closed : (ts us : List TextToken) (p : ℕ) → one_of that_close ts ≡ Some (p, us) → ts ≡ Close p ∷ us
 closed [] us p h = absurd (cc)
 closed (Open q ∷ ts) us p h = absurd (cc)
-closed (Close q ∷ ts) us p h = let e = some_one (q, ts) (p, us) h in ap (λ z. Close z ∷ ts) (ap (λ x. x.0) e) ∙ ap (λ z. Close p ∷ z) (ap (λ x. x.1) e)
+closed (Close q ∷ ts) us p h = let e = same_Some (q, ts) (p, us) h in ap (λ z. Close z ∷ ts) (ap (λ x. x.0) e) ∙ ap (λ z. Close p ∷ z) (ap (λ x. x.1) e)
 closed (Id n q ∷ ts) us p h = absurd (cc)
 closed (Word n q ∷ ts) us p h = absurd (cc)
 closed (Mark n q ∷ ts) us p h = absurd (cc)

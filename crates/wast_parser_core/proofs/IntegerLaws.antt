@@ -1,5 +1,6 @@
 -- Laws of integers of a range, of strings and of names.
-use Rattle.std.proofs.Common.{◌≡◌, ℕ, true, false, List, [], ◌∷◌, Option, Some, refl}
+use Rattle.std.proofs.Common.{◌≡◌, ℕ, ◌-◌, true, false, List, [], ◌∷◌, Option, Some, None, refl}
+use Rattle.std.specs.Prelude.{◌^◌}
 use Rattle.wast_grammar.specs.Tokens.{SignificantToken, Literal}
 use Rattle.wast_grammar.specs.Lawful.{Lawful, Leads}
 use Rattle.wast_grammar.specs.Look.{On, AnInteger, AString, Any}
@@ -11,13 +12,16 @@ use Rattle.std.proofs.Math.Dec.{leb-zero}
 use Rattle.std.proofs.lemmas.Str.{is_utf8-from_IsUtf8, IsUtf8-nil}
 use Rattle.wast_parser_core.specs.Literals.{is_within}
 use Rattle.wast_parser_core.specs.Productions.{ranged, name}
-use Rattle.wast_parser_core.specs.Integers.{number_in}
+use Rattle.wast_parser_core.specs.Integers.{number_in, unsigned, u32}
 
 pub ranged_laws : {N P : Type 0} (most : ℕ) (least : Option ℕ) → Lawful (ranged {N = N} {P = P} most least)
 ranged_laws most least = only_laws (λ l. is_within most least l.0) integer integer_laws
 
 pub number_laws : {N P A : Type 0} (most : ℕ) (least : Option ℕ) (says : Literal → A) → Lawful (number_in {N = N} {P = P} most least says)
 number_laws most least says = seen_laws (λ x. (says x.0, x.1)) (ranged most least) (ranged_laws most least)
+
+pub u32_laws : {N P : Type 0} → Lawful (u32 {N = N} {P = P})
+u32_laws = seen_laws (λ x. x.0) (number_in (2 ^ 32 - 1) None unsigned) (number_laws (2 ^ 32 - 1) None unsigned)
 
 pub name_laws : {N P : Type 0} → Lawful (name {N = N} {P = P})
 name_laws = only_laws is_utf8 string string_laws

@@ -1,5 +1,5 @@
 -- Names of annotations in front.
-use Rattle.std.proofs.Common.{◌≡◌, ℕ, Bool, true, false, cond, ◌&&◌, List, [], ◌∷◌, ◌++◌, Some, refl, sym, ◌∙◌, ap}
+use Rattle.std.proofs.Common.{◌≡◌, ℕ, true, false, ◌&&◌, List, [], ◌∷◌, ◌++◌, Some, refl, sym, ◌∙◌, ap}
 use Rattle.wast_lexer.specs.declared.token.Token.{Token}
 use Rattle.wast_lexer.specs.declared.token.TokenKind.{TokenKind}
 use Rattle.wast_lexer.specs.declared.token.TokenKind.TheVariants as kinds
@@ -12,6 +12,7 @@ use Rattle.wast_grammar.specs.Look.{ask, this_annotation}
 use Rattle.wast_grammar.proofs.SignificantLaws.{lparen_kind}
 use Rattle.wast_parser_core.specs.Marks.{this_mark}
 use Rattle.wast_parser_core.specs.State.{State, ahead, IsNext}
+use Rattle.wast_parser_core.proofs.Words.{if_same}
 
 -- a look for the name of an annotation meets no parenthesis
 flat : (v : List ℕ) (q : ℕ) (ts : List TextToken) → ask (this_mark v ∷ []) (Open q ∷ ts) ≡ Some false
@@ -26,10 +27,6 @@ flat v q (Float n p ∷ ts) = refl
 flat v q (Text n p ∷ ts) = refl
 flat v q (Reserved n p ∷ ts) = refl
 flat v q (Broken ∷ ts) = refl
-
-if_same : (b : Bool) → Some (cond b true false) ≡ Some b
-if_same true = refl
-if_same false = refl
 
 asks_mark : (v : List ℕ) (k : TokenKind) (w : List ℕ) (p : ℕ) (ts : List TextToken) → is_trivia k ≡ false → ask (this_mark v ∷ []) (token_of k w p ++ ts) ≡ Some (is_annotation k && same_text v (marked_value w))
 asks_mark v kinds.Whitespace w p ts h = absurd (cc)

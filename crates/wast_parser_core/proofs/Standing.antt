@@ -3,6 +3,7 @@ use Rattle.std.proofs.Common.{◌≡◌, ◌⊎◌, inl, inr, ℕ, zero, suc, �
 use Rattle.std.specs.Prelude.{slice_get}
 use Rattle.std.proofs.lemmas.List.{drop-map, length-map}
 use Rattle.std.proofs.lemmas.Option.{slice_get_within}
+use Rattle.std.proofs.lemmas.Bool.{and_from}
 use Rattle.wast_lexer.specs.declared.token.Token.{Token}
 use Rattle.wast_lexer.specs.declared.token.TokenKind.{TokenKind}
 use Rattle.wast_lexer.specs.declared.token.TokenKind.TheVariants as kinds
@@ -10,7 +11,6 @@ use Rattle.wast_lexer.specs.Groups.{IsGroupAt, paren_of, parens}
 use Rattle.wast_lexer.specs.ParenEnds.{closing, one_more}
 use Rattle.wast_lexer.specs.Lexeme.{Lexeme, lexeme_of}
 use Rattle.wast_grammar.specs.Significant.{is_trivia, is_lparen, begins_unknown, opens_dropped, behind}
-use Rattle.wast_grammar.proofs.Looks.{two}
 use Rattle.wast_grammar.proofs.SignificantLaws.{trivia_opens}
 use Rattle.wast_parser_core.specs.Standing.{Standing, Behind, Past, Within, is_outside, open_still, outside, further, stand, slack_of}
 use Rattle.wast_parser_core.specs.State.{Source, State, standing, slack, Keeps}
@@ -98,7 +98,7 @@ past_group s i end t got is d g o =
     let within : at_index s (i + 1) ≡ Within 0 =
     next_index s i t got
     ∙ from_outside s.names (at_index s i) (lex t) ls o
-    ∙ ap (λ b. cond b (Within 0) (cond (is_trivia t.kind) Past Behind)) (two (is_lparen t.kind) (begins_unknown s.names ls) (ap is_lparen is) d) in
+    ∙ ap (λ b. cond b (Within 0) (cond (is_trivia t.kind) Past Behind)) (and_from (is_lparen t.kind) (begins_unknown s.names ls) (ap is_lparen is) d) in
     ap is_outside (
     ap (at_index s) k
     ∙ on_from s.names (i + 1) (suc c.0) Behind (map lex s.source.tokens)

@@ -5,14 +5,14 @@ use Rattle.wast_lexer.specs.declared.token.Token.{Token}
 use Rattle.wast_lexer.specs.declared.token.TokenKind.{TokenKind}
 use Rattle.wast_lexer.specs.declared.token.TokenKind.TheVariants as kinds
 use Rattle.wast_lexer.specs.TokenText.{text_of}
-use Rattle.wast_grammar.specs.Tokens.{Open, Close, Id, Word, Mark, Integer, Float, Text, Reserved, Broken}
+use Rattle.wast_grammar.specs.Tokens.{Id, Integer, Float, Reserved}
 use Rattle.wast_grammar.specs.Spelling.{find_but}
 use Rattle.wast_grammar.specs.Significant.{TextToken, token_of, is_trivia}
 use Rattle.wast_grammar.specs.Look.{AWord, On, OneOf, Texts, ask}
 use Rattle.wast_grammar.proofs.GrammarLaws.{among_asked}
 use Rattle.wast_parser_core.specs.Kinds.{is_keyword}
 use Rattle.wast_parser_core.specs.State.{State, ahead, IsNext}
-use Rattle.wast_parser_core.proofs.Words.{keyword_kind}
+use Rattle.wast_parser_core.proofs.Words.{keyword_kind, flat}
 
 -- what the set has for a word in front
 pub asked_among : {E : Type 0} (word : E → List ℕ) (entries : List E) (but : List (List ℕ)) (s : State) (t : Token) (i : ℕ) → IsNext s t i → is_keyword t.kind ≡ true →
@@ -23,25 +23,11 @@ asked_among word entries but s t i n is =
     ap (ask (On false AWord (OneOf (map word entries) but) ∷ [])) (n.found ∙ ap (λ k. token_of k w t.offset ++ rest) (keyword_kind t.kind is))
     ∙ among_asked word entries but w t.offset rest
 
--- a parenthesis is no word, whatever stands behind it
-open_no_word : (x : Texts) (p : ℕ) (ts : List TextToken) → ask (On false AWord x ∷ []) (Open p ∷ ts) ≡ Some false
-open_no_word x p [] = refl
-open_no_word x p (Open q ∷ ts) = refl
-open_no_word x p (Close q ∷ ts) = refl
-open_no_word x p (Id n q ∷ ts) = refl
-open_no_word x p (Word w q ∷ ts) = refl
-open_no_word x p (Mark w q ∷ ts) = refl
-open_no_word x p (Integer n w q ∷ ts) = refl
-open_no_word x p (Float w q ∷ ts) = refl
-open_no_word x p (Text w q ∷ ts) = refl
-open_no_word x p (Reserved w q ∷ ts) = refl
-open_no_word x p (Broken ∷ ts) = refl
-
 no_word : (x : Texts) (k : TokenKind) (w : List ℕ) (p : ℕ) (ts : List TextToken) → is_keyword k ≡ false → is_trivia k ≡ false → ask (On false AWord x ∷ []) (token_of k w p ++ ts) ≡ Some false
 no_word x kinds.Whitespace w p ts h i = absurd (cc)
 no_word x kinds.LineComment w p ts h i = absurd (cc)
 no_word x kinds.BlockComment w p ts h i = absurd (cc)
-no_word x kinds.LParen w p ts h i = open_no_word x p ts
+no_word x kinds.LParen w p ts h i = flat x p ts
 no_word x kinds.RParen w p ts h i = refl
 no_word x kinds.String w p ts h i = refl
 no_word x kinds.Id w p ts h i = refl

@@ -56,7 +56,7 @@ flat x q (Text n p ∷ ts) = refl
 flat x q (Reserved n p ∷ ts) = refl
 flat x q (Broken ∷ ts) = refl
 
-if_same : (b : Bool) → Some (cond b true false) ≡ Some b
+pub if_same : (b : Bool) → Some (cond b true false) ≡ Some b
 if_same true = refl
 if_same false = refl
 

@@ -19,7 +19,7 @@ use Rattle.wast_meaning.specs.Mentions.{Mention, Refers, Member, Uses, UsesInBlo
 use Rattle.wast_meaning.specs.Spaces.{Bound, space_word, items}
 use Rattle.wast_meaning.specs.Implied.{no_sig, is_short, sig_of_use, sig_of_mention, used_sigs, written_types, plain_sig, unnamed_local, unnamed, implied, type_taken}
 use Rattle.wast_meaning.specs.Scope.{Scope, scope_of, with_locals, scope_at, params_of, params_of_index, locals_of}
-use Rattle.wast_meaning.specs.Demands.{nearest, order_demand, order_demands, item_demand, spaces_after, item_demands, agreement, says_demands, use_demands, mention_demands, instrs_demands, func_demands, part_demands, field_demands, demands}
+use Rattle.wast_meaning.specs.Demands.{nearest, order_demand, order_demands, item_demand, spaces_after, item_demands, agreement, says_demands, use_demands, mention_demands, instr_demands, instrs_demands, func_demands, part_demands, field_demands, demands}
 use Rattle.wast_meaning.specs.Changed.{sig_changed, instr_changed, instrs_changed, func_changed}
 use Rattle.wast_meaning.specs.Numbered.{taken_index, taken_unless_short, taking, with_types, implied_field, expanded}
 use Rattle.wast_meaning.proofs.Settled.{left, right, two, front, back}
@@ -125,10 +125,7 @@ module _ {N P : Type 0} (eq : N → N → Bool) (taken : Sig N P → Option ℕ)
   inside : (s : Scope N P) (ids : List (Option (Named N P))) → Fits taken s → Fits taken (with_locals eq s ids)
   inside s ids fits = record { agreed = fits.agreed; bare = fits.bare }
 
-  abbrev own_demands : Scope N P → List (Instruction N P) → Instruction N P → List (Demand N P)
-  own_demands s before i = flat_map (mention_demands eq (scope_at eq s before i)) (instr_mentions i)
-
-  instr_so : (s : Scope N P) → Fits taken s → (new old : List (Instruction N P)) → SameLabels new old → (i : Instruction N P) → Alike (own_demands s new (instr_changed (taking taken p) i)) (own_demands s old i)
+  instr_so : (s : Scope N P) → Fits taken s → (new old : List (Instruction N P)) → SameLabels new old → (i : Instruction N P) → Alike (instr_demands eq s new (instr_changed (taking taken p) i)) (instr_demands eq s old i)
   instr_so s fits new old e i =
       ap (λ t. unmet (flat_map (mention_demands eq t) (instr_mentions (instr_changed (taking taken p) i)))) (scope_at_kept eq s (taking taken p) i new old e)
       ∙ ap (λ ms. unmet (flat_map (mention_demands eq (scope_at eq s old i)) ms)) (instr_said taken p i)
@@ -138,8 +135,8 @@ module _ {N P : Type 0} (eq : N → N → Bool) (taken : Sig N P → Option ℕ)
       Alike (instrs_demands eq s new (instrs_changed (λ before i. taking taken p) given is)) (instrs_demands eq s old is)
   instrs_so s fits given new old e [] = refl
   instrs_so s fits given new old e (i ∷ is) =
-      alike_joined (own_demands s new (instr_changed (taking taken p) i)) (instrs_demands eq s (instr_changed (taking taken p) i ∷ new) (instrs_changed (λ before j. taking taken p) (i ∷ given) is))
-      (own_demands s old i) (instrs_demands eq s (i ∷ old) is)
+      alike_joined (instr_demands eq s new (instr_changed (taking taken p) i)) (instrs_demands eq s (instr_changed (taking taken p) i ∷ new) (instrs_changed (λ before j. taking taken p) (i ∷ given) is))
+      (instr_demands eq s old i) (instrs_demands eq s (i ∷ old) is)
       (instr_so s fits new old e i) (instrs_so s fits (i ∷ given) (instr_changed (taking taken p) i ∷ new) (i ∷ old) (labels_more (taking taken p) i new old e) is)
 
   -- FUNCTIONS

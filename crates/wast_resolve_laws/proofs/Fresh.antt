@@ -4,7 +4,7 @@ use Rattle.std.specs.Prelude.{◌&&◌, ◌||◌, not, if◌then◌else◌, filt
 use Rattle.std.specs.List.{flat_map, list_any, list_all, position_from}
 use Rattle.std.specs.Option.{option_or}
 use Rattle.std.specs.Cmp.Derive.{both_true}
-use Rattle.std.proofs.lemmas.Bool.{false≢true}
+use Rattle.std.proofs.lemmas.Bool.{false≢true, not-true, or_left, or_right}
 use Rattle.std.proofs.lemmas.List.{map-append, append-nil}
 use Rattle.std.proofs.lemmas.List.Elements.{filter-append}
 use Rattle.std.proofs.lemmas.List.Folds.{list_any-append}
@@ -26,10 +26,6 @@ use Rattle.wast_meaning.proofs.Taken.{found}
 use Rattle.wast_resolve_laws.proofs.Outlined.{id_out, items_out}
 use Rattle.wast_resolve_laws.proofs.Unmet.{unmet, Alike, alike_joined, met_more}
 
-not_true : (b : Bool) → not b ≡ true → b ≡ false
-not_true true e = elim (false≢true e) [ ]
-not_true false e = refl
-
 pub same_self : (s : Space) → same_space s s ≡ true
 same_self Labels = refl
 same_self Locals = refl
@@ -42,13 +38,6 @@ same_self Tags = refl
 same_self Datas = refl
 same_self Elems = refl
 same_self Fields = refl
-
-in_first : (a b : Bool) → a ≡ true → (a || b) ≡ true
-in_first a b e = ap (λ x. x || b) e
-
-in_rest : (a b : Bool) → b ≡ true → (a || b) ≡ true
-in_rest true b e = refl
-in_rest false b e = e
 
 and_true : (b : Bool) → b ≡ (b && true)
 and_true true = refl
@@ -103,7 +92,7 @@ module _ {N : Type 0} (eq : N → N → Bool) where
   all_unlike ts (o ∷ os) h = both_true (first_new ts o os h) (all_unlike ts os (rest_new ts o os h))
 
   first_unlike : (o : N) (b : Bool) (t : N) (ts : List N) → unlike (if b then t ∷ ts else ts) o ≡ true → b ≡ true → eq t o ≡ false
-  first_unlike o true t ts h e = not_true (eq t o) (left (not (eq t o)) (unlike ts o) h)
+  first_unlike o true t ts h e = not-true (eq t o) (left (not (eq t o)) (unlike ts o) h)
   first_unlike o false t ts h e = elim (false≢true e) [ ]
 
   rest_unlike : (o : N) (b : Bool) (t : N) (ts : List N) → unlike (if b then t ∷ ts else ts) o ≡ true → unlike ts o ≡ true
@@ -253,8 +242,8 @@ module _ {N P : Type 0} (eq : N → N → Bool) where
     pub all_found : (naming : ℕ → N) (k : ℕ) (fs : List (Field N P)) → ((s : Space) (o : N) → has s o (flat_map items (written_from naming k fs)) ≡ true → Found s o) → AllFound Found naming k fs
     all_found naming k [] h = tt
     all_found naming k (f ∷ fs) h = (
-      found_out (naming k) f (λ s o e. h s o (split s o ∙ in_first (has s o (flat_map items (field_out (naming k) f))) (has s o (flat_map items (written_from naming (suc k) fs))) e)),
-      all_found naming (suc k) fs (λ s o e. h s o (split s o ∙ in_rest (has s o (flat_map items (field_out (naming k) f))) (has s o (flat_map items (written_from naming (suc k) fs))) e)),
+      found_out (naming k) f (λ s o e. h s o (split s o ∙ or_left (has s o (flat_map items (field_out (naming k) f))) (has s o (flat_map items (written_from naming (suc k) fs))) e)),
+      all_found naming (suc k) fs (λ s o e. h s o (split s o ∙ or_right (has s o (flat_map items (field_out (naming k) f))) (has s o (flat_map items (written_from naming (suc k) fs))) e)),
     )
       where
         split : (s : Space) (o : N) → has s o (flat_map items (written_from naming k (f ∷ fs))) ≡ (has s o (flat_map items (field_out (naming k) f)) || has s o (flat_map items (written_from naming (suc k) fs)))
@@ -291,7 +280,7 @@ module _ {N : Type 0} (eq : N → N → Bool) (self : (n : N) → eq n n ≡ tru
 
   all_turned : (ts : List N) (m : N) → unlike eq ts m ≡ true → list_all (λ t. not (eq m t)) ts ≡ true
   all_turned [] m h = refl
-  all_turned (t ∷ ts) m h = both_true (ap not (turned m t (not_true (eq t m) (left (not (eq t m)) (unlike eq ts m) h)))) (all_turned ts m (right (not (eq t m)) (unlike eq ts m) h))
+  all_turned (t ∷ ts) m h = both_true (ap not (turned m t (not-true (eq t m) (left (not (eq t m)) (unlike eq ts m) h)))) (all_turned ts m (right (not (eq t m)) (unlike eq ts m) h))
 
   none_among : (t : N) (ts : List N) → not (list_any (eq t) ts) ≡ true → list_all (λ u. not (eq t u)) ts ≡ true
   none_among t [] h = refl
@@ -386,7 +375,7 @@ module _ {N : Type 0} (eq : N → N → Bool) (self : (n : N) → eq n n ≡ tru
     definition_goes false id n p s given segment rest others ts within distinct h goes = same_items ts within (bound s id given ∷ segment) rest others h goes
     definition_goes true (Some i) n p s given segment rest others ts within distinct h goes = same_items ts within (bound s (Some i) given ∷ segment) rest others h goes
     definition_goes true None n p s given segment rest others ts within distinct h goes =
-        renamed n ts p s given (segment ++ rest) (segment ++ others) (λ o e. not_true (eq n o) (left (not (eq n o)) (unlike eq ts o) (within o e))) (left (not (list_any (eq n) ts)) (are_distinct eq ts) distinct)
+        renamed n ts p s given (segment ++ rest) (segment ++ others) (λ o e. not-true (eq n o) (left (not (eq n o)) (unlike eq ts o) (within o e))) (left (not (list_any (eq n) ts)) (are_distinct eq ts) distinct)
         (same_items ts (λ o e. right (not (eq n o)) (unlike eq ts o) (within o e)) segment rest others h goes)
 
     abbrev field_item_names : Field N P → List N

@@ -10,7 +10,7 @@ use Rattle.std.proofs.lemmas.Option.{slice_get-map}
 use Rattle.wasm_encoder_base.specs.Table.{Space, Labels, Locals, Functions, Types, Tables, Memories, Globals, Tags, Datas, Elems, Fields}
 use Rattle.wast_parser.specs.Identifiers.{Named, Reference, ByNumber, ByName}
 use Rattle.wast_names.specs.Walk.{walked, first_unmet}
-use Rattle.wast_names.specs.Demand.{Demand, is_met}
+use Rattle.wast_names.specs.Demand.{is_met}
 use Rattle.wast_names.specs.Space as names
 use Rattle.wast_names.specs.Space.{number_of}
 use Rattle.wast_value_types.specs.ValueTree.{HeapType, Abstract, Concrete, Exact, ValType, Number, Ref}
@@ -21,7 +21,7 @@ use Rattle.wast_meaning.specs.Mentions.{Mention, Refers, Member, Uses, UsesInBlo
 use Rattle.wast_meaning.specs.Spaces.{Bound, same_space, space_word, items, items_in, fields_at, denotes, listed}
 use Rattle.wast_meaning.specs.Implied.{no_sig, same_flag, same_option, same_heap, same_val, same_local, same_sig, written_types, implied, sig_at, type_count}
 use Rattle.wast_meaning.specs.Scope.{Scope, space_count, index_space, scope_of, with_locals, scope_at, members, params_of, params_of_index, locals_of}
-use Rattle.wast_meaning.specs.Demands.{nearest, order_demand, order_demands, item_demands, same_numbered, agrees, agreement, agreements, says_demands, use_demands, mention_demands, instrs_demands, func_demands, part_demands, field_demands, demands}
+use Rattle.wast_meaning.specs.Demands.{nearest, order_demand, order_demands, item_demands, same_numbered, agrees, agreement, agreements, says_demands, use_demands, mention_demands, instr_demands, instrs_demands, func_demands, part_demands, field_demands, demands}
 use Rattle.wast_meaning.specs.Changed.{Change, Changes, heap_changed, val_changed, local_changed, sig_changed, instr_changed, instrs_changed, func_changed, field_changed}
 use Rattle.wast_meaning.specs.Numbered.{numbering, numberings, numbered}
 use Rattle.wast_meaning.specs.Settled.{is_number, are_typed}
@@ -219,9 +219,6 @@ module _ {N P : Type 0} (eq : N → N → Bool) (d : Change N P) where
       (numbers_met s ms (right (numbers_said m) (list_all numbers_said ms) n) (back is_met (mention_demands eq s (aside m)) (flat_map (mention_demands eq s) (map aside ms)) e))
 
   -- INSTRUCTIONS
-  abbrev own_demands : Scope N P → List (Instruction N P) → Instruction N P → List (Demand N P)
-  own_demands s before i = flat_map (mention_demands eq (scope_at eq s before i)) (instr_mentions i)
-
   instr_here : (s : Scope N P) → Numbers s → (i : Instruction N P) → list_all is_met (flat_map (mention_demands eq s) (instr_mentions i)) ≡ true →
       list_all is_met (flat_map (mention_demands eq (rescoped d s)) (instr_mentions (instr_changed (numbering s) i))) ≡ true
   instr_here s numbers i e =
@@ -234,10 +231,10 @@ module _ {N P : Type 0} (eq : N → N → Bool) (d : Change N P) where
   instrs_so s numbers new old same [] e = refl
   instrs_so s numbers new old same (i ∷ is) e =
       let c = numbering (scope_at eq s old i) in
-      both is_met (own_demands (rescoped d s) new (instr_changed c i)) (instrs_demands eq (rescoped d s) (instr_changed c i ∷ new) (instrs_changed (λ before j. numbering (scope_at eq s before j)) (i ∷ old) is))
+      both is_met (instr_demands eq (rescoped d s) new (instr_changed c i)) (instrs_demands eq (rescoped d s) (instr_changed c i ∷ new) (instrs_changed (λ before j. numbering (scope_at eq s before j)) (i ∷ old) is))
       (ap (λ x. list_all is_met (flat_map (mention_demands eq x) (instr_mentions (instr_changed c i)))) (scope_at_kept eq (rescoped d s) c i new old same)
-      ∙ instr_here (scope_at eq s old i) numbers i (front is_met (own_demands s old i) (instrs_demands eq s (i ∷ old) is) e))
-      (instrs_so s numbers (instr_changed c i ∷ new) (i ∷ old) (labels_more c i new old same) is (back is_met (own_demands s old i) (instrs_demands eq s (i ∷ old) is) e))
+      ∙ instr_here (scope_at eq s old i) numbers i (front is_met (instr_demands eq s old i) (instrs_demands eq s (i ∷ old) is) e))
+      (instrs_so s numbers (instr_changed c i ∷ new) (i ∷ old) (labels_more c i new old same) is (back is_met (instr_demands eq s old i) (instrs_demands eq s (i ∷ old) is) e))
 
   -- FUNCTIONS
   params_found : (o : Option (Sig N P)) → unnamed_params (unwrap_or (option_map (sig_changed d) o) no_sig).params ≡ unnamed_params (unwrap_or o no_sig).params

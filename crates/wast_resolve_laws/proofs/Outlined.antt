@@ -1,7 +1,8 @@
 -- What fields are written out as: the same types, uses, items and demands in the same order, but for the names that are made.
 use Rattle.std.proofs.Common.{◌≡◌, ℕ, suc, Bool, true, false, List, [], ◌∷◌, ◌++◌, map, Option, Some, None, refl, sym, ◌∙◌, ap, append_assoc}
-use Rattle.std.specs.Prelude.{◌||◌, if◌then◌else◌, filter, filter_map, slice_get, option_and_then}
+use Rattle.std.specs.Prelude.{if◌then◌else◌, filter, filter_map, slice_get, option_and_then}
 use Rattle.std.specs.List.{flat_map, position_from}
+use Rattle.std.proofs.lemmas.Bool.{or_left, or_right}
 use Rattle.std.proofs.lemmas.List.{map-append, append-nil}
 use Rattle.std.proofs.lemmas.List.Elements.{filter-append}
 use Rattle.std.proofs.lemmas.Grind.{flat_map-append}
@@ -27,7 +28,7 @@ module _ {N P : Type 0} where
   defining p id given es d = Define (record { place = p; id = id; given = given; exports = es; defined = d })
 
   -- THE ORDER OF IMPORTS
-  abbrev order_from : Option Space → List (Field N P) → List (Demand N P)
+  abbrev pub order_from : Option Space → List (Field N P) → List (Demand N P)
   order_from before fs = walked order_demand nearest before fs
 
   after_exports : (before : Option Space) (p : P) (kind : exports.ExportKind) (id : Named N P) (es : List (List ℕ)) (rest : List (Field N P)) →
@@ -163,14 +164,6 @@ module _ {N P : Type 0} where
     quiet_exports p kind own [] rest h = refl
     quiet_exports p kind own (e ∷ es) rest h = two (λ a b. (a ++ []) ++ b) (h refl) (quiet_exports p kind own es rest (λ x. h refl))
 
-    either : (a b : Bool) → a ≡ true → (a || b) ≡ true
-    either true b e = refl
-    either false b e = ap (λ x. x || b) e
-
-    or_else : (a b : Bool) → b ≡ true → (a || b) ≡ true
-    or_else true b e = refl
-    or_else false b e = e
-
     -- what a definition's name makes quiet
     abbrev pub OwnQuiet : N → Field N P → Type 0
     OwnQuiet n (Define d) = is_said d ≡ true → Own (kind_of d.defined) (name_or n d)
@@ -179,8 +172,8 @@ module _ {N P : Type 0} where
     pub parts_out : (n : N) (f : Field N P) → OwnQuiet n f → flat_map said_by (field_out n f) ≡ said_by f
     parts_out n (Define d) h =
         ap (λ l. said_by (field_of d.place (id_out n d) d.given d.defined) ++ l)
-        (quiet_exports d.place (kind_of d.defined) (name_or n d) d.exports (segment_out n d) (λ e. h (either (has_any d.exports) (has_segment d.defined) e)) ∙ joined_parts (segment_out n d))
-        ∙ parts_first d.place (id_out n d) d.given (name_or n d) d.defined (λ e. h (or_else (has_any d.exports) (has_segment d.defined) e))
+        (quiet_exports d.place (kind_of d.defined) (name_or n d) d.exports (segment_out n d) (λ e. h (or_left (has_any d.exports) (has_segment d.defined) e)) ∙ joined_parts (segment_out n d))
+        ∙ parts_first d.place (id_out n d) d.given (name_or n d) d.defined (λ e. h (or_right (has_any d.exports) (has_segment d.defined) e))
     parts_out n (TypeField t) h = append-nil (said_by (TypeField t))
     parts_out n (RecField r) h = append-nil (said_by (RecField r))
     parts_out n (ImportField i) h = append-nil (said_by (ImportField i))

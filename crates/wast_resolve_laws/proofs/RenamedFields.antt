@@ -64,7 +64,7 @@ module _ {N M P Q : Type 0} (names : Iso N M) (places : Iso P Q) where
   demands_renamed_so : (ds : List (Demand N P)) → renamed DemandList names places ds ≡ map (demand_renamed names.fun places.fun) ds
   demands_renamed_so ds = renamed_so DemandList (λ N M P Q f g ds. map (demand_renamed f g) ds) (λ N P ds. demands_still ds) names places ds
 
-  naming_so : (naming : ℕ → N) → renamed (λ N P. ℕ → N) names places naming ≡ (λ n. names.fun (naming n))
+  pub naming_so : (naming : ℕ → N) → renamed (λ N P. ℕ → N) names places naming ≡ (λ n. names.fun (naming n))
   naming_so naming = renamed_so (λ N P. ℕ → N) (λ N M P Q f g naming. λ n. f (naming n)) (λ N P naming. refl) names places naming
 
   name_so : (name : N) → renamed (λ N P. N) names places name ≡ names.fun name
@@ -109,7 +109,3 @@ names_kept names a b = agree _ _ (λ t. (names_decide a b).1 (injective same_nam
     agree true q f g = sym (f refl)
     agree false true f g = g refl
     agree false false f g = refl
-
--- AN EXAMPLE: the start function, named at a place
-abbrev Parts : Type 0 → Type 0 → Type 0
-Parts N P = N × P × P

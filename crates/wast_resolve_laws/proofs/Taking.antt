@@ -17,6 +17,7 @@ use Rattle.wast_meaning.specs.Mentions.{Mention, Refers, Member, Uses, UsesInBlo
 use Rattle.wast_meaning.specs.Implied.{no_sig, is_short, sig_of_mention}
 use Rattle.wast_meaning.specs.Changed.{Changes, heap_changed, ref_changed, val_changed, storage_changed, field_type_changed, local_changed, sig_changed, inner_changed, type_changed, instr_changed, instrs_changed}
 use Rattle.wast_meaning.specs.Numbered.{taken_unless_short, taking, with_types}
+use Rattle.wast_meaning.proofs.Resolved.{unless}
 use Rattle.wast_meaning.proofs.Settled.{left, right, two, front, back}
 use Rattle.wast_meaning.specs.Settled.{is_typed}
 use Rattle.wast_resolve_laws.proofs.Changes.{mention_changed, part_changed, locals_so, instr_so, parts_so}
@@ -139,9 +140,6 @@ module _ {N P : Type 0} (taken : Sig N P → Option ℕ) (p : P) where
   found None h = elim (false≢true h) [ ]
   found (Some n) h = refl
 
-  abbrev unless : Option (Reference N P) → Sig N P → List (Sig N P)
-  unless i s = elim i [ None ↦ s ∷ [] | Some j ↦ [] ]
-
   abbrev or_taken : Option (Reference N P) → Sig N P → Option (Reference N P)
   or_taken i s = elim i [ Some j ↦ Some j | None ↦ option_map number (taken s) ]
 
@@ -225,15 +223,12 @@ module _ {N P : Type 0} (q : Mention N P → Bool) (holds : (i : Reference N P) 
 
 -- where uses have their types, none is implied
 module _ {N P : Type 0} where
-  abbrev no_more : Option (Reference N P) → Sig N P → List (Sig N P)
-  no_more i s = elim i [ None ↦ s ∷ [] | Some j ↦ [] ]
-
-  no_use_sig : (i : Option (Reference N P)) (s : Sig N P) → is_some i ≡ true → no_more i s ≡ []
+  no_use_sig : (i : Option (Reference N P)) (s : Sig N P) → is_some i ≡ true → unless i s ≡ []
   no_use_sig None s h = elim (false≢true h) [ ]
   no_use_sig (Some j) s h = refl
 
   no_block_sig : (i : Option (Reference N P)) (s : Sig N P) (short : Bool) → is_short s ≡ short → (is_some i || short) ≡ true →
-      filter (λ t. not (is_short t)) (no_more i s) ≡ []
+      filter (λ t. not (is_short t)) (unless i s) ≡ []
   no_block_sig None s true e h = ap (λ b. if not b then s ∷ [] else []) e
   no_block_sig None s false e h = elim (false≢true h) [ ]
   no_block_sig (Some j) s short e h = refl

@@ -4,7 +4,6 @@ use Rattle.std.specs.List.{flat_map}
 use Rattle.std.proofs.lemmas.Bool.Decides.{Decides-eqb}
 use std.Path.{fun_ext}
 use Rattle.wasm_encoder_base.specs.Table.{Space, Labels, Locals, Functions, Types, Tables, Memories, Globals, Tags, Datas, Elems, Fields}
-use Rattle.wasm_encoder_base.specs.Balanced.{Turn, Opens, Closes, Stays}
 use Rattle.wast_names.specs.Walk.{reached, walked, threaded, first_unmet}
 use Rattle.wast_names.specs.Demand.{is_met}
 use Rattle.wast_names.specs.Space as names
@@ -12,13 +11,13 @@ use Rattle.wast_core_instr.specs.InstructionTree.{Instruction}
 use Rattle.wast_field_syntax.specs.FieldTree.{Field}
 use Rattle.wast_meaning.specs.Mentions.{instr_mentions}
 use Rattle.wast_meaning.specs.Spaces.{Bound, space_number, same_space, space_word, listed, items, items_in, ids_in, denotes}
-use Rattle.wast_meaning.specs.Scope.{Scope, turn_of_head, open_labels, labels_seen, labels_or, scope_at}
+use Rattle.wast_meaning.specs.Scope.{Scope, turn_of_head, open_labels, labels_after, labels_or, scope_at}
 use Rattle.wast_meaning.specs.Demands.{mention_demands, spaces_after, item_demands, instrs_demands}
 use Rattle.wast_meaning.specs.Changed.{instr_changed, instrs_changed}
 use Rattle.wast_meaning.specs.Numbered.{numbering}
-use Rattle.wast_meaning.proofs.Labels.{fewer, stacked}
+use Rattle.wast_meaning.proofs.Labels.{stacked, found_so}
 use Rattle.wast_meaning.proofs.Walked.{reached_so}
-use Rattle.wast_resolve_laws.specs.Walks.{own_demand, own_space, own_demands, labels_found, labels_after, scope_among, demands_among}
+use Rattle.wast_resolve_laws.specs.Walks.{own_demand, own_space, own_demands, scope_among, demands_among}
 use Rattle.wast_resolve_laws.proofs.Fresh.{same_self}
 use Rattle.wast_resolve_laws.proofs.Walks as walks
 
@@ -85,11 +84,6 @@ module _ {N P : Type 0} (eq : N → N → Bool) where
 module _ {N P : Type 0} where
   handed_on : (i : Instruction N P) (before : List (Instruction N P)) → open_labels (i ∷ before) ≡ labels_after (open_labels before) i
   handed_on i before = stacked i before
-
-  found_so : (turn : Turn) (before : List (Instruction N P)) → labels_seen turn before ≡ labels_found turn (open_labels before)
-  found_so Opens before = refl
-  found_so Closes before = fewer before 1
-  found_so Stays before = refl
 
 module _ {N P : Type 0} (eq : N → N → Bool) (s : Scope N P) where
   scope_so : (before : List (Instruction N P)) (i : Instruction N P) → scope_at eq s before i ≡ scope_among eq s (open_labels before) i

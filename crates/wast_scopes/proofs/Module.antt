@@ -1,7 +1,8 @@
 -- What is known in a module is what its scope tells.
-use Rattle.std.proofs.Common.{◌≡◌, ℕ, zero, suc, List, [], ◌∷◌, ◌++◌, map, Option, Some, None, refl, ◌∙◌, ap}
+use Rattle.std.proofs.Common.{◌≡◌, ℕ, List, [], ◌++◌, map, Option, Some, None, refl, ◌∙◌, ap}
 use Rattle.std.specs.Prelude.{option_map, option_and_then, slice_get}
 use Rattle.std.specs.List.{flat_map}
+use Rattle.std.proofs.lemmas.Option.{slice_get-map}
 use Rattle.wasm_encoder_base.specs.Table.{Labels, Locals, Functions, Types, Tables, Memories, Globals, Tags, Datas, Elems, Fields}
 use Rattle.wasm_encoder_base.specs.Table as table
 use Rattle.wast_grammar.specs.Tokens.{Name}
@@ -26,11 +27,6 @@ use Rattle.wast_scopes.specs.Signatures.{func_type, signatures, sig_in}
 use Rattle.wast_scopes.specs.Known.{known_in}
 use Rattle.wast_scopes.specs.Views.{module_look, look_in, known}
 
-got_map : {A B : Type 0} (f : A → B) (xs : List A) (i : ℕ) → slice_get (map f xs) i ≡ option_map f (slice_get xs i)
-got_map f [] i = refl
-got_map f (x ∷ xs) zero = refl
-got_map f (x ∷ xs) (suc i) = got_map f xs i
-
 module _ (fs : List (Field Name ℕ)) (c : Scope) where
   abbrev Spaces : Type 0
   Spaces = spaces_of c.spaces.now ≡ spaces_behind (λ t. names.empty) (flat_map items fs)
@@ -50,7 +46,7 @@ module _ (fs : List (Field Name ℕ)) (c : Scope) where
 
   fields_is : fields_of_types c.spaces.now ≡ type_fields (flat_map items fs) → (t : ℕ) (n : Name) → look_in (slice_get (fields_of_types c.spaces.now) t) n ≡ position same_name n (map name_in (fields_at fs t))
   fields_is h t n =
-      ap (λ l. look_in (slice_get l t) n) h ∙ ap (λ o. look_in o n) (got_map (λ b. names.space_of same_name (space_word Fields) b.fields) (items_in Types fs) t) ∙ of (slice_get (items_in Types fs) t)
+      ap (λ l. look_in (slice_get l t) n) h ∙ ap (λ o. look_in o n) (slice_get-map (λ b. names.space_of same_name (space_word Fields) b.fields) (items_in Types fs) t) ∙ of (slice_get (items_in Types fs) t)
     where
       of : (o : Option (Bound Name ℕ)) → look_in (option_map (λ b. names.space_of same_name (space_word Fields) b.fields) o) n
           ≡ position same_name n (map name_in (elim o as (λ _. List (Option (Named Name ℕ))) [ Some b ↦ b.fields | None ↦ [] ]))
@@ -58,7 +54,7 @@ module _ (fs : List (Field Name ℕ)) (c : Scope) where
       of (Some b) = numbers_of same_name (space_word Fields) b.fields n
 
   sigs_is : (look : Look) (xs : List (Option (Sig Name ℕ))) (n : ℕ) → sig_in (map (option_map (numbered_sig look)) xs) n ≡ option_map (numbered_sig look) (option_and_then (λ s. s) (slice_get xs n))
-  sigs_is look xs n = ap (λ o. option_and_then (λ s. s) o) (got_map (option_map (numbered_sig look)) xs n) ∙ of (slice_get xs n)
+  sigs_is look xs n = ap (λ o. option_and_then (λ s. s) o) (slice_get-map (option_map (numbered_sig look)) xs n) ∙ of (slice_get xs n)
     where
       of : (o : Option (Option (Sig Name ℕ))) → option_and_then (λ s. s) (option_map (option_map (numbered_sig look)) o) ≡ option_map (numbered_sig look) (option_and_then (λ s. s) o)
       of None = refl

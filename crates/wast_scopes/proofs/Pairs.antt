@@ -3,6 +3,7 @@ use Rattle.std.proofs.Common.{◌≡◌, ℕ, ◌+◌, ◌<◌, ◌≤◌, List,
 use Rattle.std.specs.Prelude.{◌&&◌}
 use Rattle.std.specs.Cmp.Lexicographic.{pointwise}
 use Rattle.std.proofs.lemmas.Bool.{cases_lt}
+use Rattle.std.proofs.lemmas.Simd.{map-map}
 use Rattle.std.proofs.lemmas.Bool.Decides.{Decides-eqb}
 use Rattle.std.proofs.lemmas.List.{drop_all}
 use Rattle.wast_names.proofs.Walk.{rest_is}
@@ -22,12 +23,8 @@ param_value look p = numbered_value look (param_tree p).val_type
 abbrev pub result_value : Look → ValType → NumberedValue
 result_value look t = numbered_value look (val_tree t)
 
-map_views : {X Y Z : Type 0} (of : Y → Z) (view : X → Y) (xs : List X) → map (λ x. of (view x)) xs ≡ map of (map view xs)
-map_views of view [] = refl
-map_views of view (x ∷ xs) = ap (λ l. of (view x) ∷ l) (map_views of view xs)
-
 pub two_views : {X Y : Type 0} (of : Y → NumberedValue) (view : X → Y) (xs : List X) (ys : List NumberedType) → pointwise same_numbered_value (map (λ x. of (view x)) xs) (map value_of_numbered ys) ≡ pointwise same_numbered_value (map of (map view xs)) (map value_of_numbered ys)
-two_views of view xs ys = ap (λ l. pointwise same_numbered_value l (map value_of_numbered ys)) (map_views of view xs)
+two_views of view xs ys = ap (λ l. pointwise same_numbered_value l (map value_of_numbered ys)) (sym (map-map of view xs))
 
 module _ {X : Type 0} (seen : X → NumberedValue) where
   abbrev pub alike : List X → List NumberedType → Bool

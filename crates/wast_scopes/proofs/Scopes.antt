@@ -15,9 +15,9 @@ use Rattle.wast_names.proofs.Positions.{numbers_of}
 use Rattle.wast_core_instr.specs.InstructionTree.{Instruction}
 use Rattle.wast_meaning.specs.Mentions.{instr_mentions}
 use Rattle.wast_meaning.specs.Spaces.{space_word}
-use Rattle.wast_meaning.specs.Scope.{turn_of_head, own_label, locals_or, labels_or}
+use Rattle.wast_meaning.specs.Scope.{turn_of_head, own_label, labels_left, labels_found, labels_after, locals_or, labels_or}
 use Rattle.wast_scopes.specs.declared.scope.Scope.{Scope}
-use Rattle.wast_scopes.specs.Known.{Known, Labelled, look_among, with_labels, with_locals, turned, seen, after, mention_by, instr_by}
+use Rattle.wast_scopes.specs.Known.{Known, Labelled, look_among, with_labels, with_locals, mention_by, instr_by}
 use Rattle.wast_scopes.specs.Views.{known, module_look}
 
 -- outside blocks no label is known
@@ -68,17 +68,17 @@ known_with c d ids spaces signatures locals = λ i. record {
 
 -- INSTRUCTIONS by what they do to blocks
 module _ {T : Type 0} (r : Result T Problem) (k : Known) (old new : Labelled) (i : Instruction Name ℕ) where
-  pub opened : Opens ≡ turn_of_head i.head → OnOk r (new ≡ own_label i.operands ∷ old) → OnOk r (new ≡ after old i)
-  opened turn h = subst (λ t. OnOk r (new ≡ turned t (own_label i.operands) old)) turn h
+  pub opened : Opens ≡ turn_of_head i.head → OnOk r (new ≡ own_label i.operands ∷ old) → OnOk r (new ≡ labels_after old i)
+  opened turn h = subst (λ t. OnOk r (new ≡ labels_left t (own_label i.operands) old)) turn h
 
-  pub closed : Closes ≡ turn_of_head i.head → OnOk r (new ≡ drop 1 old) → OnOk r (new ≡ after old i)
-  closed turn h = subst (λ t. OnOk r (new ≡ turned t (own_label i.operands) old)) turn h
+  pub closed : Closes ≡ turn_of_head i.head → OnOk r (new ≡ drop 1 old) → OnOk r (new ≡ labels_after old i)
+  closed turn h = subst (λ t. OnOk r (new ≡ labels_left t (own_label i.operands) old)) turn h
 
-  pub stayed : Stays ≡ turn_of_head i.head → OnOk r (new ≡ old) → OnOk r (new ≡ after old i)
-  stayed turn h = subst (λ t. OnOk r (new ≡ turned t (own_label i.operands) old)) turn h
+  pub stayed : Stays ≡ turn_of_head i.head → OnOk r (new ≡ old) → OnOk r (new ≡ labels_after old i)
+  stayed turn h = subst (λ t. OnOk r (new ≡ labels_left t (own_label i.operands) old)) turn h
 
   abbrev Heard : Turn → Type 0
-  Heard t = Answers r (flat_map (mention_by (with_labels k (seen t old) old)) (instr_mentions i))
+  Heard t = Answers r (flat_map (mention_by (with_labels k (labels_found t old) old)) (instr_mentions i))
 
   pub heard_opened : Opens ≡ turn_of_head i.head → Answers r (flat_map (mention_by (with_labels k old old)) (instr_mentions i)) → Answers r (instr_by k old i)
   heard_opened turn h = subst Heard turn h

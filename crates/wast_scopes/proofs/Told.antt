@@ -4,7 +4,6 @@ use Rattle.std.specs.Prelude.{◌&&◌, option_map, option_and_then, option_to_l
 use Rattle.std.specs.List.{flat_map}
 use Rattle.std.specs.Cmp.Lexicographic.{pointwise}
 use Rattle.wasm_encoder_base.specs.Table.{Space, Labels, Locals, Functions, Types, Tables, Memories, Globals, Tags, Datas, Elems, Fields}
-use Rattle.wasm_encoder_base.specs.Balanced.{Turn, Opens, Closes, Stays}
 use Rattle.wast_grammar.specs.Tokens.{Name}
 use Rattle.wast_grammar.specs.Spelling.{same_name}
 use Rattle.wast_parser.specs.Identifiers.{Named, Reference, ByNumber, ByName}
@@ -18,11 +17,11 @@ use Rattle.wast_meaning.specs.Mentions.{Mention, Refers, Member, Uses, UsesInBlo
 use Rattle.wast_meaning.specs.Spaces.{space_word}
 use Rattle.wast_meaning.specs.Implied.{no_sig, number_code, same_flag, same_option, same_heap, same_val, same_local, same_sig}
 use Rattle.wast_meaning.specs.Scope as scopes
-use Rattle.wast_meaning.specs.Scope.{Scope, turn_of_head, own_label, labels_left, open_labels, labels_seen, labels_or, locals_or, label_space, scope_at, members, params_of_index, params_of, locals_of}
+use Rattle.wast_meaning.specs.Scope.{Scope, turn_of_head, labels_found, labels_after, open_labels, labels_or, locals_or, label_space, scope_at, members, params_of_index, params_of, locals_of}
 use Rattle.wast_meaning.specs.Demands.{same_numbered, agrees, agreement, agreements, place_of, says_demands, use_demands, mention_demands, instrs_demands, func_demands, part_demands}
-use Rattle.wast_meaning.proofs.Labels.{fewer, stacked}
+use Rattle.wast_meaning.proofs.Labels.{stacked, found_so}
 use Rattle.wast_scopes.specs.Numbered.{Look, number_by, NumberedValue, numbered_heap, numbered_value, numbered_sig, same_numbered_value, same_numbered_sig, same_sig_by, params_in}
-use Rattle.wast_scopes.specs.Known.{Known, known_in, known_by, look_among, with_locals, turned, seen, after, known_at, members_by, says_by, agreement_by, agreements_by, use_by, mention_by, instrs_by, params_of_index_by, params_by, locals_by, func_by, part_by}
+use Rattle.wast_scopes.specs.Known.{Known, known_in, known_by, look_among, with_locals, known_at, members_by, says_by, agreement_by, agreements_by, use_by, mention_by, instrs_by, params_of_index_by, params_by, locals_by, func_by, part_by}
 
 -- INDICES
 number_is : (s : names.Space Name) (i : Reference Name ℕ) → number_by s.look i ≡ names.number_of s i
@@ -173,24 +172,14 @@ module _ (s : Scope Name ℕ) where
       of Fields = refl
 
   -- LABELS
-  seen_is : (turn : Turn) (before : List (Instruction Name ℕ)) → seen turn (open_labels before) ≡ labels_seen turn before
-  seen_is Opens before = refl
-  seen_is Closes before = sym (fewer before 1)
-  seen_is Stays before = refl
-
-  turned_is : (turn : Turn) (label : Option (Named Name ℕ)) (blocks : List (Option (Named Name ℕ))) → turned turn label blocks ≡ labels_left turn label blocks
-  turned_is Opens label blocks = refl
-  turned_is Closes label blocks = refl
-  turned_is Stays label blocks = refl
-
-  after_is : (before : List (Instruction Name ℕ)) (i : Instruction Name ℕ) → after (open_labels before) i ≡ open_labels (i ∷ before)
-  after_is before i = turned_is (turn_of_head i.head) (own_label i.operands) (open_labels before) ∙ sym (stacked i before)
+  after_is : (before : List (Instruction Name ℕ)) (i : Instruction Name ℕ) → labels_after (open_labels before) i ≡ open_labels (i ∷ before)
+  after_is before i = sym (stacked i before)
 
   known_at_is : (before : List (Instruction Name ℕ)) (i : Instruction Name ℕ) → known_at (known_in s) (open_labels before) i ≡ known_in (scope_at same_name s before i)
   known_at_is before i = ap (λ look. record { look = look; fields = k.fields; sig_of = k.sig_of; blocks = open_labels before }) (λ j t. of t j)
     where
-      of : (t : Space) → labels_or (look_among (seen (turn_of_head i.head) (open_labels before))) k.look t ≡ (labels_or (label_space same_name before i) s.spaces t).look
-      of Labels = ap look_among (seen_is (turn_of_head i.head) before)
+      of : (t : Space) → labels_or (look_among (labels_found (turn_of_head i.head) (open_labels before))) k.look t ≡ (labels_or (label_space same_name before i) s.spaces t).look
+      of Labels = ap look_among (sym (found_so (turn_of_head i.head) before))
       of Locals = refl
       of Functions = refl
       of Types = refl
@@ -208,7 +197,7 @@ each_mention s ms = ap (λ f. flat_map f ms) (λ i m. mention_is s m i)
 instrs_is : (s : Scope Name ℕ) (before is : List (Instruction Name ℕ)) → instrs_by (known_in s) (open_labels before) is ≡ instrs_demands same_name s before is
 instrs_is s before [] = refl
 instrs_is s before (i ∷ is) =
-    ap (λ (l : List (Demand Name ℕ)). l ++ instrs_by (known_in s) (after (open_labels before) i) is)
+    ap (λ (l : List (Demand Name ℕ)). l ++ instrs_by (known_in s) (labels_after (open_labels before) i) is)
     (ap (λ q. flat_map (mention_by q) (instr_mentions i)) (known_at_is s before i) ∙ each_mention (scope_at same_name s before i) (instr_mentions i))
     ∙ ap (λ (l : List (Demand Name ℕ)). flat_map (mention_demands same_name (scope_at same_name s before i)) (instr_mentions i) ++ l)
     (ap (λ blocks. instrs_by (known_in s) blocks is) (after_is s before i) ∙ instrs_is s (i ∷ before) is)

@@ -1,7 +1,7 @@
 -- What is read in parts.
 use Rattle.std.proofs.Common.{◌≡◌, Bool, true, false, List, Option, Some, None, Result, Ok, Err, inl, inr, refl, ◌∙◌, ap}
+use Rattle.std.proofs.lemmas.Option.{same_Some}
 use Rattle.wast_value_types.specs.Tokens.{SignificantToken}
-use Rattle.wast_value_types.proofs.Looks.{some_one}
 use Rattle.wast_value_types.specs.Problem.{Problem}
 use Rattle.wast_value_types.specs.Spelling.{◌>>=◌}
 use Rattle.wast_value_types.specs.Look.{Test, ask}
@@ -46,27 +46,27 @@ module _ {N P A B C : Type 0} (starts : List Test) (f : A × B → C) (g : Reade
       begun : (q : Option (A × List (SignificantToken N P))) → g ts ≡ q → ask starts ts ≡ Some true → (q >>= there) ≡ Some (Some a, us) → chosen ≡ map_reads (λ b. f (a, b)) h us
       begun None d w e = none_some e
       begun (Some x) d w e =
-          let q : (Some x.0, x.1) ≡ (Some a, us) = some_one _ _ e in
-          let i : x.0 ≡ a = some_one _ _ (ap (λ z. z.0) q) in
+          let q : (Some x.0, x.1) ≡ (Some a, us) = same_Some _ _ e in
+          let i : x.0 ≡ a = same_Some _ _ (ap (λ z. z.0) q) in
           let j : x.1 ≡ us = ap (λ z. z.1) q in
           after x (h x.1) refl d w ∙ ap (λ z. map_reads (λ b. f (z, b)) h x.1) i ∙ ap (map_reads (λ b. f (a, b)) h) j
 
       asked : (o : Option Bool) → ask starts ts ≡ o → maybe_reads starts g ts ≡ Some (Some a, us) → chosen ≡ map_reads (λ b. f (a, b)) h us
       asked None w e = none_some (rw w at e)
       asked (Some true) w e = begun (g ts) refl w (rw w at e)
-      asked (Some false) w e = none_some (ap (λ z. z.0) (some_one _ _ (rw w at e)))
+      asked (Some false) w e = none_some (ap (λ z. z.0) (same_Some _ _ (rw w at e)))
 
   pub second_chosen : (us : List (SignificantToken N P)) → maybe_reads starts g ts ≡ Some (None, us) → chosen ≡ k us
   second_chosen us e = asked (ask starts ts) refl e
     where
       begun : (q : Option (A × List (SignificantToken N P))) → (q >>= there) ≡ Some (None, us) → chosen ≡ k us
       begun None e = none_some e
-      begun (Some x) e = some_none (ap (λ z. z.0) (some_one _ _ e))
+      begun (Some x) e = some_none (ap (λ z. z.0) (same_Some _ _ e))
 
       asked : (o : Option Bool) → ask starts ts ≡ o → maybe_reads starts g ts ≡ Some (None, us) → chosen ≡ k us
       asked None w e = none_some (rw w at e)
       asked (Some true) w e = begun (g ts) (rw w at e)
-      asked (Some false) w e = let j : ts ≡ us = ap (λ z. z.1) (some_one _ _ (rw w at e)) in rw w (ap k j)
+      asked (Some false) w e = let j : ts ≡ us = ap (λ z. z.1) (same_Some _ _ (rw w at e)) in rw w (ap k j)
 
 -- what comes second, read in another way
 pub second_so : {N P A B : Type 0} (g : Reader N P A) (h k : Reader N P B) (ts : List (SignificantToken N P)) → ((us : List (SignificantToken N P)) → h us ≡ k us) → seq_reads g (λ _. h) ts ≡ seq_reads g (λ _. k) ts

@@ -1,11 +1,12 @@
 -- The laws of the syntax of signatures, type uses and fields of structures: each mirrors its production.
 use Rattle.std.proofs.Common.{ℕ, List, refl}
 use Rattle.std.specs.Prelude.{codes}
+use Rattle.wast_value_types.specs.Look.{id_starts}
 use Rattle.wast_value_types.proofs.GrammarLaws.{Lawful, seen_laws, seq_laws, maybe_laws, many_laws, either_laws, paren_laws, group_laws}
 use Rattle.wast_value_types.proofs.IdentifierLaws.{identifier_laws, index_laws, name_annotation_laws, maybe_name_laws}
 use Rattle.wast_value_types.proofs.ValueLaws.{val_type_laws, field_type_laws}
 use Rattle.wast_value_types.specs.ValueSyntax.{field_starts}
-use Rattle.wast_signatures.specs.TypeSyntax.{id_starts, given_starts, given_name, val_types, named_locals, locals, result, sig_groups, param, bare_param, sig, bare_sig, named_fields, index_of, type_use, bare_use}
+use Rattle.wast_signatures.specs.TypeSyntax.{given_starts, given_name, val_types, named_locals, locals, result, sig_groups, param, bare_param, sig, bare_sig, named_fields, index_of, type_use, bare_use}
 
 module _ {N P : Type 0} where
   pub given_name_laws : Lawful (given_name {N = N} {P = P})

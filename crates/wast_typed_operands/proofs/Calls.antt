@@ -1,15 +1,14 @@
 -- What an indirect call reads: a type use, and an index behind it where any of it is written.
 use Rattle.std.proofs.Common.{◌≡◌, Bool, true, false, List, [], Option, Some, None, refl, sym, ◌∙◌, ap, cond}
 use Rattle.std.specs.Prelude.{codes}
+use Rattle.std.proofs.lemmas.Option.{same_Some}
 use Rattle.wast_signatures.specs.Tokens.{SignificantToken}
 use Rattle.wast_signatures.specs.Spelling.{◌>>=◌}
-use Rattle.wast_signatures.specs.Look.{this_group, look, fits, at, ask, faults}
+use Rattle.wast_signatures.specs.Look.{this_group, look, fits, at, ask, faults, index_starts, type_starts}
 use Rattle.wast_signatures.specs.Grammar.{Reader, group, maybe, seq_reads, map_reads, only_reads, maybe_reads, either_reads}
 use Rattle.wast_signatures.specs.Identifiers.{Reference, index}
-use Rattle.wast_signatures.proofs.Looks.{some_one}
-use Rattle.wast_signatures.specs.ValueSyntax.{index_starts}
 use Rattle.wast_signatures.specs.TypeTree.{TypeUse, Sig}
-use Rattle.wast_signatures.specs.TypeSyntax.{type_starts, sig_starts, as_use, as_bare, bare_param, bare_sig, bare_use, result, index_of}
+use Rattle.wast_signatures.specs.TypeSyntax.{sig_starts, as_use, as_bare, bare_param, bare_sig, bare_use, result, index_of}
 use Rattle.wast_signatures.proofs.Uses.{inline_looked}
 use Rattle.wast_typed_operands.specs.TypedTree.{Indirect}
 use Rattle.wast_typed_operands.specs.UseThenTable.{use_then_table}
@@ -69,7 +68,7 @@ module _ {N P : Type 0} (g : Reader N P (Reference N P)) (q : Reader N P (Sig N 
 
   behind_index : (i : Reference N P) (o : Option (Option (Sig N P) × Rest)) (x : TypeUse N P × Rest) → ((o >>= both (Some i)) >>= used) ≡ Some x → is_written x.0 ≡ true
   behind_index i None x e = absurd (cc)
-  behind_index i (Some b) x e = ap (λ (y : TypeUse N P × Rest). is_written y.0) (sym (some_one _ _ e))
+  behind_index i (Some b) x e = ap (λ (y : TypeUse N P × Rest). is_written y.0) (sym (same_Some _ _ e))
 
   with_index : (o : Option (Reference N P × Rest)) (x : TypeUse N P × Rest) → (((o >>= there) >>= then_inline) >>= used) ≡ Some x → is_written x.0 ≡ true
   with_index None x e = absurd (cc)
@@ -77,7 +76,7 @@ module _ {N P : Type 0} (g : Reader N P (Reference N P)) (q : Reader N P (Sig N 
 
   with_inline : (o : Option (Sig N P × Rest)) (x : TypeUse N P × Rest) → (((o >>= there) >>= both None) >>= used) ≡ Some x → is_written x.0 ≡ true
   with_inline None x e = absurd (cc)
-  with_inline (Some s) x e = ap (λ (y : TypeUse N P × Rest). is_written y.0) (sym (some_one _ _ e))
+  with_inline (Some s) x e = ap (λ (y : TypeUse N P × Rest). is_written y.0) (sym (same_Some _ _ e))
 
   module _ (ts : List (SignificantToken N P)) where
     by_index : ask use_starts ts ≡ Some true → ask type_starts ts ≡ Some true → looked ts ≡ (whole ts >>= after_use)

@@ -5,15 +5,15 @@ use Rattle.std.proofs.Common.{◌≡◌, refl, ap, subst, List, [], ◌∷◌, �
 use Rattle.wast_signatures.specs.Lawful.{Settles, Leads}
 use Rattle.wast_signatures.specs.Grammar.{Syntax, wide, seq, only, maybe, many, group}
 use Rattle.wast_signatures.specs.Identifiers.{Reference, ByName, identifier, index}
-use Rattle.wast_signatures.specs.Look.{this_group}
+use Rattle.wast_signatures.specs.Look.{this_group, id_starts, index_starts}
 use Rattle.wast_signatures.proofs.GrammarLaws.{Lawful, nothing_laws, seen_laws, only_laws, seq_laws, maybe_laws, many_laws, either_laws, group_laws, many_settles, seq_settles, seen_settles, one_value}
 use Rattle.wast_signatures.proofs.LeadLaws.{seen_leads, either_leads, group_leads}
 use Rattle.wast_signatures.proofs.Looks.{absurd_of}
 use Rattle.wast_signatures.proofs.IdentifierLaws.{identifier_laws, index_laws}
-use Rattle.wast_signatures.specs.ValueSyntax.{index_starts, ref_type}
+use Rattle.wast_signatures.specs.ValueSyntax.{ref_type}
 use Rattle.wast_signatures.proofs.ValueLaws.{ref_type_laws}
 use Rattle.wast_signatures.specs.TypeTree.{TypeUse}
-use Rattle.wast_signatures.specs.TypeSyntax.{id_starts, result, bare_use}
+use Rattle.wast_signatures.specs.TypeSyntax.{result, bare_use}
 use Rattle.wast_signatures.proofs.SignatureLaws.{result_laws, bare_use_laws}
 use Rattle.wast_typed_operands.specs.TypedSyntax.{catch_starts, use_starts, result_starts, is_written, as_block, block, tag_label, clause, as_try_table, try_table, no_use, written_use, table_first, table_last, use_first, indirect, select_types, types_of, cast, as_cast}
 

@@ -1,10 +1,9 @@
 -- Types are equal exactly where their trees are, places aside.
 use Rattle.std.proofs.Common.{◌≡◌, ℕ, Bool, true, false, List, refl, sym, ◌∙◌, ap, ◌&&◌, rules}
-use Rattle.std.proofs.lemmas.Bool.{eqb-true, eq-eqb}
+use Rattle.std.proofs.lemmas.Bool.{eqb-true, eq-eqb, and_parts, and_from}
 use Rattle.std.specs.Cmp.Lexicographic.{bytes_decides}
 use Rattle.wasm_encoder_base.specs.Types.{FuncHeap, ExternHeap, AnyHeap, EqHeap, I31Heap, StructHeap, ArrayHeap, ExnHeap, NoFuncHeap, NoExternHeap, NoneHeap, NoExnHeap}
 use Rattle.wast_words.specs.Tokens.{Name}
-use Rattle.wast_words.proofs.Looks.{both, two}
 use Rattle.wast_parser_base.specs.declared.index.Index.{Index}
 use Rattle.wast_parser_base.specs.declared.index.Index.TheVariants as indices
 use Rattle.wast_parser_base.specs.contracts.index.IndexPartialEq.TheImpl as index_eq
@@ -90,7 +89,7 @@ index_to (indices.Num m p) (indices.Num n q) e = ap (λ k. ByNumber k tt) (eqb-t
 index_to (indices.Num m p) (indices.Id y) e = absurd cc
 index_to (indices.Id x) (indices.Num n q) e = absurd cc
 index_to (indices.Id x) (indices.Id y) e =
-    let k = both _ _ e in
+    let k = and_parts _ _ e in
     ap (λ n. ByName ((n, x.generation), tt)) ((bytes_decides x.name y.name).0 k.1) ∙ ap (λ g. ByName ((y.name, g), tt)) (eqb-true x.generation y.generation k.0)
 
 number_of : {P : Type 0} → ℕ → Reference Name P → ℕ
@@ -107,7 +106,7 @@ index_from (indices.Num m p) (indices.Num n q) e = eq-eqb m n (ap (number_of 0) 
 index_from (indices.Num m p) (indices.Id y) e = absurd cc
 index_from (indices.Id x) (indices.Num n q) e = absurd cc
 index_from (indices.Id x) (indices.Id y) e =
-    two _ _ (eq-eqb x.generation y.generation (ap (number_of 0) e)) ((bytes_decides x.name y.name).1 (ap (name_of x.name) e))
+    and_from _ _ (eq-eqb x.generation y.generation (ap (number_of 0) e)) ((bytes_decides x.name y.name).1 (ap (name_of x.name) e))
 
 -- HEAP TYPES
 pub heap_to : (a b : HeapType) → heap_eq.ghosts.eq a b ≡ true → unplaced_heap (heap_tree a) ≡ unplaced_heap (heap_tree b)

@@ -3,7 +3,7 @@ use Rattle.std.proofs.Common.{◌≡◌, true, false, List, [], ◌∷◌, Some,
 use Rattle.std.specs.Prelude.{◌-◌, ◌^◌, codes}
 use Rattle.wasm_encoder_base.specs.Types.{FuncHeap}
 use Rattle.wast_words.specs.Tokens.{SignificantToken, Id, Word}
-use Rattle.wast_words.specs.Look.{this_group, join, ask}
+use Rattle.wast_words.specs.Look.{this_group, join, ask, index_starts}
 use Rattle.wast_words.specs.Grammar.{group}
 use Rattle.wast_words.specs.Integers.{unsigned}
 use Rattle.wast_words.specs.Identifiers.{Reference, ByName, index}
@@ -11,16 +11,13 @@ use Rattle.wast_words.proofs.GrammarLaws.{Lawful, Leads, seen_laws, only_laws, s
 use Rattle.wast_words.proofs.Unread.{unread}
 use Rattle.wast_words.proofs.LeadLaws.{seen_leads, either_leads, group_leads}
 use Rattle.wast_words.proofs.IdentifierLaws.{index_laws, index_leads}
-use Rattle.wast_words.proofs.IntegerLaws.{number_laws}
+use Rattle.wast_words.proofs.IntegerLaws.{number_laws, u32_laws}
 use Rattle.wast_words.specs.WordSyntax.{keywords, keyword}
 use Rattle.wast_words.proofs.WordLaws.{keyword_laws, optional_laws, keyword_leads}
 use Rattle.wast_value_types.specs.ValueTree.{Abstract, Known, Packed, I8}
-use Rattle.wast_value_types.specs.ValueSyntax.{number_words, heap_words, short_words, packed_words, address_words, index_starts, heap_starts, ref_starts, val_starts, mut_starts, field_starts, page_starts, u32, u64, heap_type, as_ref, ref_body, ref_type, val_type, storage_type, field_type, shared_global, global_type, address_type, limits, table_type, power_of_two, page_size, memory_type}
+use Rattle.wast_value_types.specs.ValueSyntax.{number_words, heap_words, short_words, packed_words, address_words, heap_starts, ref_starts, val_starts, mut_starts, field_starts, page_starts, u64, heap_type, as_ref, ref_body, ref_type, val_type, storage_type, field_type, shared_global, global_type, address_type, limits, table_type, power_of_two, page_size, memory_type}
 
 module _ {N P : Type 0} where
-  pub u32_laws : Lawful (u32 {N = N} {P = P})
-  u32_laws = seen_laws _ _ (number_laws (2 ^ 32 - 1) None unsigned)
-
   pub u64_laws : Lawful (u64 {N = N} {P = P})
   u64_laws = seen_laws _ _ (number_laws (2 ^ 64 - 1) None unsigned)
 

@@ -3,7 +3,7 @@ use Rattle.std.proofs.Common.{◌≡◌, ℕ, zero, suc, true, false, List, [], 
 use Rattle.std.specs.Prelude.{◌*◌, ◌-◌, ◌^◌}
 use Rattle.std.specs.Int.{Width, w8, w16, w32, w64, byte_len}
 use Rattle.wast_parser.specs.Tokens.{SignificantToken, Open, Integer, Float}
-use Rattle.wast_parser.specs.Look.{look, at}
+use Rattle.wast_parser.specs.Look.{look, at, integer_starts}
 use Rattle.wast_parser.specs.Grammar.{Syntax, wide, next, times, float}
 use Rattle.wast_parser.specs.Integers.{unsigned, signed}
 use Rattle.wast_parser.proofs.Looks.{absurd_of, first_deep, flat_plain, answered, sub_law}
@@ -11,7 +11,7 @@ use Rattle.wast_parser.proofs.GrammarLaws.{Lawful, Leads, among_laws, float_laws
 use Rattle.wast_parser.proofs.LeadLaws.{LooksSpelled, spelled_seen, seen_leads, among_leads, next_leads}
 use Rattle.wast_parser.proofs.IntegerLaws.{number_laws, integer_value_leads}
 use Rattle.wast_vector_operands.specs.VectorTree.{Vector, Integers, Floats, Shape, I8x16, I16x8, I32x4, I64x2, F32x4, F64x2}
-use Rattle.wast_vector_operands.specs.VectorSyntax.{shape_word, shapes, integer_starts, float_starts, shape_starts, signed_literal, float_literal, lane, shuffle, integers, floats, lanes_of, shape, vector}
+use Rattle.wast_vector_operands.specs.VectorSyntax.{shape_word, shapes, float_starts, shape_starts, signed_literal, float_literal, lane, shuffle, integers, floats, lanes_of, shape, vector}
 
 module _ {N P : Type 0} where
   -- LITERALS

@@ -1,6 +1,5 @@
 -- What the parts of `assemble` answer is what the input deserves.
-use Rattle.std.proofs.Common.{ℕ, ◌≡◌, ◌<◌, ◌^◌, true, false, inl, inr, None, List, Result, Ok, Err, length, refl, sym, ◌∙◌, ap, arith}
-use Rattle.std.specs.Prelude.{MatchResult}
+use Rattle.std.proofs.Common.{ℕ, ◌≡◌, ◌<◌, ◌^◌, true, false, inl, inr, None, List, length, refl, sym, ◌∙◌, ap, arith}
 use Rattle.std.specs.Str.{IsUtf8}
 use Rattle.wast_grammar.specs.Tokens.{Name}
 use Rattle.wast_parser.specs.Problem.{Problem, is_memory}
@@ -98,8 +97,3 @@ told_of text tree s (faults.Unmet error) j = (tree, s, j)
 told_of text tree s (faults.Uncovered span form) j = (tree, s, j)
 told_of text tree s faults.TooLarge j = (tree, s, j)
 told_of text tree s (faults.Write written) j = (tree, s, j)
-
--- what an answer says, said of something else
-pub matched : {A E : Type 0} {P Q : A → Type 0} {R S : E → Type 0} (r : Result A E) → MatchResult r P R → ((x : A) → P x → Q x) → ((e : E) → R e → S e) → MatchResult r Q S
-matched (Ok x) m f g = f x m
-matched (Err e) m f g = g e m

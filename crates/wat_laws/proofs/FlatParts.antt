@@ -1,6 +1,7 @@
 -- Where the tokens of a flat body stand: at places of the folded one, each of them as often at most.
 use Rattle.std.specs.Prelude.{codes, if◌then◌else◌}
 use Rattle.std.proofs.Common.{◌≡◌, ◌≤◌, ◌+◌, ℕ, zero, suc, Bool, true, false, List, [], ◌∷◌, ◌++◌, map, Option, Some, None, inl, inr, sym, ◌∙◌, ap, subst, arith}
+use Rattle.std.proofs.lemmas.Option.{same_Some}
 use Rattle.wast_grammar.specs.Tokens.{SignificantToken, Open, Close, Id, Word, Mark, Integer, Float, Text, Reserved, Broken}
 use Rattle.wast_grammar.specs.Spelling as spelling
 use Rattle.wast_grammar.specs.Spelling.{same_text, that_one}
@@ -41,11 +42,8 @@ module _ {N : Type 0} (p w : ℕ) where
   word_stands : (v : List ℕ) (t : SignificantToken N ℕ) → that_one v t ≡ Some w → at_place p (Some w) ≡ at_place p (place_of t)
   word_stands v (Word u q) e = by_test (same_text v u) e
     where
-      one : (a b : ℕ) → Some a ≡ Some b → a ≡ b
-      one a b e = cc
-
       by_test : (same : Bool) → (if same then Some q else None) ≡ Some w → at_place p (Some w) ≡ at_place p (Some q)
-      by_test true e = ap (λ z. at_place p (Some z)) (sym (one q w e))
+      by_test true e = ap (λ z. at_place p (Some z)) (sym (same_Some q w e))
       by_test false e = absurd (cc)
   word_stands v (Open q) e = absurd (cc)
   word_stands v (Close q) e = absurd (cc)
@@ -70,9 +68,6 @@ module _ {N I : Type 0} (ins : Syntax N ℕ I) (heads : Heads I) (m : Made ℕ I
 
   abbrev km : Made ℕ (I × Tokens)
   km = kept_made m
-
-  abbrev Unfolded : Type 0
-  Unfolded = List (Option ℕ × (I × Tokens))
 
   module _ (W : Syntax N ℕ (Group ℕ (I × Tokens))) (claim : (g : Group ℕ (I × Tokens)) (ts : Tokens) → W.spells g ts → (h : Option ℕ) → total p (outs.group_out km h g.head g.inside g.close) ≤ standing p ts) where
     one_within : (x : Option ℕ × Item ℕ (I × Tokens)) (us : Tokens) → (item K kh W).spells x us → total p (outs.item_out km x.0 x.1) ≤ standing p us

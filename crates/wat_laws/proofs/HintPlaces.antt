@@ -1,5 +1,6 @@
 -- A hint stands with the place of its instruction.
 use Rattle.std.proofs.Common.{ℕ, zero, suc, ◌≡◌, ◌<◌, ◌+◌, List, [], ◌∷◌, ◌++◌, map, length, take, drop, slice_get, Some, refl, sym, ap, ◌∙◌, subst, append_assoc, flat_map, length-append}
+use Rattle.std.proofs.lemmas.Option.{same_Some}
 use Rattle.std.proofs.lemmas.List.{map-append}
 use Rattle.std.proofs.Math.Seq.{drop-append-add}
 use Rattle.std.specs.List.{AllByRecursion}
@@ -22,7 +23,6 @@ use Rattle.wasm_layout.specs.IsModule.{IsHint, AreHints}
 use Rattle.wasm_layout.specs.Laws.{HintStands, bodies_bytes}
 use Rattle.wasm_layout.specs.Lays.{Lays}
 use Rattle.wasm_layout.proofs.HintPlaces as layouts
-use Rattle.wat_verdict.proofs.Unmet.{some_same}
 use Rattle.wat_laws.specs.HintPlaces.{HasHint, SectionStands, ListsHint, BodyStarts, HintPlaces, HintPlaced}
 use Rattle.wat_laws.proofs.SectionPlaces.{before_hints, behind_hints, before_codes, behind_codes, any_around, section_stands}
 
@@ -37,7 +37,7 @@ of_item_behind P (z ∷ xs) x ys h = of_item_behind P xs x ys h.1
 
 from_item : {A : Type 0} (xs : List A) (k : ℕ) (x : A) → slice_get xs k ≡ Some x → (rest : List A) × (drop k xs ≡ x ∷ rest)
 from_item [] k x e = absurd (cc)
-from_item (y ∷ ys) zero x e = (ys, ap (λ z. z ∷ ys) (some_same y x e))
+from_item (y ∷ ys) zero x e = (ys, ap (λ z. z ∷ ys) (same_Some y x e))
 from_item (y ∷ ys) (suc k) x e = from_item ys k x e
 
 -- BYTES: the instructions of a body from one on, and the end, with what stands behind it

@@ -1,23 +1,22 @@
 -- Texts by hand, cut into tokens by computation, and tokens and trees by hand.
-use Rattle.std.proofs.Common.{◌≡◌, ◌<◌, ◌^◌, ℕ, zero, suc, ◌+◌, ◌-◌, Bool, true, false, List, [], ◌∷◌, ◌++◌, length, Option, Some, None, refl, sym, ◌∙◌, ap, subst, arith, length-append}
+use Rattle.std.proofs.Common.{◌≡◌, ◌<◌, ◌^◌, ℕ, zero, suc, ◌+◌, Bool, true, false, List, [], ◌∷◌, ◌++◌, length, Option, Some, None, refl, sym, ◌∙◌, ap, subst}
 use Rattle.std.specs.Prelude.{option_map, codes}
 use Rattle.std.specs.Str.{is_utf8}
+use Rattle.std.proofs.lemmas.Option.{same_Some}
 use Rattle.std.proofs.lemmas.Str.{IsUtf8-from_is_utf8}
 use Prim.Native.String.{String}
-use Rattle.std.proofs.Math.Seq.{take-append_seam}
 use Rattle.wast_lexer.specs.declared.token.TokenKind.{TokenKind}
 use Rattle.wast_lexer.specs.Kinds.{is_open}
 use Rattle.wast_lexer.specs.Lexeme.{Lexeme}
 use Rattle.wast_lexer.specs.Tiling.{Begins, Tiles, ends}
 use Rattle.wast_lexer.specs.Scan.{front, next}
-use Rattle.wast_lexer.proofs.ScanLaws.{sound}
+use Rattle.wast_lexer.proofs.ScanLaws.{front_of, sound}
 use Rattle.wast_grammar.specs.Tokens.{Name, Id, Word, Integer, is_whole}
 use Rattle.wast_grammar.specs.Significant.{TextToken, AreSignificant, significant}
 use Rattle.wast_grammar.proofs.SignificantLaws.{significant_law}
 use Rattle.wast_field_syntax.specs.FieldTree.{Field, Fields, Module}
 use Rattle.wat_verdict.specs.Registered.{registered}
 use Rattle.wat_verdict.proofs.Alike.{mapped_of}
-use Rattle.wat_verdict.proofs.Unmet.{some_same}
 use Rattle.wat_laws.specs.Bounds.{WithinBounds}
 
 abbrev lexeme : TokenKind → List ℕ → ℕ → Lexeme
@@ -32,12 +31,9 @@ lexemes (suc n) opened from (c ∷ s) = elim (next false opened (c ∷ s)) [
   | None ↦ None
 ]
 
-front_of : (w r : List ℕ) → front (w ++ r) r ≡ w
-front_of w r = let n : length (w ++ r) - length r ≡ length w = omega (arith, length-append w r) in rw n (take-append_seam w r)
-
 tiled : (n : ℕ) (opened : Bool) (from : ℕ) (text : List ℕ) (ls : List Lexeme) → lexemes n opened from text ≡ Some ls → Tiles false opened from text ls
-tiled zero opened from [] ls e = subst (Tiles false opened from []) (some_same [] ls e) refl
-tiled (suc n) opened from [] ls e = subst (Tiles false opened from []) (some_same [] ls e) refl
+tiled zero opened from [] ls e = subst (Tiles false opened from []) (same_Some [] ls e) refl
+tiled (suc n) opened from [] ls e = subst (Tiles false opened from []) (same_Some [] ls e) refl
 tiled zero opened from (c ∷ s) ls e = absurd (cc)
 tiled (suc n) opened from (c ∷ s) ls e = by_case (next false opened (c ∷ s)) refl e (λ o f r more. tiled n o f r more)
   where

@@ -1,10 +1,11 @@
 -- Fields of which parts have places of their own say the same: names mean the same among them, and the same is demanded, formed and covered.
-use Rattle.std.proofs.Common.{◌≡◌, ℕ, zero, suc, ◌+◌, Bool, true, false, List, [], ◌∷◌, ◌++◌, map, length, Option, Some, None, is_none, refl, sym, ◌∙◌, ap}
+use Rattle.std.proofs.Common.{◌≡◌, ℕ, ◌+◌, Bool, true, false, List, [], ◌∷◌, ◌++◌, map, length, Option, Some, None, is_none, refl, sym, ◌∙◌, ap}
 use Rattle.std.specs.Prelude.{◌&&◌, if◌then◌else◌, filter, filter_map, slice_get, option_map, option_and_then, codes}
 use Rattle.std.specs.List.{flat_map, list_all, position_from}
 use Rattle.std.proofs.Math.Path.{fun_ext}
 use Rattle.std.proofs.lemmas.List.{length-map, map-append}
-use Rattle.std.proofs.lemmas.Option.{none-some}
+use Rattle.std.proofs.lemmas.Option.{none-some, slice_get-map}
+use Rattle.std.proofs.lemmas.Simd.{map-map}
 use Rattle.wasm_encoder_base.specs.Table.{Space, Labels, Locals, Functions, Types, Tables, Memories, Globals, Tags, Datas, Elems, Fields}
 use Rattle.wast_parser.specs.Identifiers.{Named, Reference, ByNumber, ByName}
 use Rattle.wast_names.specs.Walk.{walked, first_unmet}
@@ -28,16 +29,6 @@ use Rattle.wast_resolve_laws.proofs.Unmet.{all_met, none_unmet}
 use Rattle.wast_conversions.specs.Covered.{Form, heap_forms, form_if}
 use Rattle.wast_meant.specs.Covered.{data_forms, elements_forms, defined_forms, import_forms, elem_mode_forms, data_mode_forms, field_forms, first_of, first_form}
 use Rattle.wat_laws.specs.Written.{Places, named_at, referred_at, heap_at, table_at, defined_at, items_at, elem_mode_at, data_mode_at, placed, as_they_were, all_placed}
-
--- LISTS
-both_maps : {A B C : Type 0} (f : A → B) (g : B → C) (xs : List A) → map g (map f xs) ≡ map (λ x. g (f x)) xs
-both_maps f g [] = refl
-both_maps f g (x ∷ xs) = ap (λ ys. g (f x) ∷ ys) (both_maps f g xs)
-
-got : {A B : Type 0} (f : A → B) (xs : List A) (n : ℕ) → slice_get (map f xs) n ≡ option_map f (slice_get xs n)
-got f [] n = refl
-got f (x ∷ xs) zero = refl
-got f (x ∷ xs) (suc n) = got f xs n
 
 -- an item, by its space, its name and the names of its fields
 abbrev pub Unplaced : Type 0 → Type 0 → Type 0
@@ -211,7 +202,7 @@ module _ {N P : Type 0} where
     name_of z = z.1.0
 
     names_so : (s : Space) (hs : List (Field N P)) → map name_in (ids_in s hs) ≡ map name_of (map unplaced (items_in s hs))
-    names_so s hs = both_maps (λ b. b.id) name_in (items_in s hs) ∙ sym (both_maps unplaced name_of (items_in s hs))
+    names_so s hs = map-map name_in (λ b. b.id) (items_in s hs) ∙ sym (map-map name_of unplaced (items_in s hs))
 
     names_same : (s : Space) → map name_in (ids_in s fs) ≡ map name_in (ids_in s gs)
     names_same s = names_so s fs ∙ ap (λ zs. map name_of zs) (items_of_space s) ∙ sym (names_so s gs)
@@ -225,7 +216,7 @@ module _ {N P : Type 0} where
     found_in (Some b) = refl
 
     fields_so : (t : ℕ) (hs : List (Field N P)) → fields_at hs t ≡ fields_in (slice_get (map unplaced (items_in Types hs)) t)
-    fields_so t hs = found_in (slice_get (items_in Types hs) t) ∙ ap fields_in (sym (got unplaced (items_in Types hs) t))
+    fields_so t hs = found_in (slice_get (items_in Types hs) t) ∙ ap fields_in (sym (slice_get-map unplaced (items_in Types hs) t))
 
     fields_same : (t : ℕ) → fields_at fs t ≡ fields_at gs t
     fields_same t = fields_so t fs ∙ ap (λ zs. fields_in (slice_get zs t)) (items_of_space Types) ∙ sym (fields_so t gs)

@@ -13,11 +13,11 @@ use Rattle.wast_meaning.specs.Made.{is_made}
 use Rattle.wast_meaning.specs.Numbered.{resolved}
 use Rattle.wast_meant.specs.Binary.{bytes_of, module_with}
 use Rattle.wast_meant.specs.Meaning.{meant}
-use Rattle.wast_meant.specs.Means.{Worth, Stands, IsWorth}
+use Rattle.wast_meant.specs.Means.{naming, Worth, Stands, IsWorth}
 use Rattle.wast_meant.specs.NamesMeant.{GivenName, Identifier, Bytes, given_name}
 use Rattle.wat_verdict.specs.Registered.{registered}
 use Rattle.wat_verdict.specs.Spells.{Spells}
-use Rattle.wat_verdict.specs.Naming.{naming, unmet_demand}
+use Rattle.wat_verdict.specs.Naming.{unmet_demand}
 use Rattle.wat_verdict.specs.Verdict.{tree_breach, tree_uncovered}
 use Rattle.wat_verdict.proofs.Free.{Known}
 use Rattle.wat_verdict.proofs.Told.{name_shown, content_worth, summary, told, told_spelled, spelled_told}

@@ -13,16 +13,12 @@ use Rattle.wasm_layout.specs.Layout.{piece_bytes, layout}
 use Rattle.wast_meant.specs.NamesMeant.{GivenName, given_name}
 use Rattle.wast_meant.specs.Meaning.{meant}
 use Rattle.wast_meant.specs.Binary.{in_bytes}
-use Rattle.wast_meant.specs.Means.{Means, Stands, Pieces}
+use Rattle.wast_meant.specs.Means.{naming, Means, Stands, Pieces}
 use Rattle.wast_meant_laws.proofs.Unnamed.{pieces_left}
 use Rattle.wat_verdict.specs.Spells.{Spells}
-use Rattle.wat_verdict.specs.Naming.{naming}
-use Rattle.wat_verdict.proofs.Alike.{same_module}
+use Rattle.wat_verdict.proofs.Alike.{same_module, no_pieces}
 use Rattle.wat_verdict.proofs.Verdict.{worth_in, worth_tree}
 use Rattle.wat_laws.specs.Unnamed.{LaidBare, WithoutNames}
-
-no_pieces : {Z : Type 0} (m : AbstractModule (List ℕ)) (bytes : List ℕ) → Stands m ≡ Pieces bytes → Z
-no_pieces m bytes e = absurd (cc)
 
 of_fields : (name : Option (GivenName Name)) (fs : List (Field Name ℕ)) → LaidBare (in_bytes (meant same_name is_made name fs))
 of_fields name fs = record { laid = refl; bare_laid = ap (λ ps. header ++ flat_map piece_bytes ps) (pieces_left same_name is_made name fs) }

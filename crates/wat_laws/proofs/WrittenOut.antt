@@ -2,6 +2,7 @@
 use Rattle.std.proofs.Common.{◌≡◌, ℕ, Bool, true, false, List, [], ◌∷◌, ◌++◌, map, Option, None, refl, sym, ◌∙◌, ap, subst}
 use Rattle.std.specs.Prelude.{◌&&◌, not, slice_get}
 use Rattle.std.specs.List.{flat_map, list_all}
+use Rattle.std.proofs.lemmas.Option.{same_Some}
 use std.Equiv.{Iso, iso_to_equiv}
 use Rattle.wast_grammar.specs.Tokens.{Name}
 use Rattle.wast_grammar.specs.Spelling.{same_name}
@@ -31,12 +32,12 @@ use Rattle.wast_conversions.specs.Covered.{Form}
 use Rattle.wast_meant.specs.Binary.{bytes_of, module_with, in_bytes}
 use Rattle.wast_meant.specs.Covered.{first_form, uncovered}
 use Rattle.wast_meant.specs.Meaning.{meant}
-use Rattle.wast_meant.specs.Means.{Worth, IsWorth}
+use Rattle.wast_meant.specs.Means.{naming, Worth, IsWorth}
 use Rattle.wast_meant.specs.NamesMeant.{GivenName, given_name}
 use Rattle.wast_meant_laws.proofs.Bare.{bare_with, names_apart}
 use Rattle.wat_verdict.specs.Registered.{registered}
 use Rattle.wat_verdict.specs.Spells.{Spells}
-use Rattle.wat_verdict.specs.Naming.{naming, unmet_demand}
+use Rattle.wat_verdict.specs.Naming.{unmet_demand}
 use Rattle.wat_verdict.specs.Verdict.{tree_breach, tree_uncovered}
 use Rattle.wat_verdict.specs.Alike.{SameBare}
 use Rattle.wat_verdict.proofs.Free.{Known, Kept, free}
@@ -44,8 +45,7 @@ use Rattle.wat_verdict.proofs.Placed.{AreRead, text_read}
 use Rattle.wat_verdict.proofs.Told.{name_shown, content_worth, summary, told, told_spelled, spelled_told}
 use Rattle.wat_verdict.proofs.Alike.{known_by, same_module}
 use Rattle.wat_verdict.proofs.OneSpelling.{one_spelling}
-use Rattle.wat_verdict.proofs.Unmet.{some_same}
-use Rattle.wat_verdict.proofs.Verdict.{IsSound, worth_in, tree_worth, worth_tree, worth_of}
+use Rattle.wat_verdict.proofs.Verdict.{IsSound, worth_in, tree_worth, worth_tree, worth_of, none_first}
 use Rattle.wat_laws.specs.Bounds.{WithinBounds}
 use Rattle.wat_laws.specs.Written.{Places, placed, as_they_were, all_placed, WrittenTokens, WrittenTexts, MeanAlike, WrittenOut}
 use Rattle.wat_laws.proofs.PlacedFields.{by_defined, by_field, none_too, demands_same, covered_too, covered_back}
@@ -53,11 +53,6 @@ use Rattle.wat_laws.proofs.PlacedMeaning.{resolved_placed, bare_same}
 use Rattle.wat_laws.proofs.SameWorth.{none_both, shown, same_worth, sound_same}
 use Rattle.wat_laws.proofs.WrittenFormed.{unformed, written_unformed, placed_unformed, no_breach_formed, formed_no_breach, spelled_fields}
 use Rattle.wat_laws.proofs.WrittenNames.{other_made, Renames, renames, written_so}
-
--- LISTS
-none_first : {A : Type 0} (xs : List A) → slice_get xs 0 ≡ None → xs ≡ []
-none_first [] e = refl
-none_first (x ∷ xs) e = absurd (cc)
 
 -- FIELDS AT OTHER PLACES in which nothing stands inline
 module _ {N P : Type 0} where
@@ -127,7 +122,7 @@ module _ (tokens others : List TextToken) (read : AreRead tokens) (x : WrittenTo
   fresh = other_made other_names.permuted
 
   same_summary : summary fresh x.tree ≡ summary plain x.tree
-  same_summary = some_same (summary fresh x.tree) (summary plain x.tree) (sym (told_spelled fresh tokens x.tree x.spelled) ∙ other_names.told_so ∙ told_spelled plain tokens x.tree x.spelled)
+  same_summary = same_Some (summary fresh x.tree) (summary plain x.tree) (sym (told_spelled fresh tokens x.tree x.spelled) ∙ other_names.told_so ∙ told_spelled plain tokens x.tree x.spelled)
 
   written_fresh : written_out (by_counter fresh.made 0 x.fields) x.fields ≡ were
   written_fresh = written_so other_names.permuted.fun x.naming x.fields other_names.made_so ∙ sym x.are_written

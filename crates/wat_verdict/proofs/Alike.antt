@@ -4,6 +4,7 @@ use Rattle.std.specs.Prelude.{◌&&◌, not, is_some, option_map, if◌then◌el
 use std.Path.{fun_ext}
 use Rattle.std.specs.Cmp.Lexicographic.{bytes_decides}
 use Rattle.std.specs.Str.{IsUtf8}
+use Rattle.std.proofs.lemmas.Option.{same_Some}
 use std.Equiv.{Iso, iso_to_equiv}
 use Rattle.wast_grammar.specs.Tokens.{Name}
 use Rattle.wast_grammar.specs.Tokens as tokens
@@ -25,7 +26,7 @@ use Rattle.wasm_layout.specs.Lays.{bare, last_joined, no_names}
 use Rattle.wasm_layout.specs.Section.{Names}
 use Rattle.wast_conversions.specs.Covered.{Form}
 use Rattle.wast_meant.specs.Binary.{bytes_of, module_with}
-use Rattle.wast_meant.specs.Means.{Worth, Stands, Pieces}
+use Rattle.wast_meant.specs.Means.{naming, Worth, Stands, Pieces}
 use Rattle.wast_meant.specs.Plain.{IsPlainContent}
 use Rattle.wast_meant.specs.NamesMeant.{GivenName, Identifier, Bytes, given_name}
 use Rattle.wast_meant.proofs.Renamed.{same_sections}
@@ -33,13 +34,13 @@ use Rattle.wast_grammar.proofs.SignificantLaws.{one_list}
 use Rattle.wast_resolve_laws.proofs.RenamedFields.{names_kept}
 use Rattle.wat_verdict.specs.Registered.{registered}
 use Rattle.wat_verdict.specs.Spells.{Spells}
-use Rattle.wat_verdict.specs.Naming.{naming, unmet_demand}
+use Rattle.wat_verdict.specs.Naming.{unmet_demand}
 use Rattle.wat_verdict.specs.Verdict.{Condition, TooLong, NotUtf8, Misspelled, NotWellFormed, Unmet, Uncovered, unmet_at, tree_breach, tree_uncovered, Fails, Accepts, Assembles, IsBinary, IsPlainText}
 use Rattle.wat_verdict.specs.Alike.{AlikeTexts, complaint_shown, SameCondition, Follows, IsSame, Agree, TokensDecide, SameBare, Renaming}
 use Rattle.wat_verdict.proofs.Free.{Known, Kept, free}
 use Rattle.wat_verdict.proofs.Placed.{IsRead, AreRead, text_rises, both_rise, text_read}
 use Rattle.wat_verdict.proofs.Told.{name_shown, content_worth, content_plain, summary, told, told_spelled, spelled_told}
-use Rattle.wat_verdict.proofs.Unmet.{some_same, unmet_so}
+use Rattle.wat_verdict.proofs.Unmet.{unmet_so}
 use Rattle.wat_verdict.proofs.Verdict.{IsSound, worth_in, tree_worth, worth_tree, worth_of}
 
 -- PERMUTATIONS OF NAMES that leave those that are made up
@@ -165,7 +166,7 @@ none_of (Some x) e = absurd (cc)
 
 pub mapped_of : {A B : Type 0} (f : A → B) (o : Option A) (y : B) → option_map f o ≡ Some y → (x : A) × (o ≡ Some x) × (f x ≡ y)
 mapped_of f None y e = absurd (cc)
-mapped_of f (Some x) y e = (x, refl, some_same (f x) y e)
+mapped_of f (Some x) y e = (x, refl, same_Some (f x) y e)
 
 pub mapped_none : {A B : Type 0} (f : A → B) (o : Option A) → option_map f o ≡ None → o ≡ None
 mapped_none f None e = refl
@@ -263,7 +264,7 @@ same_module m n e = cc
 same_pieces : (a b : List ℕ) → Pieces a ≡ Pieces b → a ≡ b
 same_pieces a b e = cc
 
-no_pieces : {Z : Type 0} (m : AbstractModule (List ℕ)) (b : List ℕ) → Stands m ≡ Pieces b → Z
+pub no_pieces : {Z : Type 0} (m : AbstractModule (List ℕ)) (b : List ℕ) → Stands m ≡ Pieces b → Z
 no_pieces m b e = absurd (cc)
 
 worth_bare : (first second : Option (GivenName Name)) (c d : Content Name ℕ) → content_worth (known_by (λ n. [])) second d ≡ content_worth (known_by (λ n. [])) first c → SameBare (worth_in first c) (worth_in second d)

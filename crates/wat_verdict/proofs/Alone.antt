@@ -1,6 +1,7 @@
 -- What is read up to an end is a whole text.
 use Rattle.std.proofs.Common.{◌≡◌, ◌≢◌, inl, inr, ℕ, Bool, true, false, Option, Some, None, List, [], ◌∷◌, ◌++◌, refl, sym, ap, ◌∙◌, append-nil}
 use Rattle.std.specs.Prelude.{◌&&◌, if◌then◌else◌}
+use Rattle.std.proofs.lemmas.Option.{same_Some}
 use Rattle.wast_lexer.specs.declared.token.TokenKind.{TokenKind}
 use Rattle.wast_lexer.specs.declared.token.TokenKind.TheVariants as kinds
 use Rattle.wast_lexer.specs.Lexeme.{Lexeme}
@@ -17,9 +18,6 @@ use Rattle.wast_grammar.proofs.SignificantLaws.{dropped_passed, shows_first, sho
 use Rattle.wat_verdict.specs.Spells.{alone}
 
 module _ {N P A : Type 0} where
-  some_same : (x y : A × List (SignificantToken N P)) → Some x ≡ Some y → x ≡ y
-  some_same x y e = cc
-
   -- what is read with an end behind it is read
   unended : (o : Option (A × List (SignificantToken N P))) (x : A × List (SignificantToken N P)) → (o >>= λ y. if at (NotEnd ∷ []) y.1 then None else Some y) ≡ Some x → (o ≡ Some x) × (at (NotEnd ∷ []) x.1 ≡ false)
   unended None x e = absurd (cc)
@@ -27,7 +25,7 @@ module _ {N P A : Type 0} where
     where
       tested : (b : Bool) → at (NotEnd ∷ []) y.1 ≡ b → (if b then None else Some y) ≡ Some x → (Some y ≡ Some x) × (at (NotEnd ∷ []) x.1 ≡ false)
       tested true h e = absurd (cc)
-      tested false h e = (e, ap (λ z. at (NotEnd ∷ []) z.1) (sym (some_same y x e)) ∙ h)
+      tested false h e = (e, ap (λ z. at (NotEnd ∷ []) z.1) (sym (same_Some y x e)) ∙ h)
 
   pub ended_so : (g : Syntax N P A) (ts : List (SignificantToken N P)) (x : A × List (SignificantToken N P)) → (alone g).reads ts ≡ Some x → at (NotEnd ∷ []) x.1 ≡ false
   ended_so g ts x e = (unended (g.reads ts) x e).1

@@ -1,11 +1,12 @@
 -- What is made of tokens over any names and places, by tests of names, made-up names and what names show, keeps where tokens are renamed
 -- and moved.
-use Rattle.std.proofs.Common.{◌≡◌, ℕ, Bool, List, [], ◌∷◌, map, Some, None, refl, ◌∙◌, ap}
+use Rattle.std.proofs.Common.{◌≡◌, ℕ, Bool, List, map, ◌∙◌, ap}
 use std.Univalence.{equiv_j}
 use std.Equiv.{◌≃◌, id_equiv}
 use std.Path.{fun_ext}
-use Rattle.wast_grammar.specs.Tokens.{SignificantToken, Open, Close, Id, Word, Mark, Integer, Float, Text, Reserved, Broken}
+use Rattle.wast_grammar.specs.Tokens.{SignificantToken}
 use Rattle.wast_grammar.specs.Alike.{move, Keeps}
+use Rattle.wast_grammar.proofs.Free.{moves_none}
 
 -- what is known of names: which are the same, which are made up, the one that a number makes, and what each shows
 pub record Known (N : Type 0) : Type 0 where
@@ -29,27 +30,10 @@ same_known k l kept = λ i. record {
   show = fun_ext (λ n. kept.show n) i;
 }
 
-still_token : {N P : Type 0} (t : SignificantToken N P) → move (λ n. n) (λ p. p) t ≡ t
-still_token (Open p) = refl
-still_token (Close p) = refl
-still_token (Id (Some n) p) = refl
-still_token (Id None p) = refl
-still_token (Word w p) = refl
-still_token (Mark w p) = refl
-still_token (Integer n w p) = refl
-still_token (Float w p) = refl
-still_token (Text s p) = refl
-still_token (Reserved w p) = refl
-still_token Broken = refl
-
-still : {N P : Type 0} (ts : List (SignificantToken N P)) → map (move (λ n. n) (λ p. p)) ts ≡ ts
-still [] = refl
-still (t ∷ ts) = rw (still_token t, still ts) refl
-
 module _ {R : Type 0} (answer : (N P : Type 0) → Known N → List (SignificantToken N P) → R) where
   moved : {N P Q : Type 0} (k : Known N) (d : P ≃ Q) (ts : List (SignificantToken N P)) → answer N Q k (map (move (λ n. n) d.0) ts) ≡ answer N P k ts
   unfolding id_equiv
-  moved {N} {P} {Q} k d = equiv_j {B = Q} (λ P d. (ts : List (SignificantToken N P)) → answer N Q k (map (move (λ n. n) d.0) ts) ≡ answer N P k ts) (λ ts. ap (λ v. answer N Q k v) (still ts)) d
+  moved {N} {P} {Q} k d = equiv_j {B = Q} (λ P d. (ts : List (SignificantToken N P)) → answer N Q k (map (move (λ n. n) d.0) ts) ≡ answer N P k ts) (λ ts. ap (λ v. answer N Q k v) (moves_none ts)) d
 
   pub free : {N M P Q : Type 0} (e : N ≃ M) (d : P ≃ Q) (k : Known N) (l : Known M) → Kept k l e.0 → (ts : List (SignificantToken N P)) → answer M Q l (map (move e.0 d.0) ts) ≡ answer N P k ts
   unfolding id_equiv

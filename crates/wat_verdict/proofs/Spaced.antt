@@ -3,14 +3,14 @@ use Rattle.std.proofs.Common.{◌≡◌, ◌≢◌, ◌⊎◌, inl, inr, ℕ, ze
 use Rattle.std.specs.Prelude.{◌&&◌, not, replicate, if◌then◌else◌}
 use Rattle.std.specs.List.{list_all}
 use Rattle.std.specs.Str.{IsUtf8}
-use Rattle.std.proofs.lemmas.Bool.{cases_Bool}
+use Rattle.std.proofs.lemmas.Bool.{cases_Bool, and_parts, eqb-true}
 use Rattle.std.proofs.lemmas.List.{append_assoc, length-append}
 use Rattle.wast_lexer.specs.declared.token.TokenKind.{TokenKind}
 use Rattle.wast_lexer.specs.declared.token.TokenKind.TheVariants as kinds
 use Rattle.wast_lexer.specs.Kinds.{IsLexeme, IsLineComment, IsBlockComment, starts, is_space, is_line_end, is_open, is_at}
 use Rattle.wast_lexer.specs.Lexeme.{Lexeme}
 use Rattle.wast_lexer.specs.Tiling.{MayFollow, Begins, Tiles, ends, is_annotation}
-use Rattle.wast_lexer.proofs.Basics.{eq_of, all_append, and_true}
+use Rattle.wast_lexer.proofs.Basics.{all_append}
 use Rattle.wast_lexer.proofs.Cuts.{ends_append}
 use Rattle.wast_lexer.proofs.ScanLaws.{skip_split}
 use Rattle.wast_lexer.proofs.TilingLaws.{once, tile_once}
@@ -83,21 +83,21 @@ module _ (names : List (List ℕ)) (broken : Bool) where
 -- BYTES of white space
 no_at : (c : ℕ) → is_space c ≡ true → is_at c ≡ false
 no_at c h = elim (cases_Bool (is_at c)) [
-  | inl t ↦ (let e = sym (ap is_space (eq_of c 64 t)) ∙ h in absurd (cc))
+  | inl t ↦ (let e = sym (ap is_space (eqb-true c 64 t)) ∙ h in absurd (cc))
   | inr n ↦ n
 ]
 
 not_open : (c : ℕ) → is_space c ≡ true → is_open c ≡ false
 not_open c h = elim (cases_Bool (is_open c)) [
-  | inl t ↦ (let e = sym (ap is_space (eq_of c 40 t)) ∙ h in absurd (cc))
+  | inl t ↦ (let e = sym (ap is_space (eqb-true c 40 t)) ∙ h in absurd (cc))
   | inr n ↦ n
 ]
 
 -- white space doesn't end with `(`
 ends_white : (w : List ℕ) → list_all is_space w ≡ true → ends is_open w ≡ false
 ends_white [] h = refl
-ends_white (c ∷ []) h = not_open c (and_true (is_space c) true h).0
-ends_white (c ∷ d ∷ w) h = ends_white (d ∷ w) (and_true (is_space c) (list_all is_space (d ∷ w)) h).1
+ends_white (c ∷ []) h = not_open c (and_parts (is_space c) true h).0
+ends_white (c ∷ d ∷ w) h = ends_white (d ∷ w) (and_parts (is_space c) (list_all is_space (d ∷ w)) h).1
 
 spaces_white : (n : ℕ) → list_all is_space (replicate {A = ℕ} n 0x20) ≡ true
 spaces_white zero = refl
@@ -151,7 +151,7 @@ starts_front p (c ∷ w) r n = refl
 
 blank_marked : (opened : Bool) (run : List ℕ) → run ≢ [] → list_all is_space run ≡ true → false ≡ (opened && starts is_at run)
 blank_marked opened [] n h = absurd (n refl)
-blank_marked opened (c ∷ run) n h = and_none opened ∙ ap (λ b. opened && b) (sym (no_at c (and_true (is_space c) (list_all is_space run) h).0))
+blank_marked opened (c ∷ run) n h = and_none opened ∙ ap (λ b. opened && b) (sym (no_at c (and_parts (is_space c) (list_all is_space run) h).0))
 
 -- a token that begins with white space is white space
 starts_no_white : (opened : Bool) (k : TokenKind) (w r : List ℕ) → Begins false opened k w r → is_white k ≡ false → starts is_space (w ++ r) ≡ false

@@ -2,6 +2,7 @@
 use Rattle.std.proofs.Common.{◌≡◌, ℕ, Bool, false, List, [], ◌∷◌, Option, Some, None, refl, ap}
 use Rattle.std.specs.Prelude.{◌&&◌, not, is_some, map, option_map, codes}
 use Rattle.std.specs.List.{flat_map}
+use Rattle.std.proofs.lemmas.Option.{same_Some}
 use Rattle.wast_grammar.specs.Tokens.{Name, SignificantToken}
 use Rattle.wast_grammar.specs.Significant.{TextToken}
 use Rattle.wast_grammar.proofs.GrammarLaws.{all_read, all_spelled}
@@ -82,10 +83,7 @@ module _ (k : Known Name) (ts : List TextToken) where
   pub spelled_told : (s : Summary) → told Name ℕ k ts ≡ Some s → (t : Module Name ℕ) × wat.spells t ts × (summary k t ≡ s)
   spelled_told s e = of_read (wat.reads ts) refl e
     where
-      some_same : (x y : Summary) → Some x ≡ Some y → x ≡ y
-      some_same x y e = cc
-
       of_read : (o : Option (Module Name ℕ × List TextToken)) → wat.reads ts ≡ o → summary_read k o ≡ Some s → (t : Module Name ℕ) × wat.spells t ts × (summary k t ≡ s)
       of_read None r e = absurd (cc)
-      of_read (Some (t, [])) r e = (t, all_spelled wat wat_laws ts t r, some_same (summary k t) s e)
+      of_read (Some (t, [])) r e = (t, all_spelled wat wat_laws ts t r, same_Some (summary k t) s e)
       of_read (Some (t, u ∷ us)) r e = absurd (cc)

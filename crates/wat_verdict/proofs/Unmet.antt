@@ -1,6 +1,7 @@
 -- The first demand that isn't met is told by its place and its complaint.
 use Rattle.std.proofs.Common.{ℕ, ◌≡◌, true, false, Bool, List, [], ◌∷◌, Option, Some, None, refl, sym, ap, ◌∙◌}
 use Rattle.std.specs.Prelude.{if◌then◌else◌}
+use Rattle.std.proofs.lemmas.Option.{same_Some}
 use Rattle.wast_grammar.specs.Tokens.{Name}
 use Rattle.wast_grammar.specs.Spelling.{same_name}
 use Rattle.wast_names.specs.Walk.{first_unmet}
@@ -9,20 +10,18 @@ use Rattle.wast_field_syntax.specs.FieldTree.{Module}
 use Rattle.wast_meaning.specs.Modules.{content_fields}
 use Rattle.wast_meaning.specs.Demands.{all_demands}
 use Rattle.wast_parser.specs.Problem.{Problem}
-use Rattle.wat_verdict.specs.Naming.{naming, unmet_demand}
+use Rattle.wast_meant.specs.Means.{naming}
+use Rattle.wat_verdict.specs.Naming.{unmet_demand}
 use Rattle.wat_verdict.specs.Verdict.{unmet_at}
 
 -- a demand that is found isn't met
 abbrev held : Demand Name ℕ → Bool → Demand Name ℕ
 held d holds = record { place = d.place; complaint = d.complaint; holds = holds }
 
-pub some_same : {A : Type 0} (x y : A) → Some x ≡ Some y → x ≡ y
-some_same x y e = cc
-
 first_fails : (x : Demand Name ℕ) (b : Bool) (rest : Option (Demand Name ℕ)) (d : Demand Name ℕ) → x.holds ≡ b → (if b then rest else Some x) ≡ Some d
     → (rest ≡ Some d → d ≡ unmet_at d.place d.complaint) → d ≡ unmet_at d.place d.complaint
 first_fails x true rest d h e later = later e
-first_fails x false rest d h e later = ap (held d) (ap (λ (y : Demand Name ℕ). y.holds) (sym (some_same x d e)) ∙ h)
+first_fails x false rest d h e later = ap (held d) (ap (λ (y : Demand Name ℕ). y.holds) (sym (same_Some x d e)) ∙ h)
 
 unmet_fails : (ds : List (Demand Name ℕ)) (d : Demand Name ℕ) → first_unmet is_met ds ≡ Some d → d ≡ unmet_at d.place d.complaint
 unmet_fails [] d e = absurd (cc)

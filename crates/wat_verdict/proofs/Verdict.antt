@@ -3,6 +3,7 @@ use Rattle.std.proofs.Common.{ℕ, zero, suc, true, false, [], ◌∷◌, ◌≡
 use Rattle.std.specs.Prelude.{slice_get}
 use Rattle.std.specs.List.{flat_map}
 use Rattle.std.proofs.lemmas.Bool.{cases_lt, cases_Bool}
+use Rattle.std.proofs.lemmas.Option.{same_Some}
 use Rattle.std.proofs.lemmas.Str.{IsUtf8-nil, IsUtf8-from_is_utf8, is_utf8-from_IsUtf8}
 use Rattle.std.specs.Str.{IsUtf8, IsValidUpTo, is_utf8}
 use Rattle.wast_grammar.specs.Tokens.{Name}
@@ -22,14 +23,14 @@ use Rattle.wast_meant.specs.NamesMeant.{GivenName, given_name}
 use Rattle.wast_meant.specs.Meaning.{meant, FieldsMean, ContentMeans}
 use Rattle.wast_meant.specs.Binary.{in_bytes}
 use Rattle.wast_meaning.specs.Made.{is_made}
-use Rattle.wast_meant.specs.Means.{naming_of, Worth, Stands, Pieces, IsWorth}
+use Rattle.wast_meant.specs.Means.{naming, naming_of, Worth, Stands, Pieces, IsWorth}
 use Rattle.wast_meant.proofs.OneMeaning as trees
 use Rattle.wat_verdict.specs.Spells.{Spells}
-use Rattle.wat_verdict.specs.Naming.{naming, unmet_demand}
+use Rattle.wat_verdict.specs.Naming.{unmet_demand}
 use Rattle.wat_verdict.specs.Verdict.{Condition, TooLong, NotUtf8, Misspelled, NotWellFormed, Unmet, Uncovered, unmet_at, tree_breach, tree_uncovered, Fails, Accepts}
 use Rattle.wat_verdict.specs.Laws.{OneMeaning, OneVerdict}
 use Rattle.wat_verdict.proofs.OneSpelling.{one_spelling}
-use Rattle.wat_verdict.proofs.Unmet.{some_same, unmet_so}
+use Rattle.wat_verdict.proofs.Unmet.{unmet_so}
 
 pub one_meaning : OneMeaning
 one_meaning = trees.one_module Spells one_spelling
@@ -51,10 +52,10 @@ differ_back : {A B : Type 0} (x : A) → None ≡ Some x → B
 differ_back x e = absurd (cc)
 
 same_complaint : (p q : ℕ) (c d : Complaint Name) → Some (unmet_at p c) ≡ Some (unmet_at q d) → Unmet p c ≡ Unmet q d
-same_complaint p q c d e = ap (λ (x : Demand Name ℕ). Unmet x.place x.complaint) (some_same (unmet_at p c) (unmet_at q d) e)
+same_complaint p q c d e = ap (λ (x : Demand Name ℕ). Unmet x.place x.complaint) (same_Some (unmet_at p c) (unmet_at q d) e)
 
 same_form : (p q : ℕ) (f g : Form) → ◌≡◌ {A = Option (ℕ × Form)} (Some (p, f)) (Some (q, g)) → Uncovered p f ≡ Uncovered q g
-same_form p q f g e = ap (λ (x : ℕ × Form). Uncovered x.0 x.1) (some_same (p, f) (q, g) e)
+same_form p q f g e = ap (λ (x : ℕ × Form). Uncovered x.0 x.1) (same_Some (p, f) (q, g) e)
 
 pub one_condition : (bytes : List ℕ) (c d : Condition) → Fails bytes c → Fails bytes d → c ≡ d
 one_condition bytes TooLong TooLong x y = refl
@@ -78,7 +79,7 @@ one_condition bytes Misspelled (Uncovered q g) x y = absurd (x.2 y.2.0 y.2.1)
 one_condition bytes (NotWellFormed m) TooLong x y = absurd (let short = x.0 in omega arith)
 one_condition bytes (NotWellFormed m) (NotUtf8 n) x y = absurd (y.1 x.1)
 one_condition bytes (NotWellFormed m) Misspelled x y = absurd (y.2 x.2.0 x.2.1)
-one_condition bytes (NotWellFormed m) (NotWellFormed n) x y = ap NotWellFormed (some_same m n (same_answer tree_breach bytes x.2.0 y.2.0 x.2.1 y.2.1 (Some m) (Some n) x.2.2 y.2.2))
+one_condition bytes (NotWellFormed m) (NotWellFormed n) x y = ap NotWellFormed (same_Some m n (same_answer tree_breach bytes x.2.0 y.2.0 x.2.1 y.2.1 (Some m) (Some n) x.2.2 y.2.2))
 one_condition bytes (NotWellFormed m) (Unmet q d) x y = differ m (same_answer tree_breach bytes x.2.0 y.2.0 x.2.1 y.2.1 (Some m) None x.2.2 y.2.2)
 one_condition bytes (NotWellFormed m) (Uncovered q g) x y = differ m (same_answer tree_breach bytes x.2.0 y.2.0 x.2.1 y.2.1 (Some m) None x.2.2 y.2.2)
 one_condition bytes (Unmet p c) TooLong x y = absurd (let short = x.0 in omega arith)
@@ -167,7 +168,7 @@ none_where_accepted : (bytes : List ℕ) (c : Condition) (w : Worth) → Fails b
 none_where_accepted bytes c w x y = let t = worth_tree bytes w y.worth in sound_fails bytes c y.short y.utf8 t.tree t.spelled t.sound x
 
 -- A TREE THAT MEETS ALL is worth something
-none_first : {A : Type 0} (xs : List A) → slice_get xs 0 ≡ None → xs ≡ []
+pub none_first : {A : Type 0} (xs : List A) → slice_get xs 0 ≡ None → xs ≡ []
 none_first [] e = refl
 none_first (x ∷ xs) e = absurd (cc)
 

@@ -6,8 +6,8 @@ use Rattle.wast_parser.specs.Identifiers.{identifier_tree}
 use Rattle.wast_signatures.specs.SignatureViews.{name_tree}
 use Rattle.wast_customs.specs.CustomViews.{place_tree}
 use Rattle.wasm_layout.specs.Layout.{Free, piece_bytes}
+use Rattle.wasm_layout.specs.Lays.{PiecesFit}
 use Rattle.wast_meant.specs.CustomsMeant.{at_place}
-use Rattle.wast_custom_sections.specs.Parts.{PiecesFit}
 use Rattle.wast_binary.specs.Sources.{fields_in, module_in}
 use Rattle.wast_binary.specs.Views.{kind_view}
 use Rattle.wast_binary.proofs.Absent.{nothing_put}

@@ -3,14 +3,14 @@ use Rattle.std.proofs.lemmas.Result.{err_from_is_err_and}
 use Rattle.wast_module_fields.specs.ModuleFieldViews.{field_tree}
 use Rattle.wast_meant.specs.NamesMeant.{bodies_in}
 use Rattle.wast_conversions.proofs.Each.{of_item}
-use Rattle.wast_custom_sections.specs.Hints.{FieldReady}
+use Rattle.wast_custom_sections.specs.Hints.{HintReady}
 use Rattle.wast_custom_sections.proofs.Errors.{same_error}
 use Rattle.wast_custom_sections.proofs.Numbered.{field_listed, field_fits, field_counted, field_of_all, field_room}
 use Rattle.wast_custom_sections.proofs.Steps.{flat_more, flat_split}
 use Rattle.wast_custom_sections.proofs.hints.hints_of.Goals as goal
 
 pub put_field-requires : goal.put_field-requires
-put_field-requires c = of_item FieldReady field_tree c.args.fields.now c.loop-field.field-index c.field-item.result c.loop-field-test.true c.field-item.is c.requires
+put_field-requires c = of_item HintReady field_tree c.args.fields.now c.loop-field.field-index c.field-item.result c.loop-field-test.true c.field-item.is c.requires
 
 pub loop-field-preserved : goal.loop-field-preserved
 loop-field-preserved c =

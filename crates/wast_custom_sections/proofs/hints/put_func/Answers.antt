@@ -4,14 +4,14 @@ use Rattle.wasm_layout.specs.Present.{has_any}
 use Rattle.wast_core_instr.specs.ExpressionViews.{expression_tree}
 use Rattle.wast_module_fields.specs.FuncViews.{local_tree, defined_func}
 use Rattle.wast_module_fields.specs.Local.{Local}
-use Rattle.wast_custom_sections.specs.Hints.{BodyReady, DefinedReady}
+use Rattle.wast_custom_sections.specs.Hints.{BodyReady, DefinedHintReady}
 use Rattle.wast_custom_sections.specs.Hinted.{AddsHinted, Hinted, with_hints}
 use Rattle.wast_custom_sections.proofs.Numbered.{adds_none}
 use Rattle.wast_custom_sections.proofs.hints.put_func.Goals as goal
 
 pub put_body-requires : goal.put_body-requires
 put_body-requires c =
-    let ready = subst (λ k. DefinedReady (defined_func k c.args.func.now.ty)) c.in-Inline.is c.requires in
+    let ready = subst (λ k. DefinedHintReady (defined_func k c.args.func.now.ty)) c.in-Inline.is c.requires in
     subst (λ ls. BodyReady (map local_tree ls) (expression_tree c.in-Inline.expression)) (sym c.deref.ensures.value) ready
 
 pub returns-in-Import : goal.returns-in-Import

@@ -1,10 +1,10 @@
 use Rattle.std.proofs.Common.{true, false, Some, ap, sym, ◌∙◌}
 use Rattle.wast_parser_core.specs.State.{ahead}
-use Rattle.wast_parser_core.proofs.States.{keeps_self, keeps_trans}
+use Rattle.wast_parser_core.proofs.States.{keeps_self, keeps_trans, refuses_all}
 use Rattle.wast_expressions.specs.Machine.{Here, is_done}
 use Rattle.wast_expressions.specs.Views.{here}
 use Rattle.wast_expressions.proofs.Progress.{step_less}
-use Rattle.wast_expressions.proofs.Turned.{further, done_tree, finished, refused_so}
+use Rattle.wast_expressions.proofs.Turned.{further, done_tree, finished}
 use Rattle.wast_expressions.proofs.WholeLaws.{loop_answers, loop_refuses}
 use Rattle.wast_expressions.proofs.expression.parse_items.Goals as goal
 
@@ -28,7 +28,7 @@ turns-preserved g c =
 pub returns-in-Err-clause-read : goal.returns-in-Err-clause-read
 returns-in-Err-clause-read g c =
     let T = g.I.Operation in
-    refused_so _ _ _ (loop_refuses T.syntax T.heads T.made c.lawful.ensures c.heeds.ensures (ahead c.args.parser.now) (here T.tree c.turns.work (ahead c.turns.parser)) c.turns.invariant.reach (done_tree T.tree c.turns.work (ahead c.turns.parser) false (sym c.is_done.ensures ∙ c.turns-test.true))) c.in-Err.ensures.gives
+    refuses_all _ _ _ (loop_refuses T.syntax T.heads T.made c.lawful.ensures c.heeds.ensures (ahead c.args.parser.now) (here T.tree c.turns.work (ahead c.turns.parser)) c.turns.invariant.reach (done_tree T.tree c.turns.work (ahead c.turns.parser) false (sym c.is_done.ensures ∙ c.turns-test.true))) c.in-Err.ensures.gives
 
 pub returns-clause-read : goal.returns-clause-read
 returns-clause-read g c =

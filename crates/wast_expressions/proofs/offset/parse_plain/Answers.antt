@@ -1,20 +1,20 @@
 use Rattle.std.proofs.Common.{◌≡◌, false, true, Some, sym, ap, ◌∙◌}
 use Rattle.wast_grammar.specs.Spelling.{◌>>=◌}
 use Rattle.wast_parser_core.specs.State.{ahead}
-use Rattle.wast_parser_core.proofs.States.{keeps_trans}
+use Rattle.wast_parser_core.proofs.States.{keeps_trans, refuses_all}
 use Rattle.wast_expressions.specs.Expressions.{without_hints}
 use Rattle.wast_expressions.specs.Machine.{folded_head}
 use Rattle.wast_expressions.specs.Partial.{Partial}
 use Rattle.wast_expressions.specs.Views.{here, levels_tree, out_tree}
 use Rattle.wast_expressions.proofs.Progress.{plain_step_less}
 use Rattle.wast_expressions.proofs.PlainLaws.{stands_first, stands_none, stands_next, stands_stuck, stands_last}
-use Rattle.wast_expressions.proofs.Turned.{no_levels, finished, refused_so}
+use Rattle.wast_expressions.proofs.Turned.{no_levels, finished}
 use Rattle.wast_expressions.proofs.offset.parse_plain.Goals as goal
 
 pub returns-in-Err-clause-read : goal.returns-in-Err-clause-read
 returns-in-Err-clause-read g c =
     let T = g.I.Operation in
-    refused_so _ _ _ (λ n. ap (λ z. z >>= λ x. Some (without_hints T.syntax T.heads x.0, x.1)) (stands_none T.syntax T.heads c.lawful.ensures c.heeds.ensures T.made (ahead c.args.parser.now) (ap (λ (u : Partial _). folded_head T.syntax T.heads (levels_tree T.tree u.stack) (out_tree T.tree u.out) (ahead c.args.parser.now)) (sym c.new-work.ensures) ∙ n))) c.in-Err.ensures.gives
+    refuses_all _ _ _ (λ n. ap (λ z. z >>= λ x. Some (without_hints T.syntax T.heads x.0, x.1)) (stands_none T.syntax T.heads c.lawful.ensures c.heeds.ensures T.made (ahead c.args.parser.now) (ap (λ (u : Partial _). folded_head T.syntax T.heads (levels_tree T.tree u.stack) (out_tree T.tree u.out) (ahead c.args.parser.now)) (sym c.new-work.ensures) ∙ n))) c.in-Err.ensures.gives
 
 pub turns-init : goal.turns-init
 turns-init g c =
@@ -39,7 +39,7 @@ pub returns-in-Err-plain_turn-clause-read : goal.returns-in-Err-plain_turn-claus
 returns-in-Err-plain_turn-clause-read g c =
     let T = g.I.Operation in
     let i = c.turns.invariant in
-    refused_so _ _ _ (λ n. ap (λ z. z >>= λ x. Some (without_hints T.syntax T.heads x.0, x.1)) (stands_stuck T.syntax T.heads c.lawful.ensures c.heeds.ensures T.made (ahead c.args.parser.now) (here T.tree c.turns.work (ahead c.turns.parser)) i.stands (λ d. (let e : false ≡ true = sym c.turns-test.true ∙ c.is_closed.ensures.1 (no_levels T.tree c.turns.work.stack d) in absurd (cc))) n)) c.in-Err-plain_turn.ensures.gives
+    refuses_all _ _ _ (λ n. ap (λ z. z >>= λ x. Some (without_hints T.syntax T.heads x.0, x.1)) (stands_stuck T.syntax T.heads c.lawful.ensures c.heeds.ensures T.made (ahead c.args.parser.now) (here T.tree c.turns.work (ahead c.turns.parser)) i.stands (λ d. (let e : false ≡ true = sym c.turns-test.true ∙ c.is_closed.ensures.1 (no_levels T.tree c.turns.work.stack d) in absurd (cc))) n)) c.in-Err-plain_turn.ensures.gives
 
 pub returns-clause-read : goal.returns-clause-read
 returns-clause-read g c =

@@ -1,6 +1,7 @@
 use Rattle.std.proofs.Common.{◌≡◌, sym, ◌∙◌, ap, subst, refl, arith, [], ◌∷◌, ◌++◌, drop, map, false}
 use Rattle.std.specs.List.{All}
 use Rattle.std.proofs.lemmas.List.{drop_all}
+use Rattle.std.proofs.lemmas.List.Elements.{All-nil, All-push}
 use Rattle.wast_lexer.specs.declared.entry.Entry.{Entry}
 use Rattle.wast_lexer.specs.Entries.{tokens_of, Rising}
 use Rattle.wast_lexer.specs.Lexeme.{lexeme_of}
@@ -8,7 +9,7 @@ use Rattle.wast_lexer.specs.Parse.{is_opened}
 use Rattle.wast_lexer.specs.Tiling.{TilesUpTo}
 use Rattle.wast_lexer.specs.TokenText.{IsOf}
 use Rattle.wast_lexer.proofs.EntryLaws.{last_end, kept_more, last_more, rising_more}
-use Rattle.wast_lexer.proofs.TableLaws.{tiles_all, table_more, all_more, all_none, token_moves}
+use Rattle.wast_lexer.proofs.TableLaws.{tiles_all, table_more, token_moves}
 use Rattle.wast_lexer.proofs.table.all_entries.Goals as goal
 
 pub tokens-init : goal.tokens-init
@@ -17,7 +18,7 @@ tokens-init c =
     record {
       tiles = rw c.new-entries.ensures.items (refl, refl, refl);
       boundary = c.args.lexer.start;
-      of_text = rw c.new-entries.ensures.items (all_none (IsOf text));
+      of_text = rw c.new-entries.ensures.items (All-nil (IsOf text));
       last = rw c.new-entries.ensures.items refl;
       rising = rw c.new-entries.ensures.items tt;
     }
@@ -38,7 +39,7 @@ tokens-preserved c =
     record {
       tiles = subst (λ ts. TilesUpTo allow false 0 text (map (lexeme_of text) ts) (is_opened text pos) pos (drop pos text)) (sym kept) (table_more allow text (tokens_of 0 es) c.tokens.pos pos token known.tiles is);
       boundary = c.in-Ok-Some.ensures.boundary;
-      of_text = subst (All (IsOf text)) (sym kept) (all_more (IsOf text) (tokens_of 0 es) token known.of_text (rw c.in-Ok-Some.field-0-is at (c.in-Ok-Some.ensures.token)));
+      of_text = subst (All (IsOf text)) (sym kept) (All-push (IsOf text) (tokens_of 0 es) token known.of_text (rw c.in-Ok-Some.field-0-is at (c.in-Ok-Some.ensures.token)));
       last = ap (last_end 0) items ∙ last_more 0 es entry;
       rising = subst (Rising 0) (sym items) (rising_more 0 es entry known.rising (omega (arith, known.last, moves)));
     }

@@ -1,9 +1,8 @@
 use Rattle.std.proofs.Common.{◌∙◌, ap, refl, false, Some, sym, subst}
 use Rattle.std.specs.Prelude.{codes}
-use Rattle.wast_vector_operands.specs.Look.{Test, On, AWord, Begun}
+use Rattle.wast_vector_operands.specs.Look.{Test, On, AWord, Begun, integer_starts}
 use Rattle.wast_vector_operands.specs.State.{ahead}
 use Rattle.wast_vector_operands.specs.Reading.{Asks}
-use Rattle.wast_vector_operands.specs.VectorSyntax.{integer_starts}
 use Rattle.wast_vector_operands.proofs.FlatLooks.{first_seen, first_untold, first_other}
 use Rattle.wast_operands.proofs.mem_arg.peek_align.Goals as goal
 

@@ -1,8 +1,7 @@
 use Rattle.std.proofs.Common.{◌∙◌, ap, refl, false, Some, [], map, sym, subst}
-use Rattle.wast_vector_operands.specs.Look.{Test, On, AWord, OneOf, join}
+use Rattle.wast_vector_operands.specs.Look.{Test, On, AWord, OneOf, join, integer_starts}
 use Rattle.wast_vector_operands.specs.State.{ahead}
 use Rattle.wast_vector_operands.specs.Reading.{Asks}
-use Rattle.wast_vector_operands.specs.VectorSyntax.{integer_starts}
 use Rattle.wast_operands.specs.OperandSyntax.{ordering_word, orderings, offset_starts, align_starts}
 use Rattle.wast_vector_operands.proofs.FlatLooks.{first_seen, first_untold, first_other}
 use Rattle.wast_operands.proofs.mem_arg.peek_lane.Goals as goal

@@ -4,7 +4,8 @@ use Rattle.wast_names.specs.Walk.{first_unmet}
 use Rattle.wast_names.specs.Demand.{is_met}
 use Rattle.wast_names.specs.Space as names
 use Rattle.wast_meaning.specs.Demands.{nearest, order_demand, item_demand, spaces_after}
-use Rattle.wast_resolve_laws.specs.Walks.{labels_after, demands_among}
+use Rattle.wast_meaning.specs.Scope.{labels_after}
+use Rattle.wast_resolve_laws.specs.Walks.{demands_among}
 use Rattle.wast_resolve_laws.proofs.Walks.{tested_so}
 use Rattle.wast_resolve_laws.proofs.WalkedFields.{demands_handed_on}
 use Rattle.wast_resolve_laws.proofs.laws.tested_on_the_way.Goals as goal

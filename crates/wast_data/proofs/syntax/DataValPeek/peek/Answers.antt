@@ -1,8 +1,9 @@
 use Rattle.std.proofs.Common.{true, false, Ok, Err, Some, refl, ◌∙◌, ap}
+use Rattle.wast_parser.specs.Look.{string_starts}
 use Rattle.wast_parser.specs.State.{ahead}
 use Rattle.wast_parser.specs.Cursors.{stands}
 use Rattle.wast_value_types.proofs.JoinedLooks.{first_asked, second_asked, none_asked}
-use Rattle.wast_data.specs.DataSyntax.{string_starts, group_starts}
+use Rattle.wast_data.specs.DataSyntax.{group_starts}
 use Rattle.wast_data.proofs.syntax.DataValPeek.peek.Goals as goal
 
 pub returns-in-Ok-true : goal.returns-in-Ok-true

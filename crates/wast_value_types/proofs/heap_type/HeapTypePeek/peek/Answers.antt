@@ -1,7 +1,7 @@
 use Rattle.std.proofs.Common.{refl}
-use Rattle.wast_words.specs.Look.{join}
+use Rattle.wast_words.specs.Look.{join, index_starts}
 use Rattle.wast_words.specs.WordSyntax.{keywords}
-use Rattle.wast_value_types.specs.ValueSyntax.{heap_words, index_starts}
+use Rattle.wast_value_types.specs.ValueSyntax.{heap_words}
 use Rattle.wast_words.specs.Look.{this_group}
 use Rattle.std.proofs.Common.{[], ◌∷◌}
 use Rattle.std.specs.Prelude.{codes}

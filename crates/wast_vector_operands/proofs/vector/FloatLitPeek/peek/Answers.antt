@@ -1,9 +1,8 @@
 use Rattle.std.proofs.Common.{◌∙◌, ap, refl, false, Some, sym, subst}
-use Rattle.wast_parser.specs.Look.{Test, On, AFloat, Any}
+use Rattle.wast_parser.specs.Look.{Test, On, AFloat, Any, integer_starts}
 use Rattle.wast_parser.specs.State.{ahead}
 use Rattle.wast_parser.specs.Reading.{Asks}
 use Rattle.wast_parser.specs.Cursors.{stands}
-use Rattle.wast_vector_operands.specs.VectorSyntax.{integer_starts}
 use Rattle.wast_vector_operands.proofs.FlatLooks.{first_seen, first_untold, first_other}
 use Rattle.wast_vector_operands.proofs.vector.FloatLitPeek.peek.Goals as goal
 
