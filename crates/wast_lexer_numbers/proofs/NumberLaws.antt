@@ -1,5 +1,5 @@
 -- The scan of a number and its grammar.
-use Rattle.std.proofs.Common.{◌≡◌, ℕ, Bool, true, false, ◌||◌, List, [], ◌∷◌, ◌++◌, Option, Some, None, is_some, refl, sym, ◌∙◌, ap, subst, ◌⊎◌, inl, inr, arith, append-nil}
+use Rattle.std.proofs.Common.{◌≡◌, ◌↔◌, ℕ, Bool, true, false, ◌||◌, List, [], ◌∷◌, ◌++◌, Option, Some, None, is_some, refl, sym, ◌∙◌, ap, subst, ◌⊎◌, inl, inr, arith, append-nil}
 use Rattle.std.specs.Prelude.{◌==◌}
 use Rattle.std.proofs.Math.Bool.{or-true}
 use Rattle.std.proofs.lemmas.Bool.{cases_Bool, or_cases, and_parts, eqb-true}
@@ -248,6 +248,10 @@ body_is sign text k h = elim (cases_Bool (is_all (prefixed inf text))) [
 
 pub scanned_number : (word : List ℕ) (k : NumberKind) → number word ≡ Some k → IsNumber k word
 scanned_number word k h = (sign_of word, unsigned word, body_is (sign_of word) (unsigned word) k h, sign_split word)
+
+-- so an answer of the scan is one of the grammar
+pub kinds_found : (word : List ℕ) (found : Option NumberKind) → found ≡ number word → (kind : NumberKind) → (found ≡ Some kind) ↔ IsNumber kind word
+kinds_found word found e kind = (λ some. scanned_number word kind (sym e ∙ some), λ n. e ∙ number_scanned word kind n)
 
 -- no other byte begins a number
 pub not_begun : (word : List ℕ) → begins_number word ≡ false → number word ≡ None

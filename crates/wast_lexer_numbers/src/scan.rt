@@ -1,14 +1,15 @@
 //! The scan that tells whether a word is a number, and of which kind.
 
-ghost use Rattle.std.specs.Prelude.{◌≡◌, ◌&&◌, ℕ, Bool, List, None, Some, true, false, MatchOption};
-ghost use Rattle.wast_lexer_numbers.specs.Numbers.{is_base, is_power};
+ghost use Rattle.std.specs.Prelude.{◌≡◌, ◌↔◌, ◌&&◌, ℕ, Bool, List, None, Some, true, false, MatchOption};
+ghost use Rattle.wast_lexer_numbers.specs.Numbers.{is_base, is_power, IsNumber};
 ghost use Rattle.wast_lexer_numbers.specs.NumberScan.{begins_number, after, prefixed, sign_of, unsigned, is_all, ends_power, ends_fraction, magnitude, body, number};
 
 use crate::kind::{FloatKind, IntegerKind, NumberKind, SignToken};
 
-/// The kind of a number; `None` where the word is none.
+/// The kind of a number (6.3.1 and 6.3.2); `None` where the word is none.
 pub fn number(word: &[u8]) -> Option<NumberKind>
-    ensures { result ≡ number word.now }
+    ensures scanned { result ≡ number word.now }
+    ensures kinds { (kind : NumberKind) → (result ≡ Some kind) ↔ IsNumber kind word.now }
 {
     if !begins_number(word) {
         return None;
