@@ -52,7 +52,7 @@ same_match (p ∷ ps) s = (fits_same p.0 p.1 s.0 ps s.1, same_match ps s.1)
 numbers : (a b : ℕ) → (nat_eq a b ≡ true) ↔ (a ≡ b)
 numbers a b = grind (arith, tests)
 
--- and_from names are the same where their bytes and generations are
+-- two names are the same where their bytes and generations are
 pub names_decide : (a b : Name) → (same_name a b ≡ true) ↔ (a ≡ b)
 names_decide a b = (
   λ t. let k = and_parts _ _ t in rw ((bytes_decides a.0 b.0).0 k.0, (numbers a.1 b.1).0 k.1) refl,
@@ -76,7 +76,7 @@ module _ {ℓ} {R : Type ℓ} (answer : Answer R) where
       let d = extend nat_eq numbers (places ts us) r in
       ap (λ v. answer _ ℕ same v) (sym (carried e.0.fun d.0.fun ts us a e.1 d.1)) ∙ free answer (iso_to_equiv e.0) (iso_to_equiv d.0) same same (kept same decides e.0) ts
 
-  -- the tokens of and_from texts that agree in kind and text, wherever they stand
+  -- the tokens of two texts that agree in kind and text, wherever they stand
   pub tokens_decide : (ts us : List (SignificantToken Name ℕ)) → Alike ts us → Same (names ts us) → Rising (places ts us) → answer Name ℕ same_name us ≡ answer Name ℕ same_name ts
   tokens_decide ts us a s r = decided same_name names_decide ts us a (same_match _ s) (rising_match _ r)
 

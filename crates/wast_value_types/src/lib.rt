@@ -16,6 +16,7 @@
 //! | `ValueSyntax` | which tokens spell them, and what they begin with |
 //! | `ValueViews` | what the grammar sees of each Rust type |
 //! | `Unplaced`, `Laws` | types without places; the statement of the law function |
+//! | `Nameless` | types in which no name stands, whose copies want no memory |
 #![tactic(auto)]
 
 mod global_type;
