@@ -1,6 +1,6 @@
 -- Types are equal exactly where their trees are, places aside.
 use Rattle.std.proofs.Common.{◌≡◌, ℕ, Bool, true, false, List, refl, sym, ◌∙◌, ap, ◌&&◌, rules}
-use Rattle.std.proofs.lemmas.Bool.{eqb-true, eq-eqb, and_parts, and_from}
+use Rattle.std.proofs.lemmas.Bool.{false≢true, eqb-true, eq-eqb, and_parts, and_from}
 use Rattle.std.specs.Cmp.Lexicographic.{bytes_decides}
 use Rattle.wasm_encoder_base.specs.Types.{FuncHeap, ExternHeap, AnyHeap, EqHeap, I31Heap, StructHeap, ArrayHeap, ExnHeap, NoFuncHeap, NoExternHeap, NoneHeap, NoExnHeap}
 use Rattle.wast_words.specs.Tokens.{Name}
@@ -86,8 +86,8 @@ word_from v w e = ap (word_eq.ghosts.eq v) (sym (sym (word_back v) ∙ ap word_o
 -- INDICES
 index_to : (i j : Index) → index_eq.ghosts.eq i j ≡ true → unplaced_index (index_tree i) ≡ unplaced_index (index_tree j)
 index_to (indices.Num m p) (indices.Num n q) e = ap (λ k. ByNumber k tt) (eqb-true m n e)
-index_to (indices.Num m p) (indices.Id y) e = absurd cc
-index_to (indices.Id x) (indices.Num n q) e = absurd cc
+index_to (indices.Num m p) (indices.Id y) e = absurd (false≢true e)
+index_to (indices.Id x) (indices.Num n q) e = absurd (false≢true e)
 index_to (indices.Id x) (indices.Id y) e =
     let k = and_parts _ _ e in
     ap (λ n. ByName ((n, x.generation), tt)) ((bytes_decides x.name y.name).0 k.1) ∙ ap (λ g. ByName ((y.name, g), tt)) (eqb-true x.generation y.generation k.0)
@@ -114,7 +114,7 @@ heap_to (heaps.Abstract true v) (heaps.Abstract true w) e = ap (λ x. Abstract t
 heap_to (heaps.Abstract false v) (heaps.Abstract false w) e = ap (λ x. Abstract false (heap_word x)) (word_to v w e)
 heap_to (heaps.Concrete i) (heaps.Concrete j) e = ap Concrete (index_to i j e)
 heap_to (heaps.Exact i) (heaps.Exact j) e = ap Exact (index_to i j e)
-heap_to a b e = absurd cc
+heap_to a b e = absurd (false≢true e)
 
 word_in : {N P : Type 0} → spec.HeapType N P → HeapWord
 word_in (Abstract shared w) = w
@@ -166,7 +166,7 @@ val_to vals.F32 vals.F32 e = refl
 val_to vals.F64 vals.F64 e = refl
 val_to vals.V128 vals.V128 e = refl
 val_to (vals.Ref r) (vals.Ref s) e = ap Ref (ref_to r s e)
-val_to a b e = absurd cc
+val_to a b e = absurd (false≢true e)
 
 ref_in : {N P : Type 0} → spec.RefType N P → spec.ValType N P → spec.RefType N P
 ref_in d (Number n) = d
