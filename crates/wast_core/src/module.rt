@@ -13,12 +13,10 @@ ghost use Rattle.wast_core.specs.ModuleViews.{content_tree, module_tree};
 use crate::keyword;
 use std::mem;
 use wasm_encoder_base::Bytes;
-use wast_imports::Head;
+use wast_imports::{Head, closed_or};
 use wast_lexer::Span;
 use wast_module_fields::ModuleField;
-use wast_parser::{
-    Error, Id, Keyword, LParen, Meaning, NameAnnotation, Parse, Parser, RParen, list_of, required,
-};
+use wast_parser::{Error, Id, Keyword, LParen, Meaning, NameAnnotation, Parse, Parser, list_of};
 
 /// A module (6.6, modules): `(module $m ..)`.
 pub struct Module<'a> {
@@ -76,7 +74,8 @@ impl<'a> Parse<'a> for Module<'a> {
         let span = parser.word("module")?;
         let head = Head::parse(parser)?;
         let kind = parse_content(parser)?;
-        required::<RParen>(parser, expected_behind(&kind))?;
+        let expected = expected_behind(&kind);
+        let (head, kind) = closed_or(parser, (head, kind), expected)?;
         Ok(Module {
             span,
             id: head.id,

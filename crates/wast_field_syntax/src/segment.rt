@@ -11,8 +11,9 @@ ghost use Rattle.wast_parser.specs.Identifiers.{Reference, index_tree};
 ghost use Rattle.wast_field_syntax.specs.ElemSyntax.{use_of};
 
 use std::marker::PhantomData;
+use wast_imports::closed;
 use wast_parser::{
-    Cursor, Error, Index, Keyword, KeywordName, LParen, Meaning, Parse, Parser, Peek, RParen, Span,
+    Cursor, Error, Index, Keyword, KeywordName, LParen, Meaning, Parse, Parser, Peek, Span,
 };
 use wast_value_types::{Group, or_peek};
 
@@ -41,7 +42,7 @@ impl<'a, N: KeywordName> Parse<'a> for UseOf<'a, N> {
             LParen::parse(parser)?;
             Keyword::<N>::parse(parser)?;
             let index = Index::parse(parser)?;
-            RParen::parse(parser)?;
+            let index = closed(parser, index)?;
             Ok(UseOf {
                 index,
                 of: PhantomData,

@@ -15,7 +15,7 @@ ghost use Rattle.wast_func_fields.specs.FuncViews.{func_type_tree, defined_func,
 use crate::local::Local;
 use wast_field_syntax::{
     Error, Expression, Id, InlineExport, InlineImport, LParen, Meaning, NameAnnotation, Parse,
-    Parser, RParen, Span, required,
+    Parser, Span, closed_or,
 };
 use wast_imports::{Head, expected_behind_use, parse_exact};
 use wast_signatures::{FunctionType, TypeUse};
@@ -113,7 +113,8 @@ impl<'a> Parse<'a> for Func<'a> {
         let head = Head::parse(parser)?;
         let exports = InlineExport::parse(parser)?;
         let (kind, ty) = parse_defined(parser)?;
-        required::<RParen>(parser, expected_behind(&kind, &ty))?;
+        let expected = expected_behind(&kind, &ty);
+        let (head, exports, kind, ty) = closed_or(parser, (head, exports, kind, ty), expected)?;
         Ok(Func {
             span,
             id: head.id,

@@ -10,7 +10,7 @@ ghost use Rattle.wast_func_fields.specs.FuncViews.{defined_global, global_defini
 
 use wast_field_syntax::{
     Error, Expression, Id, InlineExport, InlineImport, LParen, Meaning, NameAnnotation, Parse,
-    Parser, RParen, Span, required,
+    Parser, Span, closed_or,
 };
 use wast_imports::Head;
 use wast_value_types::GlobalType;
@@ -109,7 +109,8 @@ impl<'a> Parse<'a> for Global<'a> {
         let head = Head::parse(parser)?;
         let exports = InlineExport::parse(parser)?;
         let (ty, kind) = parse_defined(parser)?;
-        required::<RParen>(parser, kind.expected_behind())?;
+        let expected = kind.expected_behind();
+        let (head, exports, ty, kind) = closed_or(parser, (head, exports, ty, kind), expected)?;
         Ok(Global {
             span,
             id: head.id,

@@ -9,8 +9,8 @@ ghost use Rattle.wast_field_syntax.specs.FuncSyntax.{tag, tag_defined};
 ghost use Rattle.wast_func_fields.specs.FuncViews.{defined_tag, tag_definition};
 
 use wast_field_syntax::{
-    Error, Id, InlineExport, InlineImport, LParen, Meaning, NameAnnotation, Parse, Parser, RParen,
-    Span, required,
+    Error, Id, InlineExport, InlineImport, LParen, Meaning, NameAnnotation, Parse, Parser, Span,
+    closed_or,
 };
 use wast_imports::{Head, TagType, expected_behind_use};
 
@@ -98,7 +98,8 @@ impl<'a> Parse<'a> for Tag<'a> {
         let exports = InlineExport::parse(parser)?;
         let (kind, ty) = parse_defined(parser)?;
         let TagType::Exception(signature) = &ty;
-        required::<RParen>(parser, expected_behind_use(signature))?;
+        let expected = expected_behind_use(signature);
+        let (head, exports, kind, ty) = closed_or(parser, (head, exports, kind, ty), expected)?;
         Ok(Tag {
             span,
             id: head.id,

@@ -6,10 +6,11 @@ ghost use Rattle.wast_imports.specs.ImportTree as spec;
 ghost use Rattle.wast_imports.specs.ImportSyntax.{export_type};
 ghost use Rattle.wast_imports.specs.ImportViews.{export_type_tree};
 
+use crate::group_end::closed;
 use crate::item::ItemSig;
 use std::alloc::Global;
 use std::borrow::CowStr;
-use wast_signatures::{Error, LParen, Meaning, Parse, Parser, RParen, Span};
+use wast_signatures::{Error, LParen, Meaning, Parse, Parser, Span};
 
 /// A name, and what is exported under it: `(export "name" (func))`. No field.
 #[derive(Drop)]
@@ -38,7 +39,7 @@ impl<'a> Parse<'a> for ExportType<'a> {
         let span = parser.word("export")?;
         let name = parser.name()?;
         let item = ItemSig::parse(parser)?;
-        RParen::parse(parser)?;
+        let item = closed(parser, item)?;
         Ok(ExportType { span, name, item })
     }
 }

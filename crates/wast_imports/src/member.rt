@@ -11,6 +11,7 @@ ghost use Rattle.wast_imports.specs.ImportTree as spec;
 ghost use Rattle.wast_imports.specs.ImportSyntax.{member_starts, member, member_name, first_member};
 ghost use Rattle.wast_imports.specs.ImportViews.{item_tree, member_tree, member_name_tree};
 
+use crate::group_end::closed;
 use crate::import::{FirstItem, ImportGroup1Item, ImportGroup2Item};
 use crate::item::ItemSig;
 use std::alloc::{AllocError, Global};
@@ -40,7 +41,7 @@ impl<'a> Parse<'a> for Member<ImportGroup1Item<'a>> {
         parser.word("item")?;
         let name = parser.name()?;
         let sig = ItemSig::parse(parser)?;
-        RParen::parse(parser)?;
+        let sig = closed(parser, sig)?;
         Ok(Member {
             item: ImportGroup1Item { name, sig },
         })
@@ -137,7 +138,7 @@ impl<'a> Parse<'a> for Member<FirstItem<'a>> {
         parser.word("item")?;
         let name = parser.name()?;
         let sig = Option::parse(parser)?;
-        RParen::parse(parser)?;
+        let sig = closed(parser, sig)?;
         Ok(Member {
             item: FirstItem { name, sig },
         })

@@ -14,7 +14,7 @@ use wast_exports::keyword;
 use wast_field_syntax::keyword::Offset;
 use wast_field_syntax::{
     DataVal, Error, Expression, Head, Id, Index, InstructionGroup, LParen, Meaning, NameAnnotation,
-    Parse, Parser, RParen, Span, UseOf, full_list, or_begins, parse_use, required,
+    Parse, Parser, Span, UseOf, closed_or, full_list, or_begins, parse_use,
 };
 use wast_value_types::Group;
 
@@ -99,7 +99,7 @@ impl<'a> Parse<'a> for Data<'a> {
         let span = parser.word("data")?;
         let head = Head::parse(parser)?;
         let (kind, data) = parse_segment(parser)?;
-        required::<RParen>(parser, "expected a string or `)`")?;
+        let (head, kind, data) = closed_or(parser, (head, kind, data), "expected a string or `)`")?;
         Ok(Data {
             span,
             id: head.id,

@@ -15,8 +15,8 @@ ghost use Rattle.wast_memory_fields.specs.MemoryViews.{defined_memory, memory_de
 
 use wast_exports::{InlineExport, InlineImport};
 use wast_field_syntax::{
-    DataVal, Error, Head, Id, LParen, Meaning, NameAnnotation, Parse, Parser, RParen, Span,
-    full_list, parse_sizes, required,
+    DataVal, Error, Head, Id, LParen, Meaning, NameAnnotation, Parse, Parser, Span, closed,
+    closed_or, full_list, parse_sizes, required,
 };
 use wast_value_types::keyword::Shared;
 use wast_value_types::{Limits, MemoryType, address_type, optional, page_size};
@@ -112,7 +112,7 @@ impl<'a> Parse<'a> for Memory<'a> {
         let head = Head::parse(parser)?;
         let exports = InlineExport::parse(parser)?;
         let kind = parse_defined(parser)?;
-        RParen::parse(parser)?;
+        let (head, exports, kind) = closed(parser, (head, exports, kind))?;
         Ok(Memory {
             span,
             id: head.id,
@@ -183,6 +183,5 @@ fn parse_data<'a>(parser: &mut Parser<'a>) -> Result<Vec<DataVal<'a>>, Error>
     required::<LParen>(parser, "expected a number of pages or `(data`")?;
     parser.word("data")?;
     let data = full_list(parser)?;
-    required::<RParen>(parser, "expected a string or `)`")?;
-    Ok(data)
+    closed_or(parser, data, "expected a string or `)`")
 }

@@ -17,7 +17,7 @@ use wast_exports::keyword::{Func, Table};
 use wast_field_syntax::keyword::{Declare, Offset};
 use wast_field_syntax::{
     Error, Expression, Head, Id, Index, Keyword, LParen, Meaning, NameAnnotation, Parse, Parser,
-    RParen, Span, full_list, or_begins, parse_use, required,
+    Span, closed_or, full_list, or_begins, parse_use,
 };
 use wast_value_types::RefType;
 
@@ -126,7 +126,8 @@ impl<'a> Parse<'a> for Elem<'a> {
         let span = parser.word("elem")?;
         let head = Head::parse(parser)?;
         let (kind, payload) = parse_segment(parser)?;
-        required::<RParen>(parser, payload.expected_behind())?;
+        let expected = payload.expected_behind();
+        let (head, kind, payload) = closed_or(parser, (head, kind, payload), expected)?;
         Ok(Elem {
             span,
             id: head.id,

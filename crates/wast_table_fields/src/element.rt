@@ -12,7 +12,7 @@ ghost use Rattle.wast_field_syntax.specs.DefinitionSyntax.{element};
 ghost use Rattle.wast_field_syntax.specs.ElemSyntax.{element_starts};
 
 use wast_field_syntax::{
-    Error, Expression, InstructionGroup, Keyword, KeywordName, LParen, Parse, Parser, RParen,
+    Error, Expression, InstructionGroup, Keyword, KeywordName, LParen, Parse, Parser, closed,
     keyword, or_begins,
 };
 use wast_value_types::Group;
@@ -28,8 +28,7 @@ pub(crate) fn parse_led_or_plain<'a, N: KeywordName>(
         LParen::parse(parser)?;
         Keyword::<N>::parse(parser)?;
         let expression = Expression::parse(parser)?;
-        RParen::parse(parser)?;
-        Ok(expression)
+        closed(parser, expression)
     } else {
         Expression::parse_plain(parser)
     }

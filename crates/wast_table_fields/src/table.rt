@@ -16,8 +16,8 @@ use crate::elem::ElemPayload;
 use crate::element::{parse_elements, peek_element};
 use wast_exports::{InlineExport, InlineImport};
 use wast_field_syntax::{
-    Error, Expression, Head, Id, Keyword, LParen, Meaning, NameAnnotation, Parse, Parser, RParen,
-    Span, full_list, parse_sizes, required,
+    Error, Expression, Head, Id, Keyword, LParen, Meaning, NameAnnotation, Parse, Parser, Span,
+    closed_or, full_list, parse_sizes, required,
 };
 use wast_value_types::keyword::Shared;
 use wast_value_types::{Limits, RefType, TableType, address_type};
@@ -125,7 +125,8 @@ impl<'a> Parse<'a> for Table<'a> {
         let head = Head::parse(parser)?;
         let exports = InlineExport::parse(parser)?;
         let kind = parse_defined(parser)?;
-        required::<RParen>(parser, kind.expected_behind())?;
+        let expected = kind.expected_behind();
+        let (head, exports, kind) = closed_or(parser, (head, exports, kind), expected)?;
         Ok(Table {
             span,
             id: head.id,
@@ -233,7 +234,8 @@ fn parse_filled<'a>(parser: &mut Parser<'a>, is_64: bool) -> Result<TableKind<'a
     parser.word("elem")?;
     let ty = elem.clone(parser.alloc())?;
     let payload = parse_payload(parser, ty)?;
-    required::<RParen>(parser, payload.expected_behind())?;
+    let expected = payload.expected_behind();
+    let (elem, payload) = closed_or(parser, (elem, payload), expected)?;
     Ok(TableKind::Inline {
         is_64,
         elem,
