@@ -11,9 +11,9 @@ use wast_parser::{Id, NameAnnotation};
 
 /// What comes next, with what `@name` says, else its identifier, unless that is made up.
 pub(crate) fn add_given(
-    names: &mut Names,
     name: &Option<NameAnnotation<'_>>,
     id: &Option<Id<'_>>,
+    names: &mut Names,
 ) -> Result<(), EncodeError>
     ensures { NamesJoin result names.old names.new (given (option_map name_tree name.now) (option_map identifier_tree id.now) ∷ []) }
 {
@@ -21,7 +21,7 @@ pub(crate) fn add_given(
 }
 
 /// What comes next, with its identifier, unless that is made up.
-pub(crate) fn add_identified(names: &mut Names, id: &Option<Id<'_>>) -> Result<(), EncodeError>
+pub(crate) fn add_identified(id: &Option<Id<'_>>, names: &mut Names) -> Result<(), EncodeError>
     ensures { NamesJoin result names.old names.new (identified (option_map identifier_tree id.now) ∷ []) }
 {
     names.add(identified(id))

@@ -64,7 +64,7 @@ fn add_fields(
     ensures { GroupsJoin result groups.old groups.new (flat_map (field_groups (inside_view kind) counts.now) (map field_tree fields.now)) }
 {
     for field in fields {
-        add_field(alloc, groups, kind, counts, field)?;
+        add_field(alloc, field, groups, kind, counts)?;
     }
     Ok(())
 }
@@ -72,19 +72,19 @@ fn add_fields(
 /// What a field has that may have names inside.
 fn add_field(
     alloc: Global,
+    field: &ModuleField<'_>,
     groups: &mut Groups,
     kind: Inside,
     counts: &[usize],
-    field: &ModuleField<'_>,
 ) -> Result<(), EncodeError>
     ensures { GroupsJoin result groups.old groups.new (field_groups (inside_view kind) counts.now (field_tree field.now)) }
 {
     match field {
-        ModuleField::TypeItem(item) => add_type(alloc, groups, kind, item),
-        ModuleField::Rec(group) => add_types(alloc, groups, kind, &group.types),
-        ModuleField::Import(imports) => add_imports(alloc, groups, kind, imports),
-        ModuleField::Func(func) => add_func(alloc, groups, kind, counts, func),
-        ModuleField::Tag(tag) => add_tag(alloc, groups, kind, tag),
+        ModuleField::TypeItem(item) => add_type(alloc, item, groups, kind),
+        ModuleField::Rec(group) => add_types(alloc, &group.types, groups, kind),
+        ModuleField::Import(imports) => add_imports(alloc, imports, groups, kind),
+        ModuleField::Func(func) => add_func(alloc, func, groups, kind, counts),
+        ModuleField::Tag(tag) => add_tag(alloc, tag, groups, kind),
         _ => Ok(()),
     }
 }
@@ -94,14 +94,14 @@ fn add_field(
 /// Types, one after the other.
 fn add_types(
     alloc: Global,
+    types: &[TypeItem<'_>],
     groups: &mut Groups,
     kind: Inside,
-    types: &[TypeItem<'_>],
 ) -> Result<(), EncodeError>
     ensures { GroupsJoin result groups.old groups.new (flat_map (type_groups (inside_view kind)) (map item_tree types.now)) }
 {
     for item in types {
-        add_type(alloc, groups, kind, item)?;
+        add_type(alloc, item, groups, kind)?;
     }
     Ok(())
 }
@@ -109,9 +109,9 @@ fn add_types(
 /// A type, where fields or parameters are wanted.
 fn add_type(
     alloc: Global,
+    item: &TypeItem<'_>,
     groups: &mut Groups,
     kind: Inside,
-    item: &TypeItem<'_>,
 ) -> Result<(), EncodeError>
     ensures { GroupsJoin result groups.old groups.new (type_groups (inside_view kind) (item_tree item.now)) }
 {
@@ -133,42 +133,42 @@ fn add_type(
 /// What is imported; of a group that is alike the same for each name.
 fn add_imports(
     alloc: Global,
+    imports: &Imports<'_>,
     groups: &mut Groups,
     kind: Inside,
-    imports: &Imports<'_>,
 ) -> Result<(), EncodeError>
     ensures { GroupsJoin result groups.old groups.new (flat_map (import_groups (inside_view kind)) (imported (items_tree imports.now.items))) }
 {
     match &imports.items {
-        ImportItems::Single { sig, .. } => add_single(alloc, groups, kind, sig),
-        ImportItems::Group1 { items, .. } => add_members(alloc, groups, kind, items),
-        ImportItems::Group2 { sig, items, .. } => add_for_each(alloc, groups, kind, sig, items),
+        ImportItems::Single { sig, .. } => add_single(alloc, sig, groups, kind),
+        ImportItems::Group1 { items, .. } => add_members(alloc, items, groups, kind),
+        ImportItems::Group2 { sig, items, .. } => add_for_each(alloc, sig, items, groups, kind),
     }
 }
 
 /// What is imported alone.
 fn add_single(
     alloc: Global,
+    sig: &ItemSig<'_>,
     groups: &mut Groups,
     kind: Inside,
-    sig: &ItemSig<'_>,
 ) -> Result<(), EncodeError>
     ensures { GroupsJoin result groups.old groups.new (flat_map (import_groups (inside_view kind)) (extern_tree sig.now.kind ∷ [])) }
 {
-    add_import(alloc, groups, kind, &sig.kind)
+    add_import(alloc, &sig.kind, groups, kind)
 }
 
 /// The members of a group, one after the other.
 fn add_members(
     alloc: Global,
+    members: &[ImportGroup1Item<'_>],
     groups: &mut Groups,
     kind: Inside,
-    members: &[ImportGroup1Item<'_>],
 ) -> Result<(), EncodeError>
     ensures { GroupsJoin result groups.old groups.new (flat_map (import_groups (inside_view kind)) (map (λ i. i.1.extern_type) (map member_tree members.now))) }
 {
     for member in members {
-        add_import(alloc, groups, kind, &member.sig.kind)?;
+        add_import(alloc, &member.sig.kind, groups, kind)?;
     }
     Ok(())
 }
@@ -176,15 +176,15 @@ fn add_members(
 /// The same for each member of a group.
 fn add_for_each(
     alloc: Global,
-    groups: &mut Groups,
-    kind: Inside,
     sig: &ItemSig<'_>,
     members: &[ImportGroup2Item<'_>],
+    groups: &mut Groups,
+    kind: Inside,
 ) -> Result<(), EncodeError>
     ensures { GroupsJoin result groups.old groups.new (flat_map (import_groups (inside_view kind)) (map (λ name. extern_tree sig.now.kind) (map member_name_tree members.now))) }
 {
     for _member in members {
-        add_import(alloc, groups, kind, &sig.kind)?;
+        add_import(alloc, &sig.kind, groups, kind)?;
     }
     Ok(())
 }
@@ -192,15 +192,15 @@ fn add_for_each(
 /// What is imported under one name, where it is a function or a tag.
 fn add_import(
     alloc: Global,
+    import: &ItemKind<'_>,
     groups: &mut Groups,
     kind: Inside,
-    import: &ItemKind<'_>,
 ) -> Result<(), EncodeError>
     ensures { GroupsJoin result groups.old groups.new (import_groups (inside_view kind) (extern_tree import.now)) }
 {
     match import {
         ItemKind::Func(_) | ItemKind::FuncExact(_) => pass_function(groups, kind),
-        ItemKind::Tag(ty) => add_tag_type(alloc, groups, kind, ty),
+        ItemKind::Tag(ty) => add_tag_type(alloc, ty, groups, kind),
         ItemKind::Table(_) | ItemKind::Memory(_) | ItemKind::Global(_) => Ok(()),
     }
 }
@@ -220,16 +220,16 @@ fn pass_function(groups: &mut Groups, kind: Inside) -> Result<(), EncodeError>
 /// A function, where it has a body.
 fn add_func(
     alloc: Global,
+    func: &Func<'_>,
     groups: &mut Groups,
     kind: Inside,
     counts: &[usize],
-    func: &Func<'_>,
 ) -> Result<(), EncodeError>
     ensures { GroupsJoin result groups.old groups.new (defined_groups (inside_view kind) counts.now (defined_func func.now.kind func.now.ty)) }
 {
     match &func.kind {
         FuncKind::Inline { locals, expression } => {
-            add_body(alloc, groups, kind, counts, &func.ty, locals, expression)
+            add_body(alloc, &func.ty, locals, expression, groups, kind, counts)
         }
         FuncKind::Import { .. } => Ok(()),
     }
@@ -238,12 +238,12 @@ fn add_func(
 /// A function with a body, where locals or labels are wanted.
 fn add_body<'a>(
     alloc: Global,
-    groups: &mut Groups,
-    kind: Inside,
-    counts: &[usize],
     ty: &TypeUse<'a, FunctionType<'a>>,
     locals: &[Local<'a>],
     body: &Expression<'a>,
+    groups: &mut Groups,
+    kind: Inside,
+    counts: &[usize],
 ) -> Result<(), EncodeError>
     ensures { GroupsJoin result groups.old groups.new (function_groups (inside_view kind) counts.now (record { type_use = use_tree ty.now; locals = map local_tree locals.now; body = expression_tree body.now })) }
 {
@@ -270,14 +270,14 @@ fn add_labels(alloc: Global, body: &Expression<'_>, groups: &mut Groups) -> Resu
 /// A tag, where it isn't imported.
 fn add_tag(
     alloc: Global,
+    tag: &Tag<'_>,
     groups: &mut Groups,
     kind: Inside,
-    tag: &Tag<'_>,
 ) -> Result<(), EncodeError>
     ensures { (counts : List ℕ) → GroupsJoin result groups.old groups.new (defined_groups (inside_view kind) counts (defined_tag tag.now.kind tag.now.ty)) }
 {
     match &tag.kind {
-        TagKind::Inline => add_tag_type(alloc, groups, kind, &tag.ty),
+        TagKind::Inline => add_tag_type(alloc, &tag.ty, groups, kind),
         TagKind::Import(_) => Ok(()),
     }
 }
@@ -285,9 +285,9 @@ fn add_tag(
 /// A tag of this type, where parameters of tags are wanted.
 fn add_tag_type(
     alloc: Global,
+    ty: &TagType<'_>,
     groups: &mut Groups,
     kind: Inside,
-    ty: &TagType<'_>,
 ) -> Result<(), EncodeError>
     ensures { GroupsJoin result groups.old groups.new (tag_groups (inside_view kind) (tag_tree ty.now)) }
 {

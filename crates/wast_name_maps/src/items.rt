@@ -48,35 +48,35 @@ fn add_fields(
     ensures { NamesJoin result names.old names.new (bound_names (space_view space) (flat_map items (map field_tree fields.now))) }
 {
     for field in fields {
-        add_field(names, space, field)?;
+        add_field(field, names, space)?;
     }
     Ok(())
 }
 
 /// The items of a field.
-fn add_field(names: &mut Names, space: Space, field: &ModuleField<'_>) -> Result<(), EncodeError>
+fn add_field(field: &ModuleField<'_>, names: &mut Names, space: Space) -> Result<(), EncodeError>
     ensures { NamesJoin result names.old names.new (bound_names (space_view space) (items (field_tree field.now))) }
 {
     match field {
-        ModuleField::TypeItem(item) => add_type(names, space, item),
-        ModuleField::Rec(group) => add_types(names, space, &group.types),
-        ModuleField::Import(imports) => add_imports(names, space, imports),
-        ModuleField::Func(func) => add(names, space, Space::Functions, &func.name, &func.id),
-        ModuleField::Table(table) => add_table(names, space, table),
-        ModuleField::Memory(memory) => add_memory(names, space, memory),
-        ModuleField::Global(global) => add(names, space, Space::Globals, &global.name, &global.id),
-        ModuleField::Tag(tag) => add(names, space, Space::Tags, &tag.name, &tag.id),
-        ModuleField::Elem(elem) => add(names, space, Space::Elems, &elem.name, &elem.id),
-        ModuleField::Data(data) => add(names, space, Space::Datas, &data.name, &data.id),
+        ModuleField::TypeItem(item) => add_type(item, names, space),
+        ModuleField::Rec(group) => add_types(&group.types, names, space),
+        ModuleField::Import(imports) => add_imports(imports, names, space),
+        ModuleField::Func(func) => add(&func.name, &func.id, names, space, Space::Functions),
+        ModuleField::Table(table) => add_table(table, names, space),
+        ModuleField::Memory(memory) => add_memory(memory, names, space),
+        ModuleField::Global(global) => add(&global.name, &global.id, names, space, Space::Globals),
+        ModuleField::Tag(tag) => add(&tag.name, &tag.id, names, space, Space::Tags),
+        ModuleField::Elem(elem) => add(&elem.name, &elem.id, names, space, Space::Elems),
+        ModuleField::Data(data) => add(&data.name, &data.id, names, space, Space::Datas),
         ModuleField::Export(_) | ModuleField::Start(_) | ModuleField::Custom(_) => Ok(()),
     }
 }
 
 /// A table, and the segment that stands inline.
-fn add_table(names: &mut Names, space: Space, table: &Table<'_>) -> Result<(), EncodeError>
+fn add_table(table: &Table<'_>, names: &mut Names, space: Space) -> Result<(), EncodeError>
     ensures { NamesJoin result names.old names.new (bound_names (space_view space) (items (Define (table_definition table.now)))) }
 {
-    add(names, space, Space::Tables, &table.name, &table.id)?;
+    add(&table.name, &table.id, names, space, Space::Tables)?;
     match &table.kind {
         TableKind::Inline { .. } => add_segment(names, space, Space::Elems),
         TableKind::Import { .. } | TableKind::Normal { .. } => Ok(()),
@@ -84,10 +84,10 @@ fn add_table(names: &mut Names, space: Space, table: &Table<'_>) -> Result<(), E
 }
 
 /// A memory, and the segment that stands inline.
-fn add_memory(names: &mut Names, space: Space, memory: &Memory<'_>) -> Result<(), EncodeError>
+fn add_memory(memory: &Memory<'_>, names: &mut Names, space: Space) -> Result<(), EncodeError>
     ensures { NamesJoin result names.old names.new (bound_names (space_view space) (items (Define (memory_definition memory.now)))) }
 {
-    add(names, space, Space::Memories, &memory.name, &memory.id)?;
+    add(&memory.name, &memory.id, names, space, Space::Memories)?;
     match &memory.kind {
         MemoryKind::Inline { .. } => add_segment(names, space, Space::Datas),
         MemoryKind::Import { .. } | MemoryKind::Normal(_) => Ok(()),
@@ -95,87 +95,87 @@ fn add_memory(names: &mut Names, space: Space, memory: &Memory<'_>) -> Result<()
 }
 
 /// Types, one after the other.
-fn add_types(names: &mut Names, space: Space, types: &[TypeItem<'_>]) -> Result<(), EncodeError>
+fn add_types(types: &[TypeItem<'_>], names: &mut Names, space: Space) -> Result<(), EncodeError>
     ensures { NamesJoin result names.old names.new (bound_names (space_view space) (map bound_type (map item_tree types.now))) }
 {
     for item in types {
-        add_type(names, space, item)?;
+        add_type(item, names, space)?;
     }
     Ok(())
 }
 
 /// A type.
-fn add_type(names: &mut Names, space: Space, item: &TypeItem<'_>) -> Result<(), EncodeError>
+fn add_type(item: &TypeItem<'_>, names: &mut Names, space: Space) -> Result<(), EncodeError>
     ensures { NamesJoin result names.old names.new (bound_names (space_view space) (bound_type (item_tree item.now) ∷ [])) }
 {
-    add(names, space, Space::Types, &item.name, &item.id)
+    add(&item.name, &item.id, names, space, Space::Types)
 }
 
 /// What is imported; of a group that is alike the same item for each name.
-fn add_imports(names: &mut Names, space: Space, imports: &Imports<'_>) -> Result<(), EncodeError>
+fn add_imports(imports: &Imports<'_>, names: &mut Names, space: Space) -> Result<(), EncodeError>
     ensures { NamesJoin result names.old names.new (bound_names (space_view space) (bound_imports (items_tree imports.now.items))) }
 {
     match &imports.items {
-        ImportItems::Single { sig, .. } => add_import(names, space, sig),
-        ImportItems::Group1 { items, .. } => add_members(names, space, items),
-        ImportItems::Group2 { sig, items, .. } => add_for_each(names, space, sig, items),
+        ImportItems::Single { sig, .. } => add_import(sig, names, space),
+        ImportItems::Group1 { items, .. } => add_members(items, names, space),
+        ImportItems::Group2 { sig, items, .. } => add_for_each(sig, items, names, space),
     }
 }
 
 /// The members of a group, one after the other.
 fn add_members(
+    members: &[ImportGroup1Item<'_>],
     names: &mut Names,
     space: Space,
-    members: &[ImportGroup1Item<'_>],
 ) -> Result<(), EncodeError>
     ensures { NamesJoin result names.old names.new (bound_names (space_view space) (map (λ i. bound_import i.1) (map member_tree members.now))) }
 {
     for member in members {
-        add_import(names, space, &member.sig)?;
+        add_import(&member.sig, names, space)?;
     }
     Ok(())
 }
 
 /// The same item for each member of a group.
 fn add_for_each(
-    names: &mut Names,
-    space: Space,
     sig: &ItemSig<'_>,
     members: &[ImportGroup2Item<'_>],
+    names: &mut Names,
+    space: Space,
 ) -> Result<(), EncodeError>
     ensures { NamesJoin result names.old names.new (bound_names (space_view space) (map (λ name. bound_import (imported_tree sig.now)) (map member_name_tree members.now))) }
 {
     for _member in members {
-        add_import(names, space, sig)?;
+        add_import(sig, names, space)?;
     }
     Ok(())
 }
 
 /// What is imported under one name.
-fn add_import(names: &mut Names, space: Space, sig: &ItemSig<'_>) -> Result<(), EncodeError>
+fn add_import(sig: &ItemSig<'_>, names: &mut Names, space: Space) -> Result<(), EncodeError>
     ensures { NamesJoin result names.old names.new (bound_names (space_view space) (bound_import (imported_tree sig.now) ∷ [])) }
 {
     add(
+        &sig.name,
+        &sig.id,
         names,
         space,
         Space::of_import(&sig.kind),
-        &sig.name,
-        &sig.id,
     )
 }
 
 /// An item of `own`, where that is the space whose names are wanted.
 fn add(
+    name: &Option<NameAnnotation<'_>>,
+    id: &Option<Id<'_>>,
     names: &mut Names,
     wanted: Space,
     own: Space,
-    name: &Option<NameAnnotation<'_>>,
-    id: &Option<Id<'_>>,
 ) -> Result<(), EncodeError>
     ensures { NamesJoin result names.old names.new (bound_names (space_view wanted) (bound (space_view own) (option_map identifier_tree id.now) (option_map name_tree name.now) ∷ [])) }
 {
     if is_same(wanted, own) {
-        add_given(names, name, id)
+        add_given(name, id, names)
     } else {
         Ok(())
     }

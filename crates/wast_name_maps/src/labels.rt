@@ -19,30 +19,30 @@ pub(crate) fn names_of_labels(
     ensures { BuildsNames result (flat_map label_names (map instruction_tree instructions.now)) }
 {
     let mut names = Names::new(alloc);
-    add_labels(&mut names, instructions)?;
+    add_labels(instructions, &mut names)?;
     Ok(names)
 }
 
 /// The labels of instructions, one after the other.
-fn add_labels(names: &mut Names, instructions: &[Instruction<'_>]) -> Result<(), EncodeError>
+fn add_labels(instructions: &[Instruction<'_>], names: &mut Names) -> Result<(), EncodeError>
     ensures { NamesJoin result names.old names.new (flat_map label_names (map instruction_tree instructions.now)) }
 {
     for instruction in instructions {
-        add_label(names, instruction)?;
+        add_label(instruction, names)?;
     }
     Ok(())
 }
 
 /// The label of the block that an instruction opens, if it opens one.
-fn add_label(names: &mut Names, instruction: &Instruction<'_>) -> Result<(), EncodeError>
+fn add_label(instruction: &Instruction<'_>, names: &mut Names) -> Result<(), EncodeError>
     ensures { NamesJoin result names.old names.new (label_names (instruction_tree instruction.now)) }
 {
     match instruction {
-        Instruction::Block(block) => add_identified(names, &block.label),
-        Instruction::Loop(block) => add_identified(names, &block.label),
-        Instruction::If(block) => add_identified(names, &block.label),
-        Instruction::Try(block) => add_identified(names, &block.label),
-        Instruction::TryTable(try_table) => add_identified(names, &try_table.block.label),
+        Instruction::Block(block) => add_identified(&block.label, names),
+        Instruction::Loop(block) => add_identified(&block.label, names),
+        Instruction::If(block) => add_identified(&block.label, names),
+        Instruction::Try(block) => add_identified(&block.label, names),
+        Instruction::TryTable(try_table) => add_identified(&try_table.block.label, names),
         Instruction::End(_) => Ok(()),
         Instruction::Delegate(_) => Ok(()),
         _ => Ok(()),

@@ -25,31 +25,31 @@ pub(crate) fn names_of_locals<'a>(
     ensures { BuildsNames result (params_by counts.now (use_tree ty.now) ++ local_names (map local_tree locals.now)) }
 {
     let mut names = Names::new(alloc);
-    add_use(&mut names, counts, ty)?;
-    add_locals(&mut names, locals)?;
+    add_use(ty, &mut names, counts)?;
+    add_locals(locals, &mut names)?;
     Ok(names)
 }
 
 /// The parameters of a use.
 fn add_use<'a>(
+    ty: &TypeUse<'a, FunctionType<'a>>,
     names: &mut Names,
     counts: &[usize],
-    ty: &TypeUse<'a, FunctionType<'a>>,
 ) -> Result<(), EncodeError>
     ensures { NamesJoin result names.old names.new (params_by counts.now (use_tree ty.now)) }
 {
     match &ty.inline {
-        Some(signature) => add_params(names, &signature.params),
+        Some(signature) => add_params(&signature.params, names),
         None => names.pass(count_by(counts, &ty.index)),
     }
 }
 
 /// Locals, one after the other.
-fn add_locals(names: &mut Names, locals: &[Local<'_>]) -> Result<(), EncodeError>
+fn add_locals(locals: &[Local<'_>], names: &mut Names) -> Result<(), EncodeError>
     ensures { NamesJoin result names.old names.new (local_names (map local_tree locals.now)) }
 {
     for local in locals {
-        add_given(names, &local.name, &local.id)?;
+        add_given(&local.name, &local.id, names)?;
     }
     Ok(())
 }

@@ -31,16 +31,16 @@ fn field_names(alloc: Global, fields: &[StructField<'_>]) -> Result<Names, Encod
     ensures { BuildsNames result (map identified (map (λ f. f.id) (map struct_field_tree fields.now))) }
 {
     let mut names = Names::new(alloc);
-    add_fields(&mut names, fields)?;
+    add_fields(fields, &mut names)?;
     Ok(names)
 }
 
 /// The fields of a structure, one after the other.
-fn add_fields(names: &mut Names, fields: &[StructField<'_>]) -> Result<(), EncodeError>
+fn add_fields(fields: &[StructField<'_>], names: &mut Names) -> Result<(), EncodeError>
     ensures { NamesJoin result names.old names.new (map identified (map (λ f. f.id) (map struct_field_tree fields.now))) }
 {
     for field in fields {
-        add_identified(names, &field.id)?;
+        add_identified(&field.id, names)?;
     }
     Ok(())
 }
@@ -71,16 +71,16 @@ fn param_names(alloc: Global, params: &[Param<'_>]) -> Result<Names, EncodeError
     ensures { BuildsNames result (local_names (map param_tree params.now)) }
 {
     let mut names = Names::new(alloc);
-    add_params(&mut names, params)?;
+    add_params(params, &mut names)?;
     Ok(names)
 }
 
 /// Parameters, one after the other.
-pub(crate) fn add_params(names: &mut Names, params: &[Param<'_>]) -> Result<(), EncodeError>
+pub(crate) fn add_params(params: &[Param<'_>], names: &mut Names) -> Result<(), EncodeError>
     ensures { NamesJoin result names.old names.new (local_names (map param_tree params.now)) }
 {
     for param in params {
-        add_given(names, &param.1, &param.0)?;
+        add_given(&param.1, &param.0, names)?;
     }
     Ok(())
 }
