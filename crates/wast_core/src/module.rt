@@ -13,10 +13,12 @@ ghost use Rattle.wast_core.specs.ModuleViews.{content_tree, module_tree};
 use crate::keyword;
 use std::mem;
 use wasm_encoder_base::Bytes;
-use wast_imports::{Head, closed_or};
+use wast_imports::Head;
 use wast_lexer::Span;
 use wast_module_fields::ModuleField;
-use wast_parser::{Error, Id, Keyword, LParen, Meaning, NameAnnotation, Parse, Parser, list_of};
+use wast_parser::{
+    Error, Id, Keyword, LParen, Meaning, NameAnnotation, Parse, Parser, closed_or, list_of,
+};
 
 /// A module (6.6, modules): `(module $m ..)`.
 pub struct Module<'a> {

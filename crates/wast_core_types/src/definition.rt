@@ -17,7 +17,7 @@ use crate::keyword;
 use wast_lexer::Span;
 use wast_parser::{
     Cursor, Error, Id, Index, Item, Keyword, LParen, Meaning, NameAnnotation, Parse, Parser, Peek,
-    RParen, list_of, required,
+    closed_or, list_of,
 };
 use wast_signatures::{Body, Grouped, value_of};
 
@@ -317,7 +317,7 @@ impl<'a> Parse<'a> for Rec<'a> {
         LParen::parse(parser)?;
         let span = parser.word("rec")?;
         let types = list_of(parser)?;
-        required::<RParen>(parser, "expected `(type` or `)`")?;
+        let types = closed_or(parser, types, "expected `(type` or `)`")?;
         Ok(Rec { span, types })
     }
 }

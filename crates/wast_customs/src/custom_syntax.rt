@@ -15,9 +15,7 @@ use crate::dylink::Dylink0;
 use crate::place::CustomPlace;
 use crate::producers::Producers;
 use wasm_encoder_base::Bytes;
-use wast_parser::{
-    Cursor, Error, Item, LParen, Meaning, Parse, Parser, Peek, RParen, list_of, required,
-};
+use wast_parser::{Cursor, Error, Item, LParen, Meaning, Parse, Parser, Peek, closed_or, list_of};
 
 impl<'a> Meaning for Custom<'a> {
     ghost Tree = { spec.Custom ℕ };
@@ -101,7 +99,8 @@ impl<'a> Parse<'a> for RawCustomSection<'a> {
         let name = parser.name()?;
         let place: Option<CustomPlace> = Option::parse(parser)?;
         let bytes: Vec<Bytes<'a>> = list_of(parser)?;
-        required::<RParen>(parser, expected_behind(&place, &bytes))?;
+        let expected = expected_behind(&place, &bytes);
+        let (name, place, bytes) = closed_or(parser, (name, place, bytes), expected)?;
         Ok(RawCustomSection {
             span,
             name,

@@ -13,7 +13,7 @@ ghost use Rattle.wast_customs.specs.CustomViews.{subsection_tree, dylink_tree};
 
 use crate::dylink::{Dylink0, Dylink0Subsection};
 use std::alloc::{AllocError, Global};
-use wast_parser::{Cursor, Error, LParen, Meaning, Parse, Parser, Peek, RParen, list_of, required};
+use wast_parser::{Cursor, Error, LParen, Meaning, Parse, Parser, Peek, closed_or, list_of};
 
 impl<'a> Meaning for Dylink0<'a> {
     ghost Tree = { spec.Dylink ℕ };
@@ -32,7 +32,8 @@ impl<'a> Parse<'a> for Dylink0<'a> {
         LParen::parse(parser)?;
         let span = parser.mark("dylink.0")?;
         let subsections = parse_subsections(parser)?;
-        required::<RParen>(parser, "expected a group of dylink.0 or `)`")?;
+        let expected = "expected a group of dylink.0 or `)`";
+        let subsections = closed_or(parser, subsections, expected)?;
         Ok(Dylink0 { span, subsections })
     }
 }

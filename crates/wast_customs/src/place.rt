@@ -9,7 +9,7 @@ ghost use Rattle.wast_customs.specs.CustomViews.{anchor_view, side_view, place_t
 
 use crate::keyword;
 use wast_parser::{
-    Cursor, Error, Item, Keyword, LParen, Meaning, Parse, Parser, Peek, RParen, Spelled, WordSet,
+    Cursor, Error, Item, Keyword, LParen, Meaning, Parse, Parser, Peek, Spelled, WordSet, closed,
     find_among,
 };
 
@@ -163,8 +163,7 @@ impl<'a> Parse<'a> for CustomPlace {
         LParen::parse(parser)?;
         let (side, _) = parser.among("expected `before` or `after`")?;
         let value = parse_place(parser, side)?;
-        RParen::parse(parser)?;
-        Ok(value)
+        closed(parser, value)
     }
 }
 

@@ -14,8 +14,8 @@ use std::alloc::Global;
 use std::borrow::CowStr;
 use wast_lexer::Span;
 use wast_parser::{
-    Cursor, Error, Item, LParen, Meaning, Parse, Parser, Peek, RParen, Spelled, WordSet,
-    find_among, list_of, required,
+    Cursor, Error, Item, LParen, Meaning, Parse, Parser, Peek, Spelled, WordSet, closed, closed_or,
+    find_among, list_of,
 };
 
 /// What producers say of themselves: `(@producers (language "C" "23") ..)`, in the order in which it is written.
@@ -95,10 +95,8 @@ impl<'a> Parse<'a> for Producers<'a> {
         LParen::parse(parser)?;
         let span = parser.mark("producers")?;
         let fields = list_of(parser)?;
-        required::<RParen>(
-            parser,
-            "expected `(language`, `(sdk`, `(processed-by` or `)`",
-        )?;
+        let expected = "expected `(language`, `(sdk`, `(processed-by` or `)`";
+        let fields = closed_or(parser, fields, expected)?;
         Ok(Producers { span, fields })
     }
 }
@@ -141,7 +139,7 @@ impl<'a> Parse<'a> for Producer<'a> {
         let (kind, _) = parser.among("expected `language`, `sdk` or `processed-by`")?;
         let name = parser.name()?;
         let version = parser.name()?;
-        RParen::parse(parser)?;
+        let (name, version) = closed(parser, (name, version))?;
         Ok(Producer {
             kind,
             name,

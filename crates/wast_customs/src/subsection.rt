@@ -16,8 +16,8 @@ use crate::flag::parse_flags;
 use crate::keyword;
 use std::marker::PhantomData;
 use wast_parser::{
-    Cursor, Error, Item, Keyword, KeywordName, LParen, Meaning, Parse, Parser, Peek, RParen,
-    Spelled, WordSet, find_among, list_of, required,
+    Cursor, Error, Item, Keyword, KeywordName, LParen, Meaning, Parse, Parser, Peek, Spelled,
+    WordSet, closed, closed_or, find_among, list_of, pair,
 };
 
 /// What a group speaks of.
@@ -103,8 +103,8 @@ impl<'a> Parse<'a> for Dylink0Subsection<'a> {
         LParen::parse(parser)?;
         let (kind, _) = parser.among("expected a group of dylink.0")?;
         let value = parse_within(parser, kind)?;
-        required::<RParen>(parser, value.expected_behind())?;
-        Ok(value)
+        let expected = value.expected_behind();
+        closed_or(parser, value, expected)
     }
 }
 
@@ -210,9 +210,8 @@ impl<'a, N: KeywordName> Parse<'a> for Extent<N> {
     fn parse(parser: &mut Parser<'a>) -> Result<Self, Error> {
         LParen::parse(parser)?;
         let _word: Keyword<N> = Keyword::parse(parser)?;
-        let size = u32::parse(parser)?;
-        let align = u32::parse(parser)?;
-        RParen::parse(parser)?;
+        let extent = pair(parser)?;
+        let (size, align) = closed(parser, extent)?;
         Ok(Extent {
             size,
             align,

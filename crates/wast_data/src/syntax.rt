@@ -18,8 +18,8 @@ use crate::bytes::{DataInteger, integers_bytes, of_vectors, total};
 use crate::value::DataVal;
 use wasm_encoder_base::Bytes;
 use wast_parser::{
-    Cursor, Error, Item, LParen, Meaning, Parse, Parser, Peek, RParen, Spelled, WordSet,
-    find_among, list_of, required,
+    Cursor, Error, Item, LParen, Meaning, Parse, Parser, Peek, Spelled, WordSet, closed_or,
+    find_among, list_of,
 };
 use wast_vector_operands::{FloatLit, V128Const};
 
@@ -150,8 +150,7 @@ fn parse_numbers<'a>(parser: &mut Parser<'a>) -> Result<DataVal<'a>, Error>
     LParen::parse(parser)?;
     let (ty, _) = parser.among("expected a type of numbers")?;
     let value = parse_numbers_of(parser, ty)?;
-    required::<RParen>(parser, ty.expected_behind())?;
-    Ok(value)
+    closed_or(parser, value, ty.expected_behind())
 }
 
 /// What stands behind a type.

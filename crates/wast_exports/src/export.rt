@@ -14,8 +14,8 @@ use std::alloc::Global;
 use std::borrow::CowStr;
 use wast_lexer::Span;
 use wast_parser::{
-    Cursor, Error, Index, Keyword, LParen, Meaning, Parse, Parser, Peek, RParen, Spelled, WordSet,
-    find_among, required,
+    Cursor, Error, Index, Keyword, LParen, Meaning, Parse, Parser, Peek, Spelled, WordSet, closed,
+    find_among, pair, required,
 };
 
 /// An export: `(export "name" (func $f))` (6.6, exports).
@@ -129,7 +129,7 @@ impl<'a> Parse<'a> for Export<'a> {
         let span = parser.word("export")?;
         let name = parser.name()?;
         let (kind, item) = parse_exported(parser)?;
-        RParen::parse(parser)?;
+        let (name, kind, item) = closed(parser, (name, kind, item))?;
         Ok(Export {
             span,
             name,
@@ -148,10 +148,8 @@ fn parse_exported<'a>(parser: &mut Parser<'a>) -> Result<(ExportKind, Index<'a>)
         parser,
         "expected `(func`, `(table`, `(memory`, `(global` or `(tag`",
     )?;
-    let kind = ExportKind::parse(parser)?;
-    let item = Index::parse(parser)?;
-    RParen::parse(parser)?;
-    Ok((kind, item))
+    let exported = pair(parser)?;
+    closed(parser, exported)
 }
 
 impl From<Keyword<keyword::Func>> for ExportKind {

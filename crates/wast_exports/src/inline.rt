@@ -11,7 +11,7 @@ ghost use Rattle.wast_exports.specs.ExportViews.{export_name_tree, inline_export
 
 use std::alloc::Global;
 use std::borrow::CowStr;
-use wast_parser::{Cursor, Error, Item, LParen, Meaning, Parse, Parser, Peek, RParen, list_of};
+use wast_parser::{Cursor, Error, Item, LParen, Meaning, Parse, Parser, Peek, closed, list_of};
 
 /// The names under which a field is exported, as many as are written: `(export "a") (export "b")`.
 #[derive(Drop)]
@@ -89,7 +89,7 @@ impl<'a> Parse<'a> for ExportName<'a> {
         LParen::parse(parser)?;
         parser.word("export")?;
         let name = parser.name()?;
-        RParen::parse(parser)?;
+        let name = closed(parser, name)?;
         Ok(ExportName { name })
     }
 }
@@ -136,7 +136,7 @@ impl<'a> Parse<'a> for InlineImport<'a> {
         parser.word("import")?;
         let module = parser.name()?;
         let field = parser.name()?;
-        RParen::parse(parser)?;
+        let (module, field) = closed(parser, (module, field))?;
         Ok(InlineImport { module, field })
     }
 }

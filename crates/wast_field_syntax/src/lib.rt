@@ -27,8 +27,8 @@ pub use sizes::parse_sizes;
 pub use wast_core_instr::Expression;
 pub use wast_data::DataVal;
 pub use wast_exports::{InlineExport, InlineImport};
-pub use wast_imports::{Head, closed, closed_or};
+pub use wast_imports::Head;
 pub use wast_parser::{
     Error, Id, Index, Keyword, KeywordName, LParen, Meaning, NameAnnotation, Parse, Parser, Span,
-    list_of, required,
+    closed, closed_or, list_of, required,
 };

@@ -11,9 +11,8 @@ ghost use Rattle.wast_parser.specs.Identifiers.{Reference, index_tree};
 ghost use Rattle.wast_field_syntax.specs.ElemSyntax.{use_of};
 
 use std::marker::PhantomData;
-use wast_imports::closed;
 use wast_parser::{
-    Cursor, Error, Index, Keyword, KeywordName, LParen, Meaning, Parse, Parser, Peek, Span,
+    Cursor, Error, Index, Keyword, KeywordName, LParen, Meaning, Parse, Parser, Peek, Span, closed,
 };
 use wast_value_types::{Group, or_peek};
 

@@ -6,11 +6,10 @@ ghost use Rattle.wast_imports.specs.ImportTree as spec;
 ghost use Rattle.wast_imports.specs.ImportSyntax.{export_type};
 ghost use Rattle.wast_imports.specs.ImportViews.{export_type_tree};
 
-use crate::group_end::closed;
 use crate::item::ItemSig;
 use std::alloc::Global;
 use std::borrow::CowStr;
-use wast_signatures::{Error, LParen, Meaning, Parse, Parser, Span};
+use wast_signatures::{Error, LParen, Meaning, Parse, Parser, Span, closed};
 
 /// A name, and what is exported under it: `(export "name" (func))`. No field.
 #[derive(Drop)]

@@ -11,13 +11,12 @@ ghost use Rattle.wast_imports.specs.ImportSyntax.{with_rest, import_group, impor
 ghost use Rattle.wast_imports.specs.ImportViews.{item_tree, from_of, items_tree, imports_tree, sigs_of, unique_sigs_of, with_unique_sig};
 ghost use Rattle.wast_imports.specs.declared.import.ImportItems.TheVariants as items;
 
-use crate::group_end::closed;
 use crate::item::{ItemSig, parse_bare};
 use crate::member::{Member, with_more};
 use std::alloc::{AllocError, Global};
 use std::borrow::CowStr;
 use std::mem::replace;
-use wast_signatures::{Error, LParen, Meaning, Parse, Parser, Span, list_of};
+use wast_signatures::{Error, LParen, Meaning, Parse, Parser, Span, closed, list_of};
 use wast_words::required;
 
 /// What is imported from a module (6.6, imports).

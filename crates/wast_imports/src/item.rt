@@ -20,7 +20,7 @@ use crate::head::Head;
 use wast_exports::ExportKind;
 use wast_signatures::{
     Body, Cursor, Error, FunctionType, Id, Item, LParen, Meaning, NameAnnotation, Parse, Parser,
-    Peek, RParen, Span, TypeUse,
+    Peek, Span, TypeUse, closed_or,
 };
 use wast_value_types::keyword::Exact;
 use wast_value_types::{GlobalType, Group, MemoryType, TableType};
@@ -120,7 +120,8 @@ impl<'a> Parse<'a> for ItemSig<'a> {
         let (word, span) = parse_word(parser)?;
         let head = Head::parse(parser)?;
         let kind = parse_kind(parser, word)?;
-        required::<RParen>(parser, kind.expected_behind())?;
+        let expected = kind.expected_behind();
+        let (head, kind) = closed_or(parser, (head, kind), expected)?;
         Ok(ItemSig {
             span,
             id: head.id,
@@ -165,7 +166,8 @@ pub(crate) fn parse_bare<'a>(parser: &mut Parser<'a>) -> Result<ItemSig<'a>, Err
     )?;
     let (word, span) = parse_word(parser)?;
     let kind = parse_kind(parser, word)?;
-    required::<RParen>(parser, kind.expected_behind())?;
+    let expected = kind.expected_behind();
+    let kind = closed_or(parser, kind, expected)?;
     Ok(ItemSig {
         span,
         id: None,
@@ -217,6 +219,6 @@ pub fn parse_exact<'a>(parser: &mut Parser<'a>) -> Result<TypeUse<'a, FunctionTy
     LParen::parse(parser)?;
     parser.word("exact")?;
     let ty = TypeUse::parse(parser)?;
-    required::<RParen>(parser, expected_behind_use(&ty))?;
-    Ok(ty)
+    let expected = expected_behind_use(&ty);
+    closed_or(parser, ty, expected)
 }

@@ -4,8 +4,7 @@
 //! [`Imports`] is a single import, `(import "module" "name" (func))`, or by a proposal several of one module, each with its item,
 //! `(import "module" (item "a" (func)) (item "b" (memory 1)))`, or all of one item, which is called nothing,
 //! `(import "module" (item "a") (item "b") (func))`. An [`ExportType`] is `(export "name" (func))`. [`Head`] is what a field or
-//! an item is called. Each of these is read by its production. [`closed`] takes the parenthesis that closes a group, and keeps what
-//! stands before it.
+//! an item is called. Each of these is read by its production.
 //!
 //! # What has to be believed
 //!
@@ -16,14 +15,12 @@
 #![tactic(auto)]
 
 mod export_type;
-mod group_end;
 mod head;
 mod import;
 mod item;
 mod member;
 
 pub use export_type::ExportType;
-pub use group_end::{closed, closed_or};
 pub use head::Head;
 pub use import::{ImportGroup1Item, ImportGroup2Item, ImportItems, Imports};
 pub use item::{ItemKind, ItemSig, TagType, expected_behind_use, parse_exact};

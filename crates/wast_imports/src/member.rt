@@ -11,11 +11,10 @@ ghost use Rattle.wast_imports.specs.ImportTree as spec;
 ghost use Rattle.wast_imports.specs.ImportSyntax.{member_starts, member, member_name, first_member};
 ghost use Rattle.wast_imports.specs.ImportViews.{item_tree, member_tree, member_name_tree};
 
-use crate::group_end::closed;
 use crate::import::{FirstItem, ImportGroup1Item, ImportGroup2Item};
 use crate::item::ItemSig;
 use std::alloc::{AllocError, Global};
-use wast_signatures::{Cursor, Error, Item, LParen, Meaning, Parse, Parser, Peek, RParen};
+use wast_signatures::{Cursor, Error, Item, LParen, Meaning, Parse, Parser, Peek, closed};
 
 /// A member of a group, as it is written.
 #[derive(Drop)]
@@ -89,7 +88,7 @@ impl<'a> Parse<'a> for Member<ImportGroup2Item<'a>> {
         LParen::parse(parser)?;
         parser.word("item")?;
         let name = parser.name()?;
-        RParen::parse(parser)?;
+        let name = closed(parser, name)?;
         Ok(Member {
             item: ImportGroup2Item { name },
         })

@@ -7,7 +7,7 @@ ghost use Rattle.wast_module_fields.specs.FieldSyntax.{start};
 ghost use Rattle.wast_module_fields.specs.ModuleFieldViews.{start_tree};
 
 use wast_lexer::Span;
-use wast_parser::{Error, Index, LParen, Meaning, Parse, Parser, RParen};
+use wast_parser::{Error, Index, LParen, Meaning, Parse, Parser, closed};
 
 /// The function with which a module starts: `(start $f)` (6.6, start function).
 #[derive(Drop)]
@@ -34,7 +34,7 @@ impl<'a> Parse<'a> for Start<'a> {
         LParen::parse(parser)?;
         let span = parser.word("start")?;
         let func = Index::parse(parser)?;
-        RParen::parse(parser)?;
+        let func = closed(parser, func)?;
         Ok(Start { span, func })
     }
 }

@@ -9,7 +9,7 @@ ghost use Rattle.wast_vector_operands.specs.State.{ahead, Keeps};
 ghost use Rattle.wast_vector_operands.specs.Reading.{Gives};
 
 use std::alloc::AllocError;
-use wast_vector_operands::{Error, Index, Meaning, Parse, Parser, list_of};
+use wast_vector_operands::{Error, Index, Meaning, Parse, Parser, list_of, pair};
 
 /// The labels of `br_table`, of which the last written is the default.
 #[derive(Drop)]
@@ -228,8 +228,7 @@ impl<'a> Meaning for StructAccess<'a> {
 
 impl<'a> Parse<'a> for StructAccess<'a> {
     fn parse(parser: &mut Parser<'a>) -> Result<Self, Error> {
-        let struct_type = Index::parse(parser)?;
-        let field = Index::parse(parser)?;
+        let (struct_type, field) = pair(parser)?;
         Ok(StructAccess { struct_type, field })
     }
 }
@@ -280,8 +279,7 @@ impl<'a> Meaning for ArrayCopy<'a> {
 
 impl<'a> Parse<'a> for ArrayCopy<'a> {
     fn parse(parser: &mut Parser<'a>) -> Result<Self, Error> {
-        let dest_array = Index::parse(parser)?;
-        let src_array = Index::parse(parser)?;
+        let (dest_array, src_array) = pair(parser)?;
         Ok(ArrayCopy {
             dest_array,
             src_array,
@@ -310,8 +308,7 @@ impl<'a> Meaning for ArrayInit<'a> {
 
 impl<'a> Parse<'a> for ArrayInit<'a> {
     fn parse(parser: &mut Parser<'a>) -> Result<Self, Error> {
-        let array = Index::parse(parser)?;
-        let segment = Index::parse(parser)?;
+        let (array, segment) = pair(parser)?;
         Ok(ArrayInit { array, segment })
     }
 }
@@ -337,8 +334,7 @@ impl<'a> Meaning for ArrayNewFixed<'a> {
 
 impl<'a> Parse<'a> for ArrayNewFixed<'a> {
     fn parse(parser: &mut Parser<'a>) -> Result<Self, Error> {
-        let array = Index::parse(parser)?;
-        let length = u32::parse(parser)?;
+        let (array, length) = pair(parser)?;
         Ok(ArrayNewFixed { array, length })
     }
 }
@@ -364,8 +360,7 @@ impl<'a> Meaning for ArrayNewData<'a> {
 
 impl<'a> Parse<'a> for ArrayNewData<'a> {
     fn parse(parser: &mut Parser<'a>) -> Result<Self, Error> {
-        let array = Index::parse(parser)?;
-        let data_idx = Index::parse(parser)?;
+        let (array, data_idx) = pair(parser)?;
         Ok(ArrayNewData { array, data_idx })
     }
 }
@@ -391,8 +386,7 @@ impl<'a> Meaning for ArrayNewElem<'a> {
 
 impl<'a> Parse<'a> for ArrayNewElem<'a> {
     fn parse(parser: &mut Parser<'a>) -> Result<Self, Error> {
-        let array = Index::parse(parser)?;
-        let elem_idx = Index::parse(parser)?;
+        let (array, elem_idx) = pair(parser)?;
         Ok(ArrayNewElem { array, elem_idx })
     }
 }
@@ -403,9 +397,8 @@ fn none_or_two<'a>(parser: &mut Parser<'a>) -> Result<Option<Box<(Index<'a>, Ind
     ensures keeps { Keeps parser.old parser.new }
 {
     if parser.peek::<Index>()? {
-        let first = Index::parse(parser)?;
-        let second = Index::parse(parser)?;
-        Ok(Some(Box::new(parser.alloc(), (first, second))?))
+        let indices = pair(parser)?;
+        Ok(Some(Box::new(parser.alloc(), indices)?))
     } else {
         Ok(None)
     }

@@ -12,7 +12,9 @@ ghost use Rattle.wast_operands.specs.OperandTree as spec;
 ghost use Rattle.wast_operands.specs.OperandSyntax.{two_indices, handled, handle_body, handle, handle_starts, handlers, resume, resume_throw};
 ghost use Rattle.wast_operands.specs.OperandViews.{handle_tree, handlers_tree, resume_tree, resume_throw_tree, resume_throw_ref_tree, switch_tree, cont_bind_tree};
 
-use wast_vector_operands::{Cursor, Error, Index, Item, Meaning, Parse, Parser, Peek, list_of};
+use wast_vector_operands::{
+    Cursor, Error, Index, Item, Meaning, Parse, Parser, Peek, list_of, pair,
+};
 
 /// What handles a tag of a continuation that is resumed.
 #[derive(Drop)]
@@ -158,8 +160,7 @@ impl<'a> Meaning for Resume<'a> {
 
 impl<'a> Parse<'a> for Resume<'a> {
     fn parse(parser: &mut Parser<'a>) -> Result<Self, Error> {
-        let type_index = Index::parse(parser)?;
-        let table = ResumeTable::parse(parser)?;
+        let (type_index, table) = pair(parser)?;
         Ok(Resume { type_index, table })
     }
 }
@@ -187,8 +188,7 @@ impl<'a> Meaning for ResumeThrow<'a> {
 impl<'a> Parse<'a> for ResumeThrow<'a> {
     fn parse(parser: &mut Parser<'a>) -> Result<Self, Error> {
         let type_index = Index::parse(parser)?;
-        let tag_index = Index::parse(parser)?;
-        let table = ResumeTable::parse(parser)?;
+        let (tag_index, table) = pair(parser)?;
         Ok(ResumeThrow {
             type_index,
             tag_index,
@@ -218,8 +218,7 @@ impl<'a> Meaning for ResumeThrowRef<'a> {
 
 impl<'a> Parse<'a> for ResumeThrowRef<'a> {
     fn parse(parser: &mut Parser<'a>) -> Result<Self, Error> {
-        let type_index = Index::parse(parser)?;
-        let table = ResumeTable::parse(parser)?;
+        let (type_index, table) = pair(parser)?;
         Ok(ResumeThrowRef { type_index, table })
     }
 }
@@ -245,8 +244,7 @@ impl<'a> Meaning for Switch<'a> {
 
 impl<'a> Parse<'a> for Switch<'a> {
     fn parse(parser: &mut Parser<'a>) -> Result<Self, Error> {
-        let type_index = Index::parse(parser)?;
-        let tag_index = Index::parse(parser)?;
+        let (type_index, tag_index) = pair(parser)?;
         Ok(Switch {
             type_index,
             tag_index,
@@ -275,8 +273,7 @@ impl<'a> Meaning for ContBind<'a> {
 
 impl<'a> Parse<'a> for ContBind<'a> {
     fn parse(parser: &mut Parser<'a>) -> Result<Self, Error> {
-        let argument_index = Index::parse(parser)?;
-        let result_index = Index::parse(parser)?;
+        let (argument_index, result_index) = pair(parser)?;
         Ok(ContBind {
             argument_index,
             result_index,

@@ -19,6 +19,6 @@ pub use wast_parser_core::{
     Cursor, Error, Exhausted, FixedInteger, Float, FloatKind, Gensym, Id, Index, Integer,
     IntegerKind, Item, ItemRef, Keyword, KeywordName, LParen, LexError, LexFault, Lexer,
     Lookahead1, Meaning, NameAnnotation, Parse, ParseBuffer, Parser, Peek, RParen, SignToken, Span,
-    Spelled, Token, TokenKind, TokenTable, Tokens, WordSet, find_among, laws, lexical_text,
-    list_of, magnitude, parse, push_place, required,
+    Spelled, Token, TokenKind, TokenTable, Tokens, WordSet, closed, closed_or, find_among, laws,
+    lexical_text, list_of, magnitude, pair, parse, push_place, required,
 };

@@ -56,6 +56,7 @@ mod name_annotation;
 mod option;
 mod paren;
 mod parser;
+mod sequence;
 mod text;
 mod token;
 mod word_set;
@@ -71,6 +72,7 @@ pub use meaning::{Item, Meaning, Parse, Peek};
 pub use option::required;
 pub use paren::{LParen, RParen};
 pub use parser::{Parser, parse};
+pub use sequence::{closed, closed_or, pair};
 pub use wast_lexer::{
     Float, FloatKind, Integer, IntegerKind, LexError, LexFault, Lexer, SignToken, Span, Token,
     TokenKind, TokenTable, Tokens,

@@ -8,9 +8,8 @@ ghost use Rattle.wast_value_types.specs.Reading.{Gives};
 
 use std::marker::PhantomData;
 use wast_value_types::{
-    Cursor, Error, Item, Keyword, KeywordName, LParen, Meaning, Parse, Parser, Peek, RParen,
+    Cursor, Error, Item, Keyword, KeywordName, LParen, Meaning, Parse, Parser, Peek, closed_or,
 };
-use wast_words::required;
 
 /// What may stand in a group behind its word: some tokens spell one, it goes on no further where the group ends, and it
 /// registers no annotation.
@@ -53,7 +52,8 @@ impl<'a, N: KeywordName, T: Parse<'a> + Body> Parse<'a> for Grouped<N, T> {
         LParen::parse(parser)?;
         Keyword::<N>::parse(parser)?;
         let value: T = plain(parser)?;
-        required::<RParen>(parser, value.expected_behind())?;
+        let expected = value.expected_behind();
+        let value = closed_or(parser, value, expected)?;
         Ok(Grouped {
             value,
             of: PhantomData,

@@ -37,6 +37,7 @@ pub use struct_field::StructField;
 pub use type_use::TypeUse;
 pub use wast_value_types::{
     AbstractHeapType, Cursor, Error, FieldType, GlobalType, Group, HeapType, Id, Index, Item,
-    KeywordName, LParen, Limits, Meaning, MemoryType, NameAnnotation, Parse, Parser, Peek, RParen,
-    RefType, Span, StorageType, TableType, ValType, group_of, list_of, or_peek, page_size,
+    KeywordName, LParen, Limits, Meaning, MemoryType, NameAnnotation, Parse, Parser, Peek, RefType,
+    Span, StorageType, TableType, ValType, closed, closed_or, group_of, list_of, or_peek,
+    page_size, pair,
 };

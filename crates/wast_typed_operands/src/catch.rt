@@ -14,7 +14,7 @@ ghost use Rattle.wast_typed_operands.specs.TypedViews.{catch_of, catch_tree, tag
 
 use crate::keyword;
 use wast_signatures::{
-    Cursor, Error, Group, Index, Item, Meaning, Parse, Parser, Peek, group_of, or_peek,
+    Cursor, Error, Group, Index, Item, Meaning, Parse, Parser, Peek, group_of, or_peek, pair,
 };
 
 /// What a clause catches: exceptions of a tag, or all; with a reference to the exception, or without.
@@ -146,8 +146,7 @@ impl<'a> Meaning for TagLabel<'a> {
 
 impl<'a> Parse<'a> for TagLabel<'a> {
     fn parse(parser: &mut Parser<'a>) -> Result<Self, Error> {
-        let tag = Index::parse(parser)?;
-        let label = Index::parse(parser)?;
+        let (tag, label) = pair(parser)?;
         Ok(TagLabel { tag, label })
     }
 }

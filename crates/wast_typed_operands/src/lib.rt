@@ -26,4 +26,4 @@ pub use cast::{
 };
 pub use catch::{TryTableCatch, TryTableCatchKind};
 pub use select::SelectTypes;
-pub use wast_signatures::{Cursor, Error, HeapType, Id, Index, Meaning, Parse, Parser, Span};
+pub use wast_signatures::{Cursor, Error, HeapType, Id, Index, Meaning, Parse, Parser, Span, pair};

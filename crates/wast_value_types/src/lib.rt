@@ -38,6 +38,6 @@ pub use table_type::{MemoryType, TableType, page_size};
 pub use val_type::ValType;
 pub use wast_words::{
     Cursor, Error, Group, Id, Index, Item, Keyword, KeywordName, LParen, Meaning, NameAnnotation,
-    Parse, Parser, Peek, RParen, Span, Word, Words, Written, find, group_of, list_of, optional,
-    or_peek,
+    Parse, Parser, Peek, Span, Word, Words, Written, closed, closed_or, find, group_of, list_of,
+    optional, or_peek, pair,
 };

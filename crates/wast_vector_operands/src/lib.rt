@@ -20,5 +20,5 @@ mod vector;
 pub use vector::{FloatLit, I8x16Shuffle, LaneArg, V128Const};
 pub use wast_parser::{
     Cursor, Error, Id, Index, Item, ItemRef, Keyword, KeywordName, Meaning, Parse, Parser, Peek,
-    Span, WordSet, list_of, magnitude,
+    Span, WordSet, list_of, magnitude, pair,
 };

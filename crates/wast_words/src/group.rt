@@ -11,7 +11,7 @@ ghost use Rattle.wast_words.specs.WordSyntax.{alone, optional};
 
 use std::marker::PhantomData;
 use wast_parser::{
-    Cursor, Error, Keyword, KeywordName, LParen, Meaning, Parse, Parser, Peek, RParen,
+    Cursor, Error, Keyword, KeywordName, LParen, Meaning, Parse, Parser, Peek, closed,
 };
 
 /// A word in parentheses, to be looked for: a peek tells where a group begins with the word, whatever follows in it.
@@ -63,8 +63,7 @@ pub fn group_of<'a, T: Parse<'a>>(parser: &mut Parser<'a>, word: &str) -> Result
     LParen::parse(parser)?;
     parser.word(word)?;
     let value = T::parse(parser)?;
-    RParen::parse(parser)?;
-    Ok(value)
+    closed(parser, value)
 }
 
 /// Takes a word where it stands; answers whether it did. Refused only where no token can be read here; the parser stays then.

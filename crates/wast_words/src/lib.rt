@@ -19,6 +19,6 @@ pub use group::{Group, group_of, optional};
 pub use look::or_peek;
 pub use wast_parser::{
     Cursor, Error, Id, Index, Item, Keyword, KeywordName, LParen, Meaning, NameAnnotation, Parse,
-    Parser, Peek, RParen, Span, list_of, required,
+    Parser, Peek, Span, closed, closed_or, list_of, pair, required,
 };
 pub use word::{Word, Words, Written, find};
