@@ -1,15 +1,15 @@
 //! Instructions, each by its word.
-ghost use Rattle.std.specs.Prelude.{◌≡◌, ℕ, IfOk};
+ghost use Rattle.std.specs.Prelude.{◌≡◌, ◌⊎◌, ℕ, Ok, Err, IfOk, IfErr};
 ghost use Rattle.wast_typed_operands.specs.Tokens.{Name};
 ghost use Rattle.wast_typed_operands.specs.Lawful.{Lawful};
 ghost use Rattle.wast_typed_operands.specs.State.{ahead, Keeps};
-ghost use Rattle.wast_typed_operands.specs.Reading.{Gives};
+ghost use Rattle.wast_typed_operands.specs.Reading.{Gives, out_of_memory};
 ghost use Rattle.wast_mnemonics.specs.Words.{word_operands, proposal_operands};
 ghost use Rattle.wast_mnemonics.specs.declared.word.Word.TheVariants as words;
 ghost use Rattle.wast_mnemonics.specs.declared.proposal.ProposalWord.TheVariants as proposal_words;
 ghost use Rattle.wast_core_instr.specs.InstructionTree as spec;
 ghost use Rattle.wast_core_instr.specs.InstructionSyntax.{instruction, operands};
-ghost use Rattle.wast_core_instr.specs.WordViews.{instruction_word, proposal_word};
+ghost use Rattle.wast_core_instr.specs.WordViews.{bulk_word, gc_word, instruction_word, proposal_word};
 ghost use Rattle.wast_core_instr.specs.InstructionViews.{instruction_operands, instruction_tree};
 ghost use Rattle.wast_core_instr.specs.InstructionViews as views;
 
@@ -23,12 +23,18 @@ use crate::gc::GcOp;
 use crate::instruction::Instruction;
 use crate::proposal::ProposalOp;
 use crate::vector_arg::VectorArgOp;
+use std::alloc::Global;
 use wast_mnemonics::{
     BlockWord, CastProposal, CastWord, CopyWord, IndexWord, IndicesProposal, IndicesWord, InitWord,
     MemoryLaneWord, MemoryWord, NameWord, ProposalWord, RefWord, ResumeProposal, Word,
 };
-use wast_operands::{LoadOrStoreLane, MemArg};
-use wast_typed_operands::{Error, Index, Meaning, Parse, Parser};
+use wast_operands::{
+    FloatLit, LoadOrStoreLane, MemArg, MemoryArg, MemoryCopy, Resume, ResumeThrow, ResumeThrowRef,
+    TableCopy,
+};
+use wast_typed_operands::{
+    Error, Index, Meaning, Parse, Parser, RefCastDescEq, SelectTypes, TryTable, pair,
+};
 
 impl<'a> Meaning for Instruction<'a> {
     ghost Tree = { spec.Instruction Name ℕ };
@@ -81,24 +87,24 @@ fn parse_seldom<'a>(parser: &mut Parser<'a>, word: Word) -> Result<Instruction<'
         Word::Plain(word) => Ok(plain(word)),
         Word::Name(word) => parse_label(parser, word),
         Word::Block(word) => parse_block(parser, word),
-        Word::TryTable => Ok(Instruction::TryTable(Parse::parse(parser)?)),
+        Word::TryTable => TryTable::parse(parser).map(Instruction::TryTable),
         Word::Index(word) => parse_index(parser, word),
         Word::Indices(word) => parse_indices(parser, word),
         Word::ArrayNewFixed => Ok(Instruction::Gc(GcOp::ArrayNewFixed(Box::parse(parser)?))),
-        Word::BrTable => Ok(Instruction::BrTable(Box::parse(parser)?)),
+        Word::BrTable => Box::parse(parser).map(Instruction::BrTable),
         Word::Indirect(word) => Ok(with_call(word, Box::parse(parser)?)),
         Word::OptionalIndex(word) => Ok(with_optional_index(word, Option::parse(parser)?)),
-        Word::Copy(word) => parse_copy(parser, word),
-        Word::Init(word) => parse_init(parser, word),
+        Word::Copy(word) => parse_copy(parser, word).map(Instruction::Bulk),
+        Word::Init(word) => parse_init(parser, word).map(Instruction::Bulk),
         Word::RefNull => Ok(Instruction::Gc(GcOp::RefNull(Box::parse(parser)?))),
-        Word::Ref(word) => parse_ref(parser, word),
-        Word::Cast(word) => parse_cast(parser, word),
+        Word::Ref(word) => parse_ref(parser, word).map(Instruction::Gc),
+        Word::Cast(word) => parse_cast(parser, word).map(Instruction::Gc),
         Word::I32Const => parse_i32_const(parser),
         Word::I64Const => parse_i64_const(parser),
-        Word::F32Const => Ok(Instruction::F32Const(Parse::parse(parser)?)),
-        Word::F64Const => Ok(Instruction::F64Const(Parse::parse(parser)?)),
+        Word::F32Const => FloatLit::parse(parser).map(Instruction::F32Const),
+        Word::F64Const => FloatLit::parse(parser).map(Instruction::F64Const),
         Word::V128Const => Ok(Instruction::VectorArg(VectorArgOp::V128Const(Box::parse(parser)?))),
-        Word::Select => Ok(Instruction::Select(Parse::parse(parser)?)),
+        Word::Select => SelectTypes::parse(parser).map(Instruction::Select),
         Word::Lane(word) => Ok(with_lane(word, Parse::parse(parser)?)),
         Word::I8x16Shuffle => Ok(Instruction::VectorArg(VectorArgOp::I8x16Shuffle(Parse::parse(
             parser,
@@ -182,52 +188,51 @@ fn parse_indices<'a>(parser: &mut Parser<'a>, word: IndicesWord) -> Result<Instr
     ensures same { IfOk result (λ i. instruction_word i ≡ words.Indices word) }
     ensures keeps { Keeps parser.old parser.new }
 {
-    let first = Index::parse(parser)?;
-    let second = Index::parse(parser)?;
+    let (first, second) = pair(parser)?;
     Ok(with_indices(parser.alloc(), word, first, second)?)
 }
 
-fn parse_copy<'a>(parser: &mut Parser<'a>, word: CopyWord) -> Result<Instruction<'a>, Error>
-    ensures read { Gives instruction_operands result parser.new ((operands (word_operands (words.Copy word))).reads (ahead parser.old)) }
-    ensures same { IfOk result (λ i. instruction_word i ≡ words.Copy word) }
+fn parse_copy<'a>(parser: &mut Parser<'a>, word: CopyWord) -> Result<BulkOp<'a>, Error>
+    ensures read { Gives views.bulk_operands result parser.new ((operands (word_operands (words.Copy word))).reads (ahead parser.old)) }
+    ensures same { IfOk result (λ op. bulk_word op ≡ words.Copy word) }
     ensures keeps { Keeps parser.old parser.new }
 {
     match word {
-        CopyWord::MemoryCopy => Ok(Instruction::Bulk(BulkOp::MemoryCopy(Parse::parse(parser)?))),
-        CopyWord::TableCopy => Ok(Instruction::Bulk(BulkOp::TableCopy(Parse::parse(parser)?))),
+        CopyWord::MemoryCopy => MemoryCopy::parse(parser).map(BulkOp::MemoryCopy),
+        CopyWord::TableCopy => TableCopy::parse(parser).map(BulkOp::TableCopy),
     }
 }
 
-fn parse_init<'a>(parser: &mut Parser<'a>, word: InitWord) -> Result<Instruction<'a>, Error>
-    ensures read { Gives instruction_operands result parser.new ((operands (word_operands (words.Init word))).reads (ahead parser.old)) }
-    ensures same { IfOk result (λ i. instruction_word i ≡ words.Init word) }
+fn parse_init<'a>(parser: &mut Parser<'a>, word: InitWord) -> Result<BulkOp<'a>, Error>
+    ensures read { Gives views.bulk_operands result parser.new ((operands (word_operands (words.Init word))).reads (ahead parser.old)) }
+    ensures same { IfOk result (λ op. bulk_word op ≡ words.Init word) }
     ensures keeps { Keeps parser.old parser.new }
 {
     match word {
-        InitWord::MemoryInit => Ok(Instruction::Bulk(BulkOp::MemoryInit(Box::parse(parser)?))),
-        InitWord::TableInit => Ok(Instruction::Bulk(BulkOp::TableInit(Box::parse(parser)?))),
+        InitWord::MemoryInit => Box::parse(parser).map(BulkOp::MemoryInit),
+        InitWord::TableInit => Box::parse(parser).map(BulkOp::TableInit),
     }
 }
 
-fn parse_ref<'a>(parser: &mut Parser<'a>, word: RefWord) -> Result<Instruction<'a>, Error>
-    ensures read { Gives instruction_operands result parser.new ((operands (word_operands (words.Ref word))).reads (ahead parser.old)) }
-    ensures same { IfOk result (λ i. instruction_word i ≡ words.Ref word) }
+fn parse_ref<'a>(parser: &mut Parser<'a>, word: RefWord) -> Result<GcOp<'a>, Error>
+    ensures read { Gives views.gc_operands result parser.new ((operands (word_operands (words.Ref word))).reads (ahead parser.old)) }
+    ensures same { IfOk result (λ op. gc_word op ≡ words.Ref word) }
     ensures keeps { Keeps parser.old parser.new }
 {
     match word {
-        RefWord::RefTest => Ok(Instruction::Gc(GcOp::RefTest(Box::parse(parser)?))),
-        RefWord::RefCast => Ok(Instruction::Gc(GcOp::RefCast(Box::parse(parser)?))),
+        RefWord::RefTest => Box::parse(parser).map(GcOp::RefTest),
+        RefWord::RefCast => Box::parse(parser).map(GcOp::RefCast),
     }
 }
 
-fn parse_cast<'a>(parser: &mut Parser<'a>, word: CastWord) -> Result<Instruction<'a>, Error>
-    ensures read { Gives instruction_operands result parser.new ((operands (word_operands (words.Cast word))).reads (ahead parser.old)) }
-    ensures same { IfOk result (λ i. instruction_word i ≡ words.Cast word) }
+fn parse_cast<'a>(parser: &mut Parser<'a>, word: CastWord) -> Result<GcOp<'a>, Error>
+    ensures read { Gives views.gc_operands result parser.new ((operands (word_operands (words.Cast word))).reads (ahead parser.old)) }
+    ensures same { IfOk result (λ op. gc_word op ≡ words.Cast word) }
     ensures keeps { Keeps parser.old parser.new }
 {
     match word {
-        CastWord::BrOnCast => Ok(Instruction::Gc(GcOp::BrOnCast(Box::parse(parser)?))),
-        CastWord::BrOnCastFail => Ok(Instruction::Gc(GcOp::BrOnCastFail(Box::parse(parser)?))),
+        CastWord::BrOnCast => Box::parse(parser).map(GcOp::BrOnCast),
+        CastWord::BrOnCastFail => Box::parse(parser).map(GcOp::BrOnCastFail),
     }
 }
 
@@ -253,8 +258,16 @@ fn parse_boxed_proposal<'a>(
     ensures same { IfOk result (λ i. instruction_word i ≡ words.Proposal word) }
     ensures keeps { Keeps parser.old parser.new }
 {
-    let op = parse_proposal(parser, word)?;
-    Ok(Instruction::Proposal(Box::new(parser.alloc(), op)?))
+    let alloc = parser.alloc();
+    in_box(alloc, parse_proposal(parser, word)).map(Instruction::Proposal)
+}
+
+/// What was read, in a box.
+fn in_box<T: Drop>(alloc: Global, answer: Result<T, Error>) -> Result<Box<T>, Error>
+    ensures boxed { IfOk result (λ b. answer ≡ Ok b.value) }
+    ensures refused { IfErr result (λ p. (p ≡ out_of_memory) ⊎ (answer ≡ Err p)) }
+{
+    Ok(Box::new(alloc, answer?)?)
 }
 
 fn parse_proposal<'a>(parser: &mut Parser<'a>, word: ProposalWord) -> Result<ProposalOp<'a>, Error>
@@ -266,11 +279,11 @@ fn parse_proposal<'a>(parser: &mut Parser<'a>, word: ProposalWord) -> Result<Pro
         ProposalWord::Plain(word) => Ok(plain_proposal(word)),
         ProposalWord::Index(word) => Ok(index_proposal(word, Index::parse(parser)?)),
         ProposalWord::Indices(word) => parse_proposal_indices(parser, word),
-        ProposalWord::MemoryDiscard => Ok(ProposalOp::MemoryDiscard(Parse::parse(parser)?)),
-        ProposalWord::RefCastDescEq => Ok(ProposalOp::RefCastDescEq(Parse::parse(parser)?)),
+        ProposalWord::MemoryDiscard => MemoryArg::parse(parser).map(ProposalOp::MemoryDiscard),
+        ProposalWord::RefCastDescEq => RefCastDescEq::parse(parser).map(ProposalOp::RefCastDescEq),
         ProposalWord::Cast(word) => parse_proposal_cast(parser, word),
         ProposalWord::Resume(word) => parse_resume(parser, word),
-        ProposalWord::ResumeThrow => Ok(ProposalOp::ResumeThrow(Parse::parse(parser)?)),
+        ProposalWord::ResumeThrow => ResumeThrow::parse(parser).map(ProposalOp::ResumeThrow),
         ProposalWord::OrderedIndex(word) => Ok(ordered_index(word, Parse::parse(parser)?)),
         ProposalWord::OrderedOptionalIndex(word) => Ok(ordered_optional_index(
             word,
@@ -288,8 +301,7 @@ fn parse_proposal_indices<'a>(
     ensures same { IfOk result (λ op. proposal_word op ≡ words.Proposal (proposal_words.Indices word)) }
     ensures keeps { Keeps parser.old parser.new }
 {
-    let first = Index::parse(parser)?;
-    let second = Index::parse(parser)?;
+    let (first, second) = pair(parser)?;
     Ok(indices_proposal(word, first, second))
 }
 
@@ -302,8 +314,8 @@ fn parse_proposal_cast<'a>(
     ensures keeps { Keeps parser.old parser.new }
 {
     match word {
-        CastProposal::BrOnCastDescEq => Ok(ProposalOp::BrOnCastDescEq(Box::parse(parser)?)),
-        CastProposal::BrOnCastDescEqFail => Ok(ProposalOp::BrOnCastDescEqFail(Box::parse(parser)?)),
+        CastProposal::BrOnCastDescEq => Box::parse(parser).map(ProposalOp::BrOnCastDescEq),
+        CastProposal::BrOnCastDescEqFail => Box::parse(parser).map(ProposalOp::BrOnCastDescEqFail),
     }
 }
 
@@ -313,7 +325,9 @@ fn parse_resume<'a>(parser: &mut Parser<'a>, word: ResumeProposal) -> Result<Pro
     ensures keeps { Keeps parser.old parser.new }
 {
     match word {
-        ResumeProposal::Resume => Ok(ProposalOp::Resume(Parse::parse(parser)?)),
-        ResumeProposal::ResumeThrowRef => Ok(ProposalOp::ResumeThrowRef(Parse::parse(parser)?)),
+        ResumeProposal::Resume => Resume::parse(parser).map(ProposalOp::Resume),
+        ResumeProposal::ResumeThrowRef => ResumeThrowRef::parse(parser).map(
+            ProposalOp::ResumeThrowRef,
+        ),
     }
 }
