@@ -32,8 +32,9 @@
 //! | `Laws` | the statements of the law functions |
 //!
 //! What is spelled is refused only for want of memory, by an error without a place. What others tell is told of the calls of a
-//! cursor; of a text that isn't read, which message and place they have is promised nowhere, but that [`required`] tells its message at
-//! the next token where none begins. Where there is no memory for the message of an error, the error is want of memory.
+//! cursor; of a text that isn't read, which message and place they have is promised nowhere, but that [`required`] tells its
+//! message at the next token where no value begins, and [`closed_or`] where no group ends. Where there is no memory for the
+//! message of an error, the error is want of memory.
 #![tactic(auto)]
 
 mod annotation;
