@@ -4,9 +4,9 @@ use Rattle.std.proofs.lemmas.Bool.{cases_Bool}
 use Rattle.std.proofs.lemmas.Option.{same_Some, cond_some}
 use Rattle.wast_grammar.specs.Tokens.{SignificantToken, Open, Close, Id, Word, Mark, Integer, Float, Text, Reserved, Broken, is_whole}
 use Rattle.wast_grammar.specs.Spelling as spelling
-use Rattle.wast_grammar.specs.Spelling.{◌>>=◌, that_open, that_close}
+use Rattle.wast_grammar.specs.Spelling.{Spells, ◌>>=◌, that_open, that_close}
 use Rattle.wast_grammar.specs.Look.{AnOpen, seen_as, the_end, the_close, first, look, under, Test, any_fits, at, any_end, apart, join, sub, unders, faults, ask}
-use Rattle.wast_grammar.specs.Grammar.{Reader, Syntax, one_of, next, seq, wide, seen, only, maybe_reads, maybe, many_reads, many, times_reads, times, either_reads, either, paren, fenced, word, mark, led, group, annotation}
+use Rattle.wast_grammar.specs.Grammar.{Reader, Syntax, one_of, next, seq, wide, respelled, seen, only, maybe_reads, maybe, many_reads, many, times_reads, times, either_reads, either, paren, fenced, word, mark, led, group, annotation}
 use Rattle.wast_grammar.proofs.Looks.{bind_ok, absurd_of, join_no, join_none, join_left, join_right, apart_no2, asked, answered, no_end, end_none, under_in, sub_law, within, within_self}
 pub use Rattle.wast_grammar.specs.Lawful.{Takes, Lawful, LawfulBut, Settles, Leads, Shrinks}
 use Rattle.wast_grammar.proofs.TokenLaws.{takes_as, takes_so, whole_parts, whole_group}
@@ -84,6 +84,16 @@ as_itself h lh = wide_laws h h.starts h.empty h.stops lh (within_self h.starts) 
 
 pub seq_laws : {N P A B : Type 0} (g : Syntax N P A) (h : Syntax N P B) → Lawful g → Lawful h → apart g.stops h.starts ≡ true → Lawful (seq g h)
 seq_laws g h lg lh d = next_laws g (λ _. h) h.starts h.empty h.stops lg (λ _. as_itself h lh) d
+
+-- the same, said in another way by which the same is spelled
+module _ {N P A : Type 0} (s : Spells N P A) (g : Syntax N P A) (to : (a : A) (ts : List (SignificantToken N P)) → s a ts → g.spells a ts) (from : (a : A) (ts : List (SignificantToken N P)) → g.spells a ts → s a ts) (lg : Lawful g) where
+  pub respelled_laws : Lawful (respelled s g)
+  respelled_laws = record {
+    sound = λ ts x e. let t = lg.sound ts x e in record { taken = t.taken; parts = t.parts; spelled = from x.0 t.taken t.spelled };
+    complete = λ a us rest q n. lg.complete a us rest (to a us q) n;
+    leads = λ a us rest q. lg.leads a us rest (to a us q);
+    whole = λ a us q. lg.whole a us (to a us q);
+  }
 
 -- seen as another value
 pub seen_laws : {N P A B : Type 0} (f : A → B) (g : Syntax N P A) → Lawful g → Lawful (seen f g)

@@ -111,6 +111,10 @@ seq g h = next g (λ _. h) h.starts h.empty h.stops
 abbrev pub wide : {N P A : Type 0} → List Test → Bool → List Test → Syntax N P A → Syntax N P A
 wide starts empty stops g = record g { starts = starts; empty = empty; stops = stops }
 
+-- the same, said in another way, by which the same is spelled: a reader that decides by what it sees, of a production that says what stands there
+abbrev pub respelled : {N P A : Type 0} → Spells N P A → Syntax N P A → Syntax N P A
+respelled s g = record g { spells = s }
+
 -- VALUES
 -- seen as another value
 abbrev pub map_reads : {N P A B : Type 0} → (A → B) → Reader N P A → Reader N P B

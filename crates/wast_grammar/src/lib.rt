@@ -41,6 +41,7 @@
 //! | one or none, any number, so many, one or the other | `maybe`, `many`, `times`, `either` |
 //! | `( .. )`, with the place where it closes, `(word ..)`, `(@name ..)` | `paren`, `fenced`, `group`, `annotation` |
 //! | another value | `seen` |
+//! | what a reader tells by what it sees, said as what stands there | `respelled` |
 //! | a part that may be written another way | `part` |
 //! | in itself, at any depth | `fix` |
 //! | up to an end, where what goes on with one may not begin the next | `row`, `next_but` |

@@ -1,17 +1,19 @@
 -- The laws of imports, and of what they and exports are of: each mirrors its production.
 use Rattle.std.proofs.Common.{ℕ, true, List, [], Option, Some, None, refl, codes}
 use Rattle.wast_signatures.specs.Look.{join, id_starts, string_starts}
+use Rattle.wast_signatures.specs.Spelling as spelling
 use Rattle.wast_signatures.specs.Lawful.{Lawful}
 use Rattle.wast_signatures.specs.Grammar.{Syntax, among, maybe, next, seq, wide}
 use Rattle.wast_signatures.specs.Productions.{name}
-use Rattle.wast_signatures.proofs.GrammarLaws.{among_laws, word_laws, nothing_laws, next_laws, seq_laws, seen_laws, maybe_laws, many_laws, either_laws, group_laws, paren_laws, bound_laws}
+use Rattle.wast_signatures.proofs.GrammarLaws.{among_laws, word_laws, nothing_laws, next_laws, seq_laws, seen_laws, respelled_laws, maybe_laws, many_laws, either_laws, group_laws, paren_laws, bound_laws}
 use Rattle.wast_signatures.proofs.IntegerLaws.{name_laws}
 use Rattle.wast_signatures.proofs.IdentifierLaws.{identifier_laws, maybe_name_laws}
 use Rattle.wast_value_types.proofs.ValueLaws.{table_type_laws, memory_type_laws, global_type_laws}
 use Rattle.wast_signatures.proofs.SignatureLaws.{type_use_laws}
 use Rattle.wast_exports.specs.Exports.{ExportKind, Func, Table, Memory, Global, Tag, export_word, export_kinds}
+use Rattle.wast_imports.proofs.Groups.{group_decided, decided_group}
 use Rattle.wast_imports.specs.ImportTree.{ExternType, Item}
-use Rattle.wast_imports.specs.ImportSyntax.{exact_starts, item_starts, member_starts, rest_starts, rest_stops, Head, head, no_head, exact_use, func_type, extern_type, extern_starts, extern_stops, item_body, item, bare_item, member, member_name, first_member, with_rest, import_group, import_items, imports_body, imports, export_type}
+use Rattle.wast_imports.specs.ImportSyntax.{exact_starts, item_starts, member_starts, rest_starts, rest_stops, Head, head, no_head, exact_use, func_type, extern_type, extern_starts, extern_stops, item_body, item, bare_item, member, member_name, first_member, with_rest, each_with_item, all_of_one_item, by_first_member, import_group, import_items, imports_body, imports, export_type}
 
 module _ {N P : Type 0} where
   pub head_laws : Lawful (head {N = N} {P = P})
@@ -83,8 +85,11 @@ module _ {N P : Type 0} where
   rest_laws (n, Some i) = bound_laws _ _ _ (seen_laws _ _ (many_laws member_starts _ member_laws refl refl refl refl refl)) refl refl
   rest_laws (n, None) = bound_laws _ _ _ (seen_laws _ _ (seq_laws _ _ (many_laws member_starts _ member_name_laws refl refl refl refl refl) bare_item_laws refl)) refl refl
 
+  by_first_member_laws : Lawful (by_first_member {N = N} {P = P})
+  by_first_member_laws = seen_laws _ _ (next_laws first_member with_rest rest_starts true rest_stops first_member_laws rest_laws refl)
+
   pub import_group_laws : Lawful (import_group {N = N} {P = P})
-  import_group_laws = seen_laws _ _ (next_laws first_member with_rest rest_starts true rest_stops first_member_laws rest_laws refl)
+  import_group_laws = respelled_laws (spelling.either each_with_item.spells all_of_one_item.spells) by_first_member group_decided decided_group by_first_member_laws
 
   -- IMPORTS
   pub import_items_laws : Lawful (import_items {N = N} {P = P})

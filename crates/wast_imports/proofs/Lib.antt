@@ -1,3 +1,4 @@
+pub mod Groups
 pub mod ImportLaws
 pub mod Members
 pub mod Samples

@@ -1,7 +1,8 @@
 -- The syntax of imports, and of what they and exports are of (WebAssembly 3.0, 6.4.13 and 6.6, imports).
 use Rattle.std.specs.Prelude.{ℕ, true, List, [], ◌∷◌, map, Option, Some, None, codes}
 use Rattle.wast_signatures.specs.Look.{Test, On, OneOf, AWord, this_group, join, faults, id_starts, string_starts}
-use Rattle.wast_signatures.specs.Grammar.{Syntax, among, word, nothing, next, seq, seen, maybe, many, either, group, paren}
+use Rattle.wast_signatures.specs.Spelling as spelling
+use Rattle.wast_signatures.specs.Grammar.{Syntax, among, word, nothing, next, seq, respelled, seen, maybe, many, either, group, paren}
 use Rattle.wast_signatures.specs.Productions.{name}
 use Rattle.wast_signatures.specs.Identifiers.{Named, identifier}
 use Rattle.wast_value_types.specs.ValueSyntax.{table_type, memory_type, global_type}
@@ -74,13 +75,23 @@ module _ {N P : Type 0} where
   abbrev pub bare_item : Syntax N P (Item N P)
   bare_item = paren (item_body no_head)
 
-  -- GROUPS: (item name item)+; (item name)+ bare_item. The first member tells which it is.
+  -- GROUPS: (item name item)+, or (item name)+ bare_item
   abbrev pub member : Syntax N P (List ℕ × Item N P)
   member = group (codes "item") (seq name item)
 
   abbrev pub member_name : Syntax N P (List ℕ)
   member_name = group (codes "item") name
 
+  abbrev pub some_members : {A : Type 0} → Syntax N P A → Syntax N P (List A)
+  some_members g = seen (λ x. x.0 ∷ x.1) (seq g (many member_starts g))
+
+  abbrev pub each_with_item : Syntax N P (ImportItems N P)
+  each_with_item = seen Group1 (some_members member)
+
+  abbrev pub all_of_one_item : Syntax N P (ImportItems N P)
+  all_of_one_item = seen (λ g. Group2 g.0 g.1) (seq (some_members member_name) bare_item)
+
+  -- as a reader decides: the first member tells which it is
   abbrev pub first_member : Syntax N P (List ℕ × Option (Item N P))
   first_member = group (codes "item") (seq name (maybe item_starts item))
 
@@ -88,8 +99,11 @@ module _ {N P : Type 0} where
   with_rest (n, Some i) = seen (λ more. Group1 ((n, i) ∷ more)) (many member_starts member)
   with_rest (n, None) = seen (λ more. Group2 (n ∷ more.0) more.1) (seq (many member_starts member_name) bare_item)
 
+  abbrev pub by_first_member : Syntax N P (ImportItems N P)
+  by_first_member = seen (λ g. g.1) (next first_member with_rest rest_starts true rest_stops)
+
   abbrev pub import_group : Syntax N P (ImportItems N P)
-  import_group = seen (λ g. g.1) (next first_member with_rest rest_starts true rest_stops)
+  import_group = respelled (spelling.either each_with_item.spells all_of_one_item.spells) by_first_member
 
   -- IMPORTS (6.6, imports): (import name name item), (import name group)
   abbrev pub import_items : Syntax N P (ImportItems N P)

@@ -1,5 +1,6 @@
 pub mod Digits
 pub mod Labels
+pub mod Lanes
 pub mod OperandExamples
 pub mod OperandLaws
 pub mod Said

@@ -7,14 +7,15 @@ use Rattle.wast_vector_operands.specs.Grammar.{Syntax, led, wide, seq}
 use Rattle.wast_vector_operands.specs.Identifiers.{ByName}
 use Rattle.wast_vector_operands.specs.Integers.{unsigned}
 use Rattle.wast_vector_operands.proofs.Looks.{sub_law}
-use Rattle.wast_vector_operands.proofs.GrammarLaws.{Lawful, Leads, led_laws, word_laws, among_laws, begun_laws, nothing_laws, seen_laws, only_laws, seq_laws, next_laws, maybe_laws, many_laws, either_laws, group_laws, bound_laws, wide_laws}
+use Rattle.wast_vector_operands.proofs.GrammarLaws.{Lawful, Leads, led_laws, word_laws, among_laws, begun_laws, nothing_laws, seen_laws, respelled_laws, only_laws, seq_laws, next_laws, maybe_laws, many_laws, either_laws, group_laws, bound_laws, wide_laws}
 use Rattle.wast_vector_operands.proofs.LeadLaws.{seen_leads, among_leads, group_leads}
 use Rattle.wast_vector_operands.proofs.IdentifierLaws.{identifier_laws, index_laws, item_ref_laws}
 use Rattle.wast_vector_operands.proofs.IntegerLaws.{number_laws, u32_laws}
 use Rattle.wast_operands.specs.OperandTree.{Modifiers, OnSwitch}
 use Rattle.wast_vector_operands.specs.VectorSyntax.{lane}
 use Rattle.wast_vector_operands.proofs.VectorLaws.{lane_laws}
-use Rattle.wast_operands.specs.OperandSyntax.{u64_number, alignment, ordering_word, orderings, ordering_starts, offset_starts, align_starts, handle_starts, lane_starts, is_bare, two_indices, index_count, label_table, optional_index, optional_indices, one_or_two, ordering, optional_ordering, ordered, array_target, target, one_or_two_orderings, offset, align, modifiers, mem_arg, behind_integer, integer_first, behind_modifiers, untargeted_lane, mem_arg_lane, handled, handle_body, handle, handlers, resume, resume_throw}
+use Rattle.wast_operands.proofs.Lanes.{lane_in_turn, turn_decided}
+use Rattle.wast_operands.specs.OperandSyntax.{u64_number, alignment, ordering_word, orderings, ordering_starts, offset_starts, align_starts, handle_starts, lane_starts, is_bare, two_indices, index_count, label_table, optional_index, optional_indices, one_or_two, ordering, optional_ordering, ordered, array_target, target, one_or_two_orderings, offset, align, modifiers, mem_arg, behind_integer, integer_first, behind_modifiers, untargeted_lane, by_target, mem_arg_lane, handled, handle_body, handle, handlers, resume, resume_throw}
 
 module _ {N P : Type 0} where
   pub two_indices_laws : Lawful (two_indices {N = N} {P = P})
@@ -84,10 +85,13 @@ module _ {N P : Type 0} where
   untargeted_laws : (natural : ℕ) → Lawful (untargeted_lane {N = N} {P = P} natural)
   untargeted_laws natural = seen_laws _ _ (next_laws modifiers (λ m. behind_modifiers natural m (is_bare m)) integer_starts false (join (faults lane_starts) lane_starts) modifiers_laws (λ m. behind_modifiers_laws natural m (is_bare m)) refl)
 
-  pub mem_arg_lane_laws : (natural : ℕ) → Lawful (mem_arg_lane {N = N} {P = P} natural)
-  mem_arg_lane_laws natural =
+  by_target_laws : (natural : ℕ) → Lawful (by_target {N = N} {P = P} natural)
+  by_target_laws natural =
       either_laws id_starts _ _ (seen_laws _ _ (seq_laws _ _ (seen_laws _ _ identifier_laws) modified_laws refl))
       (either_laws type_starts _ _ (seen_laws _ _ (seq_laws _ _ array_target_laws modified_laws refl)) (untargeted_laws natural) refl refl refl refl) refl refl refl refl
+
+  pub mem_arg_lane_laws : (natural : ℕ) → Lawful (mem_arg_lane {N = N} {P = P} natural)
+  mem_arg_lane_laws natural = respelled_laws (seq (mem_arg natural) lane).spells (by_target natural) (turn_decided natural) (lane_in_turn natural) (by_target_laws natural)
 
   -- CONTINUATIONS
   pub handled_laws : Lawful (handled {N = N} {P = P})

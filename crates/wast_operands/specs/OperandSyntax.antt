@@ -5,7 +5,7 @@ use Rattle.wast_vector_operands.specs.Numbers.{is_base}
 use Rattle.wast_vector_operands.specs.Tokens.{number, base_of}
 use Rattle.wast_vector_operands.specs.Spelling.{◌>>=◌, after}
 use Rattle.wast_vector_operands.specs.Look.{Test, On, OneOf, Begun, AWord, this_group, join, faults, id_starts, index_starts, integer_starts, type_starts}
-use Rattle.wast_vector_operands.specs.Grammar.{Syntax, among, begun, word, nothing, next, seq, seen, only, maybe, many, either, group}
+use Rattle.wast_vector_operands.specs.Grammar.{Syntax, among, begun, word, nothing, next, seq, respelled, seen, only, maybe, many, either, group}
 use Rattle.wast_vector_operands.specs.Integers.{number_in, unsigned, u32}
 use Rattle.wast_vector_operands.specs.Identifiers.{Reference, ByNumber, ByName, identifier, index, item_ref}
 use Rattle.wast_vector_operands.specs.VectorSyntax.{lane}
@@ -143,7 +143,7 @@ module _ {N P : Type 0} where
   abbrev pub mem_arg : (natural : ℕ) → Syntax N P (MemArg N P)
   mem_arg natural = seen (λ x. as_mem_arg natural x.0 x.1) (seq target modifiers)
 
-  -- A MEMORY ARGUMENT AND A LANE. Of an integer in front the rest says whether it is the memory or the lane.
+  -- A MEMORY ARGUMENT AND A LANE, as a reader decides: of an integer in front the rest says whether it is the memory or the lane
   -- modifiers and a lane, behind the target where there is one
   abbrev pub modified_lane : (natural : ℕ) → Option (MemArgTarget N P) → Syntax N P (MemArg N P × ℕ)
   modified_lane natural t = seen (λ x. (as_mem_arg natural t x.0, x.1)) (seq modifiers lane)
@@ -168,10 +168,14 @@ module _ {N P : Type 0} where
   untargeted_lane natural = seen (λ x. x.1) (next modifiers (λ m. behind_modifiers natural m (is_bare m)) integer_starts false (join (faults lane_starts) lane_starts))
 
   -- by an identifier, by (type index), or by an integer or nothing
-  abbrev pub mem_arg_lane : (natural : ℕ) → Syntax N P (MemArg N P × ℕ)
-  mem_arg_lane natural =
+  abbrev pub by_target : (natural : ℕ) → Syntax N P (MemArg N P × ℕ)
+  by_target natural =
       either id_starts (targeted_lane natural (seen (λ i. Memory (ByName i)) identifier))
       (either type_starts (targeted_lane natural array_target) (untargeted_lane natural))
+
+  -- a memory argument and a lane
+  abbrev pub mem_arg_lane : (natural : ℕ) → Syntax N P (MemArg N P × ℕ)
+  mem_arg_lane natural = respelled (seq (mem_arg natural) lane).spells (by_target natural)
 
   -- CONTINUATIONS
   -- (on index index), (on index switch)

@@ -8,6 +8,7 @@ pub use Rattle.wast_parser.specs.Grammar
 pub use Rattle.wast_parser.specs.Identifiers
 pub use Rattle.wast_parser.specs.Integers
 pub use Rattle.wast_parser.specs.Lawful
+pub use Rattle.wast_parser.specs.Literals
 pub use Rattle.wast_parser.specs.Look
 pub use Rattle.wast_parser.specs.Reading
 pub use Rattle.wast_parser.specs.Spelling
