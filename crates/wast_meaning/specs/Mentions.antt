@@ -12,6 +12,7 @@ use Rattle.wast_field_syntax.specs.OperandTree.{MemArgTarget, MemArg, Handle, On
 use Rattle.wast_field_syntax.specs.OperandTree as operand
 use Rattle.wast_field_syntax.specs.TypedTree.{Catch, CatchTag, CatchTagRef, CatchAll, CatchAllRef}
 use Rattle.wast_mnemonics.specs.Heads.{Head, Listed, Unlisted}
+pub use Rattle.wast_mnemonics.specs.Words.{first_space, second_space}
 use Rattle.wast_field_syntax.specs.InstructionTree.{Operands, Instruction}
 use Rattle.wast_field_syntax.specs.InstructionTree as instr
 use Rattle.wast_imports.specs.ImportTree.{ExternType, OfFunc, OfExactFunc, OfTable, OfMemory, OfGlobal, OfTag, ImportItems, Single, Group1, Group2}
@@ -48,22 +49,6 @@ syntax_among w (u ∷ us) = elim (same_text w u.mnemonic) [ true ↦ listed_synt
 abbrev pub syntax_of : Head → OperandSyntax
 syntax_of (Listed e) = e.operands
 syntax_of (Unlisted mnemonic) = syntax_among mnemonic uncovered
-
--- what its indices name
-abbrev pub first_space : OperandSyntax → Space
-first_space (syntax.Index s) = s
-first_space (syntax.Indices s t) = s
-first_space (syntax.IndexCount s) = s
-first_space (syntax.OptionalIndex s) = s
-first_space (syntax.Copy s) = s
-first_space (syntax.Init s t) = s
-first_space _ = Labels
-
-abbrev pub second_space : OperandSyntax → Space
-second_space (syntax.Indices s t) = t
-second_space (syntax.Copy s) = s
-second_space (syntax.Init s t) = t
-second_space _ = Labels
 
 module _ {N P : Type 0} where
   abbrev pub refers_if : Space → Option (Reference N P) → List (Mention N P)

@@ -25,16 +25,18 @@ unfoldable pub syntax_at : List ℕ → OperandSyntax
 syntax_at w = syntax_in (find_by (λ t. t.mnemonic) w text_table)
 
 -- what its first index names, and its second; the natural alignment in bytes
-abbrev first_space : OperandSyntax → Space
+abbrev pub first_space : OperandSyntax → Space
 first_space (syntax.Index s) = s
 first_space (syntax.Indices s t) = s
+first_space (syntax.IndexCount s) = s
 first_space (syntax.OptionalIndex s) = s
 first_space (syntax.Copy s) = s
 first_space (syntax.Init s t) = s
 first_space _ = Labels
 
-abbrev second_space : OperandSyntax → Space
+abbrev pub second_space : OperandSyntax → Space
 second_space (syntax.Indices s t) = t
+second_space (syntax.Copy s) = s
 second_space (syntax.Init s t) = t
 second_space _ = Labels
 
