@@ -115,6 +115,7 @@ impl<'a> Parser<'a> {
     pub(crate) fn close(&mut self) -> Result<Span, Error>
         ensures read { Gives (λ s. s) result self.new (one_of that_close (ahead self.old)) }
         ensures keeps { Keeps self.old self.new }
+        ensures refused { OnErr result (self.new ≡ self.old) }
         ensures exact { OnErr result (one_of that_close (ahead self.old) ≡ None) }
     {
         match self.next()? {
