@@ -13,19 +13,19 @@ pub enum LexError {
     InvalidStringEscape,
     #[error("invalid hexadecimal digit")]
     InvalidHexDigit,
-    /// Never given: no text has this fault.
+    /// Never given: no text has this fault. No contract says so: only rows show it.
     #[error("invalid decimal digit")]
     InvalidDigit,
     #[error("another character was expected")]
     Expected,
     #[error("unexpected end of the text")]
     UnexpectedEof,
-    /// Never given: no text has this fault.
+    /// Never given: no text has this fault. No contract says so: only rows show it.
     #[error("number is too big to parse")]
     NumberTooBig,
     #[error("invalid unicode scalar value")]
     InvalidUnicodeValue,
-    /// Never given: no text has this fault.
+    /// Never given: no text has this fault. No contract says so: only rows show it.
     #[error("lone underscore in number")]
     LoneUnderscore,
     #[error("likely-confusing unicode character")]

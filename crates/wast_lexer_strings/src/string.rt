@@ -13,6 +13,7 @@ use std::alloc::{AllocError, Global};
 /// Where a string ends whose quote stands before the place (6.3.3): the byte offset behind the quote that closes it.
 ///
 /// Refused for the first of its elements that is none, and as [`LexError::UnexpectedEof`] where the text ends before it does.
+/// Which error it is, no contract says: only rows show it.
 #[inline(always)]
 pub fn string_end(text: &[u8], from: usize) -> Result<usize, LexError>
     requires { from ≤ length text.now }

@@ -115,8 +115,7 @@ impl<'a> Id<'a> {
         self.span
     }
 
-    /// The same identifier at the same place. Fails only for want of memory, of which one needs none that was made, or whose name is
-    /// borrowed.
+    /// The same identifier at the same place. Fails only for want of memory, of which one that was made needs none.
     pub fn clone(&self, alloc: Global) -> Result<Self, AllocError>
         ensures same { IfOk result (λ copy. copy ≡ self.now) }
         ensures made { (self.now.generation ≡ 0 → ⊥) → IsOk result }

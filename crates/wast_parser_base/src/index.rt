@@ -59,7 +59,7 @@ pub struct ItemRef<'a, K> {
     pub idx: Index<'a>,
 }
 
-/// The name that an annotation `(@name "..")` gives (6.4.1). It is read inside of the parentheses; `Option<NameAnnotation>` is
+/// The name that an annotation `(@name "..")` gives (7.6.1). It is read inside of the parentheses; `Option<NameAnnotation>` is
 /// read with them, and none where no annotation `name` is registered.
 #[derive(Drop)]
 pub struct NameAnnotation<'a> {

@@ -64,7 +64,8 @@ impl<'b, 'a> Lookahead1<'b, 'a> {
         self.parser
     }
 
-    /// An error where the next token stands, which names what was looked for, or want of memory for it.
+    /// An error where the next token stands, which names what was looked for, or want of memory for it. What its text is, no
+    /// contract says: only rows show it.
     pub fn error(self) -> Error
         ensures { (text : List ℕ) × SaysAt text (place_ahead self.entry) result }
     {

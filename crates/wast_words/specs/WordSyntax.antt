@@ -1,4 +1,4 @@
--- Values that are written as one keyword, and words that may stand (WebAssembly 3.0, 6.1.2, 6.3.1).
+-- Values that are written as one keyword, and words that may stand (WebAssembly 3.0, 6.2.2).
 use Rattle.std.specs.Prelude.{ℕ, List, [], ◌∷◌, map, false, Bool, is_some}
 use Rattle.wast_parser.specs.Look.{Test, On, OneOf, AWord, this_word}
 use Rattle.wast_parser.specs.Grammar.{Syntax, among, word, seen, maybe, paren}

@@ -1,5 +1,5 @@
-//! Values that are written as one keyword, and words before others (WebAssembly Core Specification 3.0, 6.1.2 and 6.3.1). A part
-//! of the crate `wast_value_types`.
+//! Values that are written as one keyword, and words before others (WebAssembly Core Specification 3.0, 6.2.2). A part of the
+//! crate `wast_value_types`.
 //!
 //! [`Words`] are values that are one keyword each, and [`Word`] reads one; [`optional`] reads a word where it stands, [`group_of`]
 //! a value behind a word in parentheses; [`Group`] and [`or_peek`] look ahead. What reading them needs of the crate `wast_parser` is handed on.
