@@ -89,8 +89,7 @@ impl<'a, T> Items<'a, T> {
     }
 }
 
-/// The same items: borrowed from the same place, or in a vector of their own with the allocator of these. Fails only where no
-/// memory is found.
+/// The same items. Fails only where no memory is found.
 impl<'a, T: Copy> Clone for Items<'a, T> {
     ghost is_clone = { λ items copy. copy ≡ items };
 

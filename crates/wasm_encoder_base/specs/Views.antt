@@ -92,7 +92,7 @@ composite_fits (Func f) = func_fits f
 composite_fits (Array a) = Unit {0}
 composite_fits (Struct s) = struct_fits s
 
--- the sections in their order (5.5.2)
+-- the numbers of the sections (5.5.2)
 abbrev pub section_number : SectionId → ℕ
 section_number sections.Custom = 0
 section_number sections.TypeItem = 1

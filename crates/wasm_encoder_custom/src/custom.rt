@@ -19,8 +19,7 @@ pub struct CustomSection<'a> {
 }
 
 impl<'a> CustomSection<'a> {
-    /// The same section: what is borrowed is borrowed from the same place, what is owned is copied. Fails only where no memory is
-    /// found.
+    /// The same section. Fails only where no memory is found.
     pub fn clone(&self) -> Result<Self, AllocError>
         ensures name { IfOk result (λ section. cow_str_bytes section.name ≡ cow_str_bytes self.now.name) }
         ensures bytes { IfOk result (λ section. section.bytes ≡ self.now.bytes) }

@@ -30,7 +30,7 @@ impl CopyItem for ImportCompact<'_> {
     }
 }
 
-/// The same items: borrowed from the same place, or in a vector of their own.
+/// The same items. Fails only where no memory is found.
 pub fn copied_items<'a, T: CopyItem + Drop>(
     items: &Items<'a, T>,
 ) -> Result<Items<'a, T>, AllocError>

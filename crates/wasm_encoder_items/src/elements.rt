@@ -37,7 +37,7 @@ pub enum Elements<'a> {
 }
 
 impl<'a> Elements<'a> {
-    /// The same elements: borrowed from the same place, or in a vector of their own. Fails only where no memory is found.
+    /// The same elements. Fails only where no memory is found.
     pub fn clone(&self) -> Result<Self, AllocError>
         ensures { IfOk result (λ elements. elements ≡ self.now) }
     {
@@ -58,8 +58,7 @@ pub struct ElementSegment<'a> {
 }
 
 impl<'a> ElementSegment<'a> {
-    /// The same segment, whose elements are borrowed from the same place, or in a vector of their own. Fails only where no memory
-    /// is found.
+    /// The same segment. Fails only where no memory is found.
     pub fn clone(&self) -> Result<Self, AllocError>
         ensures { IfOk result (λ segment. segment ≡ self.now) }
     {

@@ -73,7 +73,7 @@ pub enum Imports<'a> {
 }
 
 impl<'a> Imports<'a> {
-    /// The same entry, whose list is borrowed from the same place, or in a vector of its own. Fails only where no memory is found.
+    /// The same entry. Fails only where no memory is found.
     pub fn clone(&self) -> Result<Self, AllocError>
         ensures { IfOk result (λ imports. imports ≡ self.now) }
     {

@@ -12,7 +12,7 @@ use Rattle.wasm_layout.specs.IsModule.{IsU32, IsModule}
 abbrev pub PiecesFit : List Piece → Type 0
 PiecesFit ps = AllByRecursion (λ p. IsU32 (length (contents p))) ps
 
--- so is the count of locals of one type side by side, which takes no more bytes where it is larger
+-- so is the count of locals of one type side by side, which the sizes don't bound
 abbrev pub RunsFit : Function → Type 0
 RunsFit f = AllByRecursion (λ r. IsU32 r.count) (joined f.body.locals)
 

@@ -17,11 +17,9 @@ use wasm_encoder_base::EncodeError;
 use wast_module_fields::ModuleField;
 use wast_parser::{Id, NameAnnotation};
 
-/// The binary of the module of resolved fields. Refused as too large only where a count or a length of it is past 4294967295, and else only for
-/// want of memory.
-///
-/// Fields with more than 2147483647 items, parameters, locals, fields of structures and instructions in all, where a table or a memory counts
-/// twice, are refused as for want of memory. No text has so many.
+/// The binary of the module of resolved fields. Refused as too large only where a count or a length of it is past 4294967295, and else as for
+/// want of memory: so may fields be with more than 2147483647 items, parameters, locals, fields of structures and instructions in all, where a
+/// table or a memory counts twice. No text has so many.
 pub fn encode_fields<'n, 'a>(
     alloc: Global,
     id: &'n Option<Id<'a>>,

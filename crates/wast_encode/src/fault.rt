@@ -17,7 +17,7 @@ pub enum EncodeFault {
     /// A count or length of the binary is past 4294967295.
     #[error("a count or length is past 4294967295")]
     TooLarge,
-    /// A growth found no memory, or there is too much to be numbered by 32 bits.
+    /// A growth found no memory, or the module has more than is counted (see `encode_module`).
     #[error("out of memory")]
     Memory,
 }

@@ -117,8 +117,7 @@ impl FieldItems for ImportItems {
     }
 }
 
-/// The section of the types of functions (6.6, functions). Refused for want of memory, and as too large where their count, or a count or length in
-/// them, is past 4294967295.
+/// The section of the types of functions (6.6, functions). Refused for want of memory, and as too large where their count is past 4294967295.
 pub fn functions(alloc: Global, fields: &[ModuleField<'_>]) -> Result<FunctionSection, EncodeError>
     requires { All (λ f. FieldReady (field_tree f)) fields.now }
     ensures { Holds (λ f. uleb f.type_index) NoCounts TypeSound (flat_map functions_of (flat_map defined_in (map field_tree fields.now))) result }
@@ -201,8 +200,7 @@ impl FieldItems for TableItems {
     }
 }
 
-/// The section of memories (6.6, memories). Refused for want of memory, and as too large where their count, or a count or length in them, is past
-/// 4294967295.
+/// The section of memories (6.6, memories). Refused for want of memory, and as too large where their count is past 4294967295.
 pub fn memories(alloc: Global, fields: &[ModuleField<'_>]) -> Result<MemorySection, EncodeError>
     requires { All (λ f. FieldReady (field_tree f)) fields.now }
     ensures { Holds limits_bytes NoCounts IsLimits (flat_map memories_of (flat_map defined_in (map field_tree fields.now))) result }
@@ -243,8 +241,7 @@ impl FieldItems for MemoryItems {
     }
 }
 
-/// The section of tags (6.6, tags). Refused for want of memory, and as too large where their count, or a count or length in them, is past
-/// 4294967295.
+/// The section of tags (6.6, tags). Refused for want of memory, and as too large where their count is past 4294967295.
 pub fn tags(alloc: Global, fields: &[ModuleField<'_>]) -> Result<TagSection, EncodeError>
     requires { All (λ f. FieldReady (field_tree f)) fields.now }
     ensures { Holds tag_bytes NoCounts IsU32 (flat_map tags_of (flat_map defined_in (map field_tree fields.now))) result }

@@ -1,4 +1,5 @@
-//! Laws of whole texts and of their binaries: functions without parameters whose contracts are the laws. They do nothing.
+//! Laws of whole texts and of their binaries: functions without parameters whose contracts are the laws. They do nothing; `folding`
+//! calls `every_word`, a law of the text's table.
 
 ghost use Rattle.wat_laws.specs.FlatExamples.{FlatExamples};
 ghost use Rattle.wat_laws.specs.HintExamples.{HintExample};
