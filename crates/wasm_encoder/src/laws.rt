@@ -9,4 +9,4 @@ pub use wasm_encoder_custom::laws::{
     one_core_dump, one_custom, one_field, one_hint, one_name_subsection, symbol_flags,
 };
 pub use wasm_encoder_items::laws::{item_examples, one_entity, one_item, one_written_item};
-pub use wasm_encoder_sections::laws::{one_section, raw_body};
+pub use wasm_encoder_sections::laws::one_section;

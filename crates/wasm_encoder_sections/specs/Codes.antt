@@ -5,7 +5,3 @@ use Rattle.wasm_encoder_base.specs.Bytes.{sized}
 -- what a body adds to the section
 abbrev pub function_item : List ℕ → List ℕ
 function_item body = sized body
-
--- what the bytes of a body add to it
-abbrev pub raw_item : List ℕ → List ℕ
-raw_item bytes = sized bytes

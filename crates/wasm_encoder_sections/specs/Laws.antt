@@ -1,12 +1,10 @@
--- The laws that the crate's law functions prove.
-use Rattle.std.specs.Prelude.{ℕ, ◌≡◌, List}
+-- The law that the crate's law function proves.
+use Rattle.std.specs.Prelude.{List}
 use Rattle.std.specs.List.{AllByRecursion}
 use Rattle.wasm_encoder_base.specs.Instr.{Instr, expr_bytes}
-use Rattle.wasm_encoder_base.specs.Lists.{Listed, with_item}
 use Rattle.wasm_encoder_base.specs.Unique.{Unique, Any}
 use Rattle.wasm_encoder_code.specs.Laws.{IsExpression}
 use Rattle.wasm_encoder_items.specs.Segments.{EachOfTable, EachOfGlobal, EachOfElements, EachOfData}
-use Rattle.wasm_encoder_sections.specs.Codes.{function_item, raw_item}
 use Rattle.wasm_encoder_sections.specs.Sections.{type_section, import_section, function_section, table_section, memory_section, tag_section, global_section, export_section, start_section, element_section, data_count_section, code_section, data_section}
 
 -- A section tells what it holds apart, whatever follows. Each expression is instructions that close the blocks that they open
@@ -25,7 +23,3 @@ pub record IsToldApart : Type 0 where
   pub data_count : Unique Any data_count_section
   pub codes : Unique (AllByRecursion Any) code_section
   pub segments : Unique (AllByRecursion (EachOfData {E = List Instr} IsExpression)) (data_section expr_bytes)
-
--- A body's bytes add to a code section what the body adds.
-abbrev pub RawBodyAdds : Type 0
-RawBodyAdds = (section : Listed) (body : List ℕ) → with_item section (raw_item body) ≡ with_item section (function_item body)

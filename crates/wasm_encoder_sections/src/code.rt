@@ -4,7 +4,7 @@ ghost use Rattle.std.specs.Prelude.{◌≡◌, ◌<◌, ◌^◌, length, nat_eq,
 ghost use Rattle.std.specs.Borrow.{sem};
 ghost use Rattle.wasm_encoder_base.specs.Adds.{Adds, KeptIfRefused};
 ghost use Rattle.wasm_encoder_base.specs.Lists.{no_items, with_item, list_bytes, list_section, HasRoom};
-ghost use Rattle.wasm_encoder_sections.specs.Codes.{function_item, raw_item};
+ghost use Rattle.wasm_encoder_sections.specs.Codes.{function_item};
 ghost use Rattle.wasm_encoder_sections.specs.contracts.code.CodeSection.{the_row};
 
 use std::alloc::{AllocError, Global};
@@ -68,10 +68,11 @@ impl CodeSection {
         Ok(Added { target: self })
     }
 
-    /// Appends a body that is encoded already, without its size, which is written before it.
+    /// Appends a body that is encoded already, without its size, which is written before it: what `function` appends for a function with
+    /// these bytes, as `into_raw_body` gives them.
     pub fn raw(&mut self, bytes: &[u8]) -> Result<Added<'_, Self>, EncodeError>
         ensures* refused { sem 𝓛 (KeptIfRefused the_row self.entry result) }
-        ensures adds { Adds self.entry (with_item self.old (raw_item bytes.now)) (HasRoom self.old × (length bytes.now < 2 ^ 32)) result }
+        ensures adds { Adds self.entry (with_item self.old (function_item bytes.now)) (HasRoom self.old × (length bytes.now < 2 ^ 32)) result }
     {
         self.bodies.append(&Part(RawBytes(bytes)))?;
         Ok(Added { target: self })
