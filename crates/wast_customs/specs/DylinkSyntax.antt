@@ -37,10 +37,10 @@ flag_bit Exported = 32
 flag_bit ExplicitName = 64
 flag_bit NoStrip = 128
 
--- these bits and those
-abbrev pub with_flags : ℕ → List ℕ → ℕ
-with_flags bits [] = bits
-with_flags bits (f ∷ fs) = with_flags (bit_or bits f) fs
+-- flags in one number
+abbrev pub all_flags : List ℕ → ℕ
+all_flags [] = 0
+all_flags (f ∷ fs) = bit_or f (all_flags fs)
 
 -- KINDS of groups
 pub data GroupKind : Type 0 where
@@ -86,7 +86,7 @@ module _ {N P : Type 0} where
   flag = either integer_starts u32 (seen (λ f. flag_bit f.0) (among flag_word symbol_flags []))
 
   abbrev pub flags : Syntax N P ℕ
-  flags = seen (with_flags 0) (many flag_starts flag)
+  flags = seen all_flags (many flag_starts flag)
 
   -- (memory size align), (table size align)
   abbrev pub extent_body : List ℕ → Syntax N P (ℕ × ℕ)

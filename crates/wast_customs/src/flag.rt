@@ -3,7 +3,7 @@ ghost use Rattle.std.specs.Prelude.{◌≡◌, ℕ, map, refl, false};
 ghost use Rattle.wast_parser.specs.State.{ahead, Keeps};
 ghost use Rattle.wast_parser.specs.Reading.{Gives};
 ghost use Rattle.wast_customs.specs.DylinkSyntax as words;
-ghost use Rattle.wast_customs.specs.DylinkSyntax.{flag_word, flag_bit, symbol_flags, with_flags, flag, flags};
+ghost use Rattle.wast_customs.specs.DylinkSyntax.{flag_word, flag_bit, symbol_flags, all_flags, flag, flags};
 ghost use Rattle.wast_customs.specs.CustomViews.{flag_view};
 
 use wast_parser::{
@@ -144,7 +144,7 @@ pub(crate) fn parse_flags(parser: &mut Parser<'_>) -> Result<u32, Error>
 }
 
 fn all_bits(flags: &[Flag]) -> u32
-    ensures { result ≡ with_flags 0 (map (λ f. f.bits) flags.now) }
+    ensures { result ≡ all_flags (map (λ f. f.bits) flags.now) }
 {
     let mut bits = 0;
     for flag in flags {
