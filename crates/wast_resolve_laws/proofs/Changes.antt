@@ -19,6 +19,9 @@ use Rattle.wast_meaning.specs.Mentions.{Mention, Refers, Member, Uses, UsesInBlo
 use Rattle.wast_meaning.specs.Changed.{Change, Changes, heap_changed, ref_changed, val_changed, storage_changed, field_type_changed, local_changed, sig_changed, inner_changed, type_changed, use_changed, catch_changed, handle_changed, target_changed, second_changed, operands_changed, instr_changed, extern_changed, item_changed, imports_changed, constant_changed, func_changed, elements_changed, defined_changed, elem_mode_changed, data_mode_changed, field_changed}
 use Rattle.wast_meaning.proofs.Settled.{two}
 
+abbrev pub use_with : {N P : Type 0} → Option (Reference N P) → Option (Sig N P) → TypeUse N P
+use_with i o = record { index = i; inline = o }
+
 -- what becomes of what is said; the type in which a field is looked up stays
 abbrev pub mention_changed : {N P : Type 0} → Change N P → Mention N P → Mention N P
 mention_changed c (Refers s i) = Refers s (c.index s i)

@@ -23,7 +23,7 @@ use Rattle.wast_meaning.specs.Demands.{nearest, order_demand, order_demands, ite
 use Rattle.wast_meaning.specs.Changed.{sig_changed, instr_changed, instrs_changed, func_changed}
 use Rattle.wast_meaning.specs.Numbered.{taken_index, taken_unless_short, taking, with_types, implied_field, expanded}
 use Rattle.wast_meaning.proofs.Settled.{left, right, two, front, back}
-use Rattle.wast_resolve_laws.proofs.Changes.{part_changed, parts_so}
+use Rattle.wast_resolve_laws.proofs.Changes.{use_with, part_changed, parts_so}
 use Rattle.wast_resolve_laws.proofs.Kept.{order_kept, nearest_kept, SameLabels, labels_more, scope_at_kept}
 use Rattle.wast_resolve_laws.proofs.Taking.{all_taking, said, instr_said, inline_same, locals_same, sig_says, both}
 use Rattle.wast_resolve_laws.proofs.Expanded.{taking_all, nameless_for, items_expanded, scope_kept}
@@ -75,9 +75,6 @@ module _ {N P : Type 0} (eq : N → N → Bool) where
 module _ {N P : Type 0} (eq : N → N → Bool) (taken : Sig N P → Option ℕ) (p : P) where
   abbrev number : ℕ → Reference N P
   number n = ByNumber n p
-
-  abbrev use_with : Option (Reference N P) → Option (Sig N P) → TypeUse N P
-  use_with i o = record { index = i; inline = o }
 
   more_met : (s : Scope N P) → Fits taken s → (o : Option (Sig N P)) (t : Option ℕ) → taken (unwrap_or o no_sig) ≡ t → Alike (use_demands eq s (use_with (option_map number t) o)) (use_demands eq s (use_with None o))
   more_met s fits o None e = refl

@@ -27,6 +27,7 @@ use Rattle.wast_meaning.proofs.Settled.{left, right, two, front, back}
 use Rattle.wast_meaning.proofs.SettledFields.{said_parts}
 use Rattle.wast_meaning.specs.Settled.{is_typed, are_typed}
 use Rattle.wast_meaning.proofs.Taken.{taken_in, types_after, types_with, types_so, taken_so, plain_types, implied_so}
+use Rattle.wast_resolve_laws.proofs.Fresh.{own_names, own_joined}
 use Rattle.wast_resolve_laws.proofs.Kept.{items_kept, written_changed, written_types_kept}
 use Rattle.wast_resolve_laws.proofs.Taking.{all_same, both, all_taking, type_same, field_typed, sig_holds, no_sigs}
 use Rattle.wast_resolve_laws.proofs.Sigs.{sig_of_type, implied_sig, placed, unplaced}
@@ -94,9 +95,6 @@ module _ {N P : Type 0} where
   count_of_implied (u ∷ us) = ap (λ n. suc n) (count_of_implied us)
 
   -- EACH USE HAS ITS TYPE
-  abbrev fully_typed : List (Field N P) → Bool
-  fully_typed fs = list_all (λ f. list_all is_typed (field_mentions f)) fs
-
   abbrev own_typed : Field N P → Bool
   own_typed f = list_all is_typed (field_mentions f)
 
@@ -104,22 +102,22 @@ module _ {N P : Type 0} where
   abbrev pub there : (Sig N P → Option ℕ) → P × Sig N P → Bool
   there taken u = is_some (taken u.1)
 
-  taken_typed : (taken : Sig N P → Option ℕ) (fs : List (Field N P)) → list_all (there taken) (flat_map used_sigs fs) ≡ true → fully_typed (taking_all taken fs) ≡ true
+  taken_typed : (taken : Sig N P → Option ℕ) (fs : List (Field N P)) → list_all (there taken) (flat_map used_sigs fs) ≡ true → are_typed (taking_all taken fs) ≡ true
   taken_typed taken [] h = refl
   taken_typed taken (f ∷ fs) h =
       both_true
       (field_typed taken (field_place f) f (sym (unplaced (λ t. is_some (taken t)) (field_place f) (flat_map sig_of_mention (field_mentions f))) ∙ front (there taken) (used_sigs f) (flat_map used_sigs fs) h))
       (taken_typed taken fs (back (there taken) (used_sigs f) (flat_map used_sigs fs) h))
 
-  implied_typed : (us : List (P × Sig N P)) → fully_typed (map implied_field us) ≡ true
+  implied_typed : (us : List (P × Sig N P)) → are_typed (map implied_field us) ≡ true
   implied_typed [] = refl
   implied_typed (u ∷ us) = both_true (ap (λ l. list_all is_typed l) (said_parts (sig_mentions u.1)) ∙ sig_holds is_typed (λ i. refl) u.1) (implied_typed us)
 
   -- then no type is implied
-  no_uses : (fs : List (Field N P)) → fully_typed fs ≡ true → flat_map used_sigs fs ≡ []
+  no_uses : (fs : List (Field N P)) → are_typed fs ≡ true → flat_map used_sigs fs ≡ []
   no_uses [] h = refl
   no_uses (f ∷ fs) h =
-      two (λ a b. a ++ b) (ap (λ l. map (placed (field_place f)) l) (no_sigs (field_mentions f) (left (own_typed f) (fully_typed fs) h))) (no_uses fs (right (own_typed f) (fully_typed fs) h))
+      two (λ a b. a ++ b) (ap (λ l. map (placed (field_place f)) l) (no_sigs (field_mentions f) (left (own_typed f) (are_typed fs) h))) (no_uses fs (right (own_typed f) (are_typed fs) h))
 
 module _ {N P : Type 0} (eq : N → N → Bool) where
   pub items_expanded : (fs : List (Field N P)) → flat_map items (expanded eq fs) ≡ flat_map items fs ++ map nameless_for (implied eq fs)
@@ -145,16 +143,6 @@ module _ {N P : Type 0} (eq : N → N → Bool) where
   typed_implies_none fs h = ap (λ us. implied_by eq (filter_map plain_sig (flat_map written_types fs)) us) (no_uses fs h)
 
   -- WHAT NAMES MEAN
-  abbrev bound_names : Space → List (Bound N P) → List (Option N)
-  bound_names s bs = map names.name_in (map (λ b. b.id) (filter (λ b. same_space s b.space) bs))
-
-  names_joined : (s : Space) (xs ys : List (Bound N P)) → bound_names s (xs ++ ys) ≡ bound_names s xs ++ bound_names s ys
-  names_joined s xs ys =
-      let own : Bound N P → Bool = λ b. same_space s b.space in
-      ap (λ l. map names.name_in (map (λ (b : Bound N P). b.id) l)) (filter-append own xs ys)
-      ∙ ap (λ l. map names.name_in l) (map-append (λ (b : Bound N P). b.id) (filter own xs) (filter own ys))
-      ∙ map-append names.name_in (map (λ (b : Bound N P). b.id) (filter own xs)) (map (λ (b : Bound N P). b.id) (filter own ys))
-
   abbrev none_for : P × Sig N P → Option N
   none_for u = None
 
@@ -165,7 +153,7 @@ module _ {N P : Type 0} (eq : N → N → Bool) where
   abbrev own_after : Space → Bool → List (Bound N P) → List (Option N)
   own_after s b bs = map names.name_in (map (λ x. x.id) (if b then nameless ∷ filter (λ x. same_space s x.space) bs else filter (λ x. same_space s x.space) bs))
 
-  no_names : (s : Space) (b : Bool) → same_space s Types ≡ b → (us : List (P × Sig N P)) → bound_names s (map nameless_for us) ≡ map none_for (where_so b us)
+  no_names : (s : Space) (b : Bool) → same_space s Types ≡ b → (us : List (P × Sig N P)) → own_names s (map nameless_for us) ≡ map none_for (where_so b us)
   no_names s true e [] = refl
   no_names s true e (u ∷ us) = ap (λ b. own_after s b (map nameless_for us)) e ∙ ap (λ l. None ∷ l) (no_names s true e us)
   no_names s false e [] = refl
@@ -173,9 +161,9 @@ module _ {N P : Type 0} (eq : N → N → Bool) where
 
   names_expanded : (s : Space) (fs : List (Field N P)) → map names.name_in (ids_in s (expanded eq fs)) ≡ map names.name_in (ids_in s fs) ++ map none_for (where_so (same_space s Types) (implied eq fs))
   names_expanded s fs =
-      ap (bound_names s) (items_expanded fs)
-      ∙ names_joined s (flat_map items fs) (map nameless_for (implied eq fs))
-      ∙ ap (λ l. bound_names s (flat_map items fs) ++ l) (no_names s (same_space s Types) refl (implied eq fs))
+      ap (own_names s) (items_expanded fs)
+      ∙ own_joined s (flat_map items fs) (map nameless_for (implied eq fs))
+      ∙ ap (λ l. own_names s (flat_map items fs) ++ l) (no_names s (same_space s Types) refl (implied eq fs))
 
   -- items without names behind others
   first_more : (n : N) (i : ℕ) (xs : List (Option N)) (us : List (P × Sig N P)) → position_from (bears eq n) i (xs ++ map none_for us) ≡ position_from (bears eq n) i xs

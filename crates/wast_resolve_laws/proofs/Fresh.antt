@@ -132,7 +132,8 @@ module _ {N : Type 0} (eq : N → N → Bool) where
       of true = last_found o 0 xs h
       of false = found (bears eq o) 0 xs ∙ h
 
-module _ {N P : Type 0} (eq : N → N → Bool) where
+-- the names in an index space
+module _ {N P : Type 0} where
   abbrev pub own_names : Space → List (Bound N P) → List (Option N)
   own_names s bs = map names.name_in (map (λ b. b.id) (filter (λ b. same_space s b.space) bs))
 
@@ -143,6 +144,7 @@ module _ {N P : Type 0} (eq : N → N → Bool) where
       ∙ ap (λ l. map names.name_in l) (map-append (λ (b : Bound N P). b.id) (filter own xs) (filter own ys))
       ∙ map-append names.name_in (map (λ (b : Bound N P). b.id) (filter own xs)) (map (λ (b : Bound N P). b.id) (filter own ys))
 
+module _ {N P : Type 0} (eq : N → N → Bool) where
   abbrev seen : N → Space → List (Bound N P) → List Bool
   seen o s bs = map (bears eq o) (own_names s bs)
 

@@ -29,7 +29,7 @@ use Rattle.wast_meaning.proofs.Settled.{left, right, two, front, back}
 use Rattle.wast_resolve_laws.specs.Numbers.{numbers_said}
 use Rattle.wast_resolve_laws.proofs.Settles.{instr_numbers}
 use Rattle.wast_resolve_laws.proofs.Changes as changes
-use Rattle.wast_resolve_laws.proofs.Changes.{mention_changed, part_changed, parts_so}
+use Rattle.wast_resolve_laws.proofs.Changes.{use_with, mention_changed, part_changed, parts_so}
 use Rattle.wast_resolve_laws.proofs.Kept.{inner_sig, items_kept, order_kept, nearest_kept, written_changed, written_types_kept, SameLabels, labels_more, scope_at_kept}
 use Rattle.wast_resolve_laws.proofs.Taking.{both}
 use Rattle.wast_resolve_laws.proofs.Expanded.{typed_implies_none}
@@ -145,9 +145,6 @@ module _ {N P : Type 0} (eq : N → N → Bool) (d : Change N P) where
       (all_said s ms (back is_met (says_demands eq s m) (flat_map (says_demands eq s) ms) e))
 
   -- USES
-  abbrev use_with : Option (Reference N P) → Option (Sig N P) → TypeUse N P
-  use_with i o = record { index = i; inline = o }
-
   abbrev use_numbered : Scope N P → TypeUse N P → TypeUse N P
   use_numbered s u = record { index = option_map (names.resolved (s.spaces Types)) u.index; inline = option_map (sig_changed (numbering s)) u.inline }
 

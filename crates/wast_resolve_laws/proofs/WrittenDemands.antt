@@ -276,6 +276,10 @@ module _ {N P : Type 0} (old : N → Bool) where
 abbrev pub respaced : {N P : Type 0} → (Space → names.Space N) → Scope N P → Scope N P
 respaced spaces s = record { spaces = spaces; fields = s.fields; sig_of = s.sig_of; blocks = s.blocks }
 
+-- the names that the items of a field bear
+abbrev names_of_items : {N P : Type 0} → Field N P → List N
+names_of_items f = flat_map (λ b. map (λ id. id.0) (option_to_list b.id)) (items f)
+
 module _ {N P : Type 0} (eq : N → N → Bool) (old : N → Bool) where
   abbrev Agree : (Space → names.Space N) → Scope N P → Type 0
   Agree spaces s = (space : Space) (n : N) → old n ≡ true → (spaces space).look n ≡ (s.spaces space).look n
@@ -422,13 +426,10 @@ module _ {N P : Type 0} (eq : N → N → Bool) (old : N → Bool) where
     abbrev pub unmet_by : Scope N P → Field N P → List (Demand N P)
     unmet_by t f = flat_map (λ x. unmet (part_demands eq t x)) (parts f)
 
-    abbrev item_part : Field N P → List N
-    item_part f = flat_map (λ b. map (λ id. id.0) (option_to_list b.id)) (items f)
-
     fields_same : (fs : List (Field N P)) → list_all old (flat_map field_names fs) ≡ true → flat_map (unmet_by (respaced spaces s)) fs ≡ flat_map (unmet_by s) fs
     fields_same [] h = refl
     fields_same (f ∷ fs) h =
-        two (λ a b. a ++ b) (parts_same (parts f) (back old (item_part f) (flat_map use_names (field_mentions f)) (front old (field_names f) (flat_map field_names fs) h)) (field_owner old f))
+        two (λ a b. a ++ b) (parts_same (parts f) (back old (names_of_items f) (flat_map use_names (field_mentions f)) (front old (field_names f) (flat_map field_names fs) h)) (field_owner old f))
         (fields_same fs (back old (field_names f) (flat_map field_names fs) h))
 
 -- SIGNATURES of types that are written or implied say old names alone
@@ -468,11 +469,8 @@ module _ {N P : Type 0} (old : N → Bool) where
   field_types_old (DataField d) h = refl
   field_types_old (CustomField x) h = refl
 
-  abbrev own_items : Field N P → List N
-  own_items f = flat_map (λ b. map (λ id. id.0) (option_to_list b.id)) (items f)
-
   mentions_old : (f : Field N P) (fs : List (Field N P)) → list_all old (flat_map field_names (f ∷ fs)) ≡ true → Named_by old (field_mentions f)
-  mentions_old f fs h = back old (own_items f) (flat_map use_names (field_mentions f)) (front old (field_names f) (flat_map field_names fs) h)
+  mentions_old f fs h = back old (names_of_items f) (flat_map use_names (field_mentions f)) (front old (field_names f) (flat_map field_names fs) h)
 
   written_old : (fs : List (Field N P)) → list_all old (flat_map field_names fs) ≡ true → list_all opt_old (map sig_of_type (flat_map written_types fs)) ≡ true
   written_old [] h = refl
@@ -562,7 +560,7 @@ module _ {N P : Type 0} (eq : N → N → Bool) (self : (n : N) → eq n n ≡ t
   item_names_old : (gs : List (Field N P)) → list_all old (flat_map field_names gs) ≡ true → list_all old (flat_map (λ f. flat_map (λ b. map (λ id. id.0) (option_to_list b.id)) (items f)) gs) ≡ true
   item_names_old [] h = refl
   item_names_old (g ∷ gs) h =
-      both old (own_items old g) (flat_map (own_items old) gs) (front old (own_items old g) (flat_map use_names (field_mentions g)) (front old (field_names g) (flat_map field_names gs) h))
+      both old (names_of_items g) (flat_map names_of_items gs) (front old (names_of_items g) (flat_map use_names (field_mentions g)) (front old (field_names g) (flat_map field_names gs) h))
       (item_names_old gs (back old (field_names g) (flat_map field_names gs) h))
 
   -- the scope
@@ -580,18 +578,18 @@ module _ {N P : Type 0} (eq : N → N → Bool) (self : (n : N) → eq n n ≡ t
   abbrev Found : Space → N → Type 0
   Found s o = is_module s ≡ true → is_some (denotes eq out s o) ≡ true
 
-  found_item : (s : Space) (o : N) → list_any (bears eq o) (own_names eq s (flat_map items out)) ≡ true → Found s o
+  found_item : (s : Space) (o : N) → list_any (bears eq o) (own_names s (flat_map items out)) ≡ true → Found s o
   found_item Labels o h e = elim (false≢true e) [ ]
   found_item Locals o h e = elim (false≢true e) [ ]
   found_item Fields o h e = elim (false≢true e) [ ]
-  found_item Functions o h e = denoted_found eq (space_word Functions) o (own_names eq Functions (flat_map items out)) h
-  found_item Types o h e = denoted_found eq (space_word Types) o (own_names eq Types (flat_map items out)) h
-  found_item Tables o h e = denoted_found eq (space_word Tables) o (own_names eq Tables (flat_map items out)) h
-  found_item Memories o h e = denoted_found eq (space_word Memories) o (own_names eq Memories (flat_map items out)) h
-  found_item Globals o h e = denoted_found eq (space_word Globals) o (own_names eq Globals (flat_map items out)) h
-  found_item Tags o h e = denoted_found eq (space_word Tags) o (own_names eq Tags (flat_map items out)) h
-  found_item Datas o h e = denoted_found eq (space_word Datas) o (own_names eq Datas (flat_map items out)) h
-  found_item Elems o h e = denoted_found eq (space_word Elems) o (own_names eq Elems (flat_map items out)) h
+  found_item Functions o h e = denoted_found eq (space_word Functions) o (own_names Functions (flat_map items out)) h
+  found_item Types o h e = denoted_found eq (space_word Types) o (own_names Types (flat_map items out)) h
+  found_item Tables o h e = denoted_found eq (space_word Tables) o (own_names Tables (flat_map items out)) h
+  found_item Memories o h e = denoted_found eq (space_word Memories) o (own_names Memories (flat_map items out)) h
+  found_item Globals o h e = denoted_found eq (space_word Globals) o (own_names Globals (flat_map items out)) h
+  found_item Tags o h e = denoted_found eq (space_word Tags) o (own_names Tags (flat_map items out)) h
+  found_item Datas o h e = denoted_found eq (space_word Datas) o (own_names Datas (flat_map items out)) h
+  found_item Elems o h e = denoted_found eq (space_word Elems) o (own_names Elems (flat_map items out)) h
 
   abbrev asked : Part N P → List (Demand N P)
   asked x = unmet (part_demands eq scope_out x)
