@@ -5,15 +5,14 @@ use Rattle.std.specs.List.{flat_map, list_all}
 use Rattle.std.specs.Cmp.Derive.{both_true}
 use Rattle.std.proofs.lemmas.Bool.{false≢true}
 use Rattle.std.proofs.lemmas.List.{length-append}
-use Rattle.wast_names.specs.Walk.{walked, first_unmet}
+use Rattle.wast_names.specs.Walk.{first_unmet}
 use Rattle.wast_names.specs.Demand.{is_met}
 use Rattle.wast_field_syntax.specs.FieldTree.{Defined, Imported, Func, Table, TableOf, Memory, MemoryOf, Global, Tag, Field, TypeField, RecField, ImportField, Define, ExportField, StartField, ElemField, DataField, CustomField, is_start, field_place}
 use Rattle.wast_meaning.specs.Demands.{order_demands, item_demands, field_demands, demands, all_demands}
-use Rattle.wast_meaning.specs.Mentions.{parts}
 use Rattle.wast_meaning.specs.Numbered.{resolved}
 use Rattle.wast_meaning.specs.Scope.{Scope, scope_of}
 use Rattle.wast_meaning.specs.Spaces.{items}
-use Rattle.wast_meaning.specs.WellFormed.{part_formed, pages_formed, page_formed, field_formed, breach, breaches}
+use Rattle.wast_meaning.specs.WellFormed.{pages_formed, page_formed, field_formed, breach, breaches}
 use Rattle.wast_meaning.specs.Written.{has_any}
 use Rattle.wast_meaning.proofs.Settled.{left, right, front, back}
 use Rattle.wast_resolve_laws.proofs.Plain.{stands_alone, is_plain, plain_stays}
@@ -22,6 +21,7 @@ use Rattle.wast_resolve_laws.proofs.Unmet.{all_met, all_bound}
 use Rattle.wast_meant.specs.FieldsMeant.{starts_of}
 use Rattle.wast_encode_laws.specs.Formed.{FieldFormed}
 use Rattle.wast_encode_laws.proofs.Formed.{formed}
+use Rattle.wast_encode_laws.proofs.FormedKept.{parts_formed, told}
 use Rattle.wast_encode_laws.proofs.Ready.{resolved_plain}
 use Rattle.wast_encode_laws.proofs.Starts.{one_start}
 use Rattle.wast_encode_again.proofs.Tested.{all_tested, field_tested}
@@ -32,9 +32,6 @@ room_for true = 0
 room_for false = 1
 
 module _ {N P : Type 0} where
-  abbrev parts_formed : Field N P → Bool
-  parts_formed f = list_all part_formed (parts f)
-
   -- nothing stands inline
   page_plain : (d : Defined N P) → stands_alone d ≡ true → page_formed d ≡ true
   page_plain (MemoryOf wide page vs) e = elim (false≢true e) [ ]
@@ -82,9 +79,6 @@ module _ {N P : Type 0} where
   room_left false (CustomField c) rest l = omega (arith, l)
 
   module _ (eq : N → N → Bool) (is_made : N → Bool) (s : Scope N P) where
-    abbrev told : Bool → List (Field N P) → List P
-    told started fs = walked (breach eq is_made s) (λ b f. b || is_start f) started fs
-
     formed_by : (started : Bool) (f : Field N P) → parts_formed f ≡ true → is_plain f ≡ true → not (started && is_start f) ≡ true → list_all is_met (field_demands eq s f) ≡ true → field_formed eq is_made s started f ≡ true
     formed_by started f a p n m = both_true (both_true (both_true a (pages_plain f p)) n) (all_bound eq is_made (field_demands eq s f) m)
 
@@ -92,7 +86,7 @@ module _ {N P : Type 0} where
     no_breach started f e = ap (λ b. if b then [] else field_place f ∷ []) e
 
     none_told : (started : Bool) (fs : List (Field N P)) → list_all parts_formed fs ≡ true → list_all is_plain fs ≡ true → list_all is_met (flat_map (field_demands eq s) fs) ≡ true
-        → length (flat_map starts_of fs) ≤ room_for started → told started fs ≡ []
+        → length (flat_map starts_of fs) ≤ room_for started → told eq is_made s started fs ≡ []
     none_told started [] a p m l = refl
     none_told started (f ∷ fs) a p m l =
         let count = length-append (starts_of f) (flat_map starts_of fs) in
@@ -100,7 +94,7 @@ module _ {N P : Type 0} where
         let here : length (starts_of f) ≤ room_for started = omega (arith, both) in
         let well = formed_by started f (left (parts_formed f) (list_all parts_formed fs) a) (left (is_plain f) (list_all is_plain fs) p) (not_twice started f here)
         (front is_met (field_demands eq s f) (flat_map (field_demands eq s) fs) m) in
-        ap (λ ps. ps ++ told (started || is_start f) fs) (no_breach started f well)
+        ap (λ ps. ps ++ told eq is_made s (started || is_start f) fs) (no_breach started f well)
         ∙ none_told (started || is_start f) fs (right (parts_formed f) (list_all parts_formed fs) a) (right (is_plain f) (list_all is_plain fs) p)
         (back is_met (field_demands eq s f) (flat_map (field_demands eq s) fs) m) (room_left started f (length (flat_map starts_of fs)) both)
 

@@ -12,7 +12,7 @@ use Rattle.wast_core_instr.specs.InstructionTree.{Operands, Instruction}
 use Rattle.wast_core_instr.specs.InstructionTree as instr
 use Rattle.wast_expressions.specs.Items.{Hint}
 use Rattle.wast_field_syntax.specs.FieldTree.{Expr, Elements, Indices, Expressions, Defined, Imported, Func, Table, TableOf, Memory, MemoryOf, Global, Tag, ElemMode, PassiveElem, DeclaredElem, ActiveElem, DataMode, PassiveData, ActiveData, Field, TypeField, RecField, ImportField, Define, ExportField, StartField, ElemField, DataField, CustomField}
-use Rattle.wast_meaning.specs.Mentions.{Mention, Refers, Part, Constant, ref_mentions, val_mentions, type_mentions, extern_mentions, import_mentions, refers_if, says, elements_parts, defined_parts, elem_mode_parts, data_mode_parts, parts}
+use Rattle.wast_meaning.specs.Mentions.{Mention, Refers, Constant, ref_mentions, val_mentions, type_mentions, extern_mentions, import_mentions, refers_if, says, elements_parts, defined_parts, elem_mode_parts, data_mode_parts, parts}
 use Rattle.wast_meaning.specs.Scope.{turn_of_head}
 use Rattle.wast_meaning.specs.WellFormed.{is_power, are_hints, turned_then, is_aligned, is_balanced, is_formed, part_formed}
 use Rattle.wast_conversions.specs.Operands.{IsPower, OperandsAligned}
@@ -20,6 +20,7 @@ use Rattle.wast_conversions.specs.Instructions.{opcode_of, instrs_meant}
 use Rattle.wast_conversions.specs.Resolved.{IfThere}
 use Rattle.wast_resolve_laws.proofs.Taking.{both}
 use Rattle.wast_encode_laws.specs.Formed.{HintsFit, IsFormed, IsConstant, ElementsFormed, DefinedFormed, ElemModeFormed, DataModeFormed, FieldFormed}
+use Rattle.wast_encode_laws.proofs.Formed.{PartsFormed}
 
 pub all_tested : {A : Type 0} (q : A → Bool) (Q : A → Type 0) → ((x : A) → Q x → q x ≡ true) → (xs : List A) → All Q xs → list_all q xs ≡ true
 all_tested q Q so [] h = refl
@@ -67,9 +68,6 @@ module _ {N P : Type 0} where
   constant_tested e h = both_true (formed_tested e h.formed) (balanced_tested e.instrs 0 h.balanced)
 
   -- FIELDS, part by part
-  abbrev PartsFormed : List (Part N P) → Type 0
-  PartsFormed ps = list_all part_formed ps ≡ true
-
   said_tested : (ms : List (Mention N P)) → PartsFormed (says ms)
   said_tested [] = refl
   said_tested (m ∷ ms) = said_tested ms

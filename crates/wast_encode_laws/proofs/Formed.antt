@@ -94,7 +94,7 @@ module _ {N P : Type 0} where
   }
 
   -- FIELDS, part by part
-  abbrev PartsFormed : List (Part N P) → Type 0
+  abbrev pub PartsFormed : List (Part N P) → Type 0
   PartsFormed ps = list_all part_formed ps ≡ true
 
   one_is : (e : Expr N P) → PartsFormed (Constant e ∷ []) → IsConstant e

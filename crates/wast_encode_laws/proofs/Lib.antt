@@ -1,7 +1,7 @@
 mod Clear
 pub mod Covered
 pub mod Formed
-mod FormedKept
+pub mod FormedKept
 mod FormsKept
 pub mod Hints
 mod Lists
