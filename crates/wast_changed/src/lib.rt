@@ -5,8 +5,9 @@
 //! item of a list, [`turn_list`] and [`try_turn_list`] make it of all. Only a type use without an index may want memory, for the index that
 //! it takes, so want of memory is the only refusal; a tree for which it was wanted may be changed in part.
 //!
-//! [`Rewriting`] says what becomes of whole fields, by what becomes of an index outside of expressions, and of constant expressions and bodies:
-//! `wast_changed_fields` rewrites them by it.
+//! [`Rewriting`] says what becomes of whole fields, by what becomes of an index outside of expressions, and of constant expressions and bodies,
+//! whose instructions keep their recorded places: `wast_changed_fields` rewrites fields by it, whose trees (`field_tree`) don't have these
+//! places, so of whole fields they aren't promised.
 //!
 //! # What has to be believed
 //!

@@ -20,11 +20,13 @@ pub trait Rewriting<'a>: Changing<'a> {
     /// The same in the body of a function, which is given as it was.
     ghost in_function: { Self → spec.Function Name ℕ → ByPlace };
 
-    /// Rewrites a constant expression. Fails only for want of memory.
+    /// Rewrites a constant expression; the recorded places of its instructions stay. Fails only for want of memory.
     fn constant(&self, alloc: Global, expression: &mut Expression<'a>) -> Result<(), AllocError>
-        ensures { OnOk result (expression_tree expression.new ≡ expr_changed (in_constant self.now) (expression_tree expression.old)) };
+        ensures changed { OnOk result (expression_tree expression.new ≡ expr_changed (in_constant self.now) (expression_tree expression.old)) }
+        ensures spans { expression.new.instr_spans ≡ expression.old.instr_spans };
 
-    /// Rewrites the body of a function, whose type use and locals are those from before. Fails only for want of memory.
+    /// Rewrites the body of a function, whose type use and locals are those from before; the recorded places of its instructions stay. Fails
+    /// only for want of memory.
     fn body(
         &self,
         alloc: Global,
@@ -32,5 +34,6 @@ pub trait Rewriting<'a>: Changing<'a> {
         locals: &[Local<'a>],
         body: &mut Expression<'a>,
     ) -> Result<(), AllocError>
-        ensures { OnOk result (expression_tree body.new ≡ expr_changed (in_function self.now (function_tree ty.now locals.now body.old)) (expression_tree body.old)) };
+        ensures changed { OnOk result (expression_tree body.new ≡ expr_changed (in_function self.now (function_tree ty.now locals.now body.old)) (expression_tree body.old)) }
+        ensures spans { body.new.instr_spans ≡ body.old.instr_spans };
 }

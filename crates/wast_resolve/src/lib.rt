@@ -35,7 +35,8 @@
 //! ```
 //!
 //! Fields are rewritten in their place, by what becomes of each index, wherever one stands; nothing else of them changes (`wast_changed_fields`,
-//! `wast_expanded`, `wast_numbered`). Want of memory is refused too: for the names that are gathered, and for the types that uses take.
+//! `wast_expanded`, `wast_numbered`), though the recorded places of instructions aren't promised, for `field_tree` doesn't have them.
+//! Want of memory is refused too: for the names that are gathered, and for the types that uses take.
 //!
 //! # What has to be believed
 //!

@@ -68,8 +68,9 @@ impl<'a> Resolver<'a> {
     }
 }
 
-/// The fields with numbers for indices, nothing else of them changed, and what their names mean (6.1.3). Types that uses imply have
-/// their numbers, behind those that are written, but are not added: that is done by `types::expand`.
+/// The fields with numbers for indices, nothing else of them changed, and what their names mean (6.1.3). The recorded places of instructions
+/// aren't promised, for `field_tree` doesn't have them. Types that uses imply have their numbers, behind those that are written, but are not
+/// added: that is done by `types::expand`.
 ///
 /// Refuses fields of which a demand of names isn't met, by the first, with its place and message; else only where no memory is found, or
 /// there are more than 4294967295 items of a kind, types with those that uses imply, fields of a structure, parameters and locals of a

@@ -7,7 +7,7 @@ use Rattle.wast_numbered.specs.Place.{by_place}
 use Rattle.wast_changed.specs.Rewritten.{expr_changed}
 use Rattle.wast_numbered.proofs.numbering.NumberingRewriting.body.Goals as goal
 
-pub returns-in-Ok : goal.returns-in-Ok
-returns-in-Ok c =
+pub returns-in-Ok-clause-changed : goal.returns-in-Ok-clause-changed
+returns-in-Ok-clause-changed c =
     subst (λ (locals : names.Space Name). OnOk c.number_expression.result (expression_tree c.number_expression.new.expression ≡ expr_changed (by_place c.args.self.now.spaces.now locals) (expression_tree c.args.body.now)))
     c.in-Ok.ensures c.number_expression.ensures.changed
