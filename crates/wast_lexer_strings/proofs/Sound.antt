@@ -1,9 +1,11 @@
 -- What a scan reads is a string.
-use Rattle.std.proofs.Common.{◌≡◌, ℕ, ◌+◌, ◌*◌, Bool, true, false, ◌&&◌, ◌⊎◌, inl, inr, List, [], ◌∷◌, ◌++◌, Option, Some, None, refl, sym, ◌∙◌, ap, subst, arith, append_assoc}
+use Rattle.std.proofs.Common.{◌≡◌, ℕ, ◌+◌, ◌*◌, true, false, ◌&&◌, ◌⊎◌, inl, inr, List, [], ◌∷◌, ◌++◌, Option, Some, None, refl, sym, ◌∙◌, ap, subst, arith, append_assoc}
 use Rattle.std.specs.Prelude.{encode_utf8, nat_lt, ◌==◌}
 use Rattle.std.proofs.lemmas.Bool.{cases_Bool, eqb-true}
 use Rattle.std.proofs.lemmas.Bool.Decides.{nat_tests}
-use Rattle.wast_lexer_strings.specs.Strings.{is_quote, is_backslash, is_hex, hex_value, is_string_byte, escaped, is_scalar_value, is_digits, number, Element, Elements}
+use Rattle.wast_lexer_numbers.specs.Numbers.{is_hex, Digits}
+use Rattle.wast_lexer_numbers.specs.Numbers.Digits.{Last, Next, Gap as Gapped}
+use Rattle.wast_lexer_strings.specs.Strings.{is_quote, is_backslash, hex_value, is_string_byte, escaped, is_scalar_value, number, Element, Elements}
 use Rattle.wast_lexer_strings.specs.StringScan.{Read, more, State, Step, letter_step, digit_step, step, read}
 use Rattle.wast_lexer_strings.specs.Strings.Element.{Plain, Letter, Hex, Scalar}
 use Rattle.wast_lexer_strings.specs.Strings.Elements.{None', More}
@@ -18,7 +20,7 @@ pub record Scalars (n : ℕ) (w b rest : List ℕ) : Type 0 where
   pub digits : List ℕ
   pub text : List ℕ
   pub bytes : List ℕ
-  pub are : is_digits digits ≡ true
+  pub are : Digits true digits
   pub ok : is_scalar_value (number n digits) ≡ true
   pub split : w ≡ digits ++ 125 ∷ text
   pub within : InString text bytes rest
@@ -47,22 +49,6 @@ hex_not c h = grind (arith, nat_tests)
 number_on : (m c : ℕ) (ds : List ℕ) (n : ℕ) → is_hex c ≡ true → 16 * m + hex_value c ≡ n → number m (c ∷ ds) ≡ number n ds
 number_on m c ds n h e = rw (number, hex_not c h) (ap (λ k. number k ds) e)
 
-digits_on : (c : ℕ) (ds : List ℕ) → is_hex c ≡ true → (ds ≡ [] → ⊥) → is_digits ds ≡ true → is_digits (c ∷ ds) ≡ true
-digits_on c [] h some are = absurd (some refl)
-digits_on c (d ∷ []) h some are = rw (is_digits, h, hex_not d are) are
-digits_on c (d ∷ e ∷ ds) h some are = rw (is_digits, h, hex_not d (first (is_hex d) _ are)) are
-  where
-    first : (a b : Bool) → (a && b) ≡ true → a ≡ true
-    first true b h = refl
-    first false b h = absurd (cc)
-
-digits_gap : (c : ℕ) (ds : List ℕ) → is_hex c ≡ true → is_digits ds ≡ true → is_digits (c ∷ 95 ∷ ds) ≡ true
-digits_gap c ds h are = rw (is_digits, h) are
-
-not_none : (ds : List ℕ) → is_digits ds ≡ true → ds ≡ [] → ⊥
-not_none [] are e = absurd (cc)
-not_none (d ∷ ds) are e = cc
-
 on_digit : (n c : ℕ) (w b rest : List ℕ) → Scalars n w b rest → is_hex c ≡ true → (m : ℕ) → 16 * m + hex_value c ≡ n → Scalars m (c ∷ w) b rest
 on_digit n c w b rest s h m e =
     let is = number_on m c s.digits n h e in
@@ -70,7 +56,7 @@ on_digit n c w b rest s h m e =
       digits = c ∷ s.digits;
       text = s.text;
       bytes = s.bytes;
-      are = digits_on c s.digits h (not_none s.digits s.are) s.are;
+      are = Next c s.digits h s.are;
       ok = ap is_scalar_value is ∙ s.ok;
       split = ap (λ (y : List ℕ). c ∷ y) s.split;
       within = s.within;
@@ -84,7 +70,7 @@ on_gap n c w b rest s h m e =
       digits = c ∷ 95 ∷ s.digits;
       text = s.text;
       bytes = s.bytes;
-      are = digits_gap c s.digits h s.are;
+      are = Gapped c s.digits h s.are;
       ok = ap is_scalar_value is ∙ s.ok;
       split = ap (λ (y : List ℕ). c ∷ 95 ∷ y) s.split;
       within = s.within;
@@ -94,7 +80,7 @@ on_gap n c w b rest s h m e =
 on_close : (n c : ℕ) (w b rest : List ℕ) → is_scalar_value n ≡ true → InString w b rest → is_hex c ≡ true → (m : ℕ) → 16 * m + hex_value c ≡ n → Scalars m (c ∷ 125 ∷ w) (encode_utf8 n ++ b) rest
 on_close n c w b rest ok i h m e =
     let is : number m (c ∷ []) ≡ n = number_on m c [] n h e in
-    record { digits = c ∷ []; text = w; bytes = b; are = h; ok = ap is_scalar_value is ∙ ok; split = refl; within = i; spell = ap (λ k. encode_utf8 k ++ b) (sym is) }
+    record { digits = c ∷ []; text = w; bytes = b; are = Last c h; ok = ap is_scalar_value is ∙ ok; split = refl; within = i; spell = ap (λ k. encode_utf8 k ++ b) (sym is) }
 
 of_digit : (n c : ℕ) (to : State) (x w b rest : List ℕ) → digit_step n c ≡ Go to x → Reaches to w b rest → (is_hex c ≡ true) × Scalars n (c ∷ w) (x ++ b) rest
 of_digit n c to x w b rest e r = elim (cases_Bool (is_hex c)) [

@@ -2,9 +2,11 @@
 use Rattle.std.proofs.Common.{◌≡◌, ℕ, ◌+◌, ◌*◌, ◌<◌, ◌≤◌, Bool, true, false, inl, inr, List, [], ◌∷◌, ◌++◌, Option, Some, None, length, take, drop, get_or, refl, sym, ◌∙◌, ap, subst, arith, append_assoc, append-nil}
 use Rattle.std.specs.Prelude.{encode_utf8, nat_lt, ◌==◌, ◌-◌, slice_range}
 use Rattle.std.proofs.lemmas.List.{drop_all, take_more, get_or-drop, length-drop, drop_more}
-use Rattle.std.proofs.lemmas.Bool.{cases_Bool, and_parts, eqb-true}
+use Rattle.std.proofs.lemmas.Bool.{cases_Bool}
 use Rattle.std.proofs.lemmas.Bool.Decides.{nat_tests}
-use Rattle.wast_lexer_strings.specs.Strings.{is_quote, is_backslash, is_hex, hex_value, is_string_byte, escaped, is_scalar_value, is_digits, number, Element, Elements, IsString}
+use Rattle.wast_lexer_numbers.specs.Numbers.{is_hex, Digits}
+use Rattle.wast_lexer_numbers.specs.Numbers.Digits.{Last, Next, Gap as Gapped}
+use Rattle.wast_lexer_strings.specs.Strings.{is_quote, is_backslash, hex_value, is_string_byte, escaped, is_scalar_value, number, Element, Elements, IsString}
 use Rattle.wast_lexer_strings.specs.StringScan.{Read, more, State, on_step, digit_step, step, read}
 use Rattle.wast_lexer_strings.specs.Strings.Element.{Plain, Letter, Hex, Scalar}
 use Rattle.wast_lexer_strings.specs.Strings.Elements.{None', More}
@@ -110,44 +112,39 @@ grows n (c ∷ digits) = elim (cases_Bool (c == 95)) [
 scalar_small : (n : ℕ) → is_scalar_value n ≡ true → n < 1114112
 scalar_small n h = grind (arith, nat_tests)
 
-digits_read : (n : ℕ) (digits : List ℕ) (s : List ℕ) → is_digits digits ≡ true → is_scalar_value (number n digits) ≡ true
+digits_read : (n : ℕ) (digits : List ℕ) (s : List ℕ) → Digits true digits → is_scalar_value (number n digits) ≡ true
     → read (Gap n) (digits ++ 125 ∷ s) ≡ more (encode_utf8 (number n digits)) (read Within s)
-digits_read n [] s h ok = absurd (cc)
-digits_read n (c ∷ []) s h ok =
+digits_read n digits s (Last c h) ok =
     let a = hex_not c h in
     let m = 16 * n + hex_value c in
     let is : number n (c ∷ []) ≡ m = rw (number, a.1) refl in
     let ok' : is_scalar_value m ≡ true = rw is at ok in
     read_go (Gap n) (Number m) [] c (125 ∷ s) (number_step n c h (scalar_small m ok'))
     ∙ more_none _ ∙ read_go (Number m) Within (encode_utf8 m) 125 s (close_step m ok') ∙ ap (λ k. more (encode_utf8 k) (read Within s)) (sym is)
-digits_read n (c ∷ d ∷ digits) s h ok =
-    let both = and_parts (is_hex c) _ h in
-    let a = hex_not c both.0 in
+digits_read n digits s (Next c text h are) ok =
+    let a = hex_not c h in
     let m = 16 * n + hex_value c in
-    let is : number n (c ∷ d ∷ digits) ≡ number m (d ∷ digits) = rw (number, a.1) refl in
-    let ok' : is_scalar_value (number m (d ∷ digits)) ≡ true = rw is at ok in
-    let small : m < 1114112 = omega (arith, grows m (d ∷ digits), scalar_small (number m (d ∷ digits)) ok') in
-    let first = read_go (Gap n) (Number m) [] c (d ∷ (digits ++ 125 ∷ s)) (number_step n c both.0 small) ∙ more_none _ in
-    elim (cases_Bool (d == 95)) [
-      | inl u ↦
-          let tail = rw u at both.1 in
-          let is' : number m (d ∷ digits) ≡ number m digits = rw (number, u) refl in
-          let gap : step (Number m) d ≡ Go (Gap m) [] = gap_step m d u in
-          first ∙ read_go (Number m) (Gap m) [] d (digits ++ 125 ∷ s) gap ∙ more_none _ ∙ digits_read m digits s tail (rw is' at ok') ∙ ap (λ k. more (encode_utf8 k) (read Within s)) (sym (is ∙ is'))
-      | inr u ↦
-          let tail = rw u at both.1 in
-          first ∙ as_gap m d (digits ++ 125 ∷ s) (is_hex_first d digits tail) ∙ digits_read m (d ∷ digits) s tail ok' ∙ ap (λ k. more (encode_utf8 k) (read Within s)) (sym is)
-    ]
+    let is : number n (c ∷ text) ≡ number m text = rw (number, a.1) refl in
+    let ok' : is_scalar_value (number m text) ≡ true = rw is at ok in
+    let small : m < 1114112 = omega (arith, grows m text, scalar_small (number m text) ok') in
+    read_go (Gap n) (Number m) [] c (text ++ 125 ∷ s) (number_step n c h small) ∙ more_none _
+    ∙ as_gap m text (125 ∷ s) are ∙ digits_read m text s are ok' ∙ ap (λ k. more (encode_utf8 k) (read Within s)) (sym is)
   where
-    gap_step : (m d : ℕ) → (d == 95) ≡ true → step (Number m) d ≡ Go (Gap m) []
-    gap_step m d u = ap (step (Number m)) (eqb-true d 95 u)
+    on_first : (m d : ℕ) (t : List ℕ) → is_hex d ≡ true → read (Number m) (d ∷ t) ≡ read (Gap m) (d ∷ t)
+    on_first m d t h = ap (λ y. on_step y (λ to bytes. more bytes (read to t)) (Some (record { bytes = []; rest = t })) None) (more_digit m d h)
 
-    is_hex_first : (d : ℕ) (digits : List ℕ) → is_digits (d ∷ digits) ≡ true → is_hex d ≡ true
-    is_hex_first d [] t = t
-    is_hex_first d (e ∷ digits) t = (and_parts (is_hex d) _ t).0
-
-    as_gap : (m d : ℕ) (t : List ℕ) → is_hex d ≡ true → read (Number m) (d ∷ t) ≡ read (Gap m) (d ∷ t)
-    as_gap m d t h = ap (λ y. on_step y (λ to bytes. more bytes (read to t)) (Some (record { bytes = []; rest = t })) None) (more_digit m d h)
+    as_gap : (m : ℕ) (text t : List ℕ) → Digits true text → read (Number m) (text ++ t) ≡ read (Gap m) (text ++ t)
+    as_gap m text t (Last c h) = on_first m c t h
+    as_gap m text t (Next c more h are) = on_first m c (more ++ t) h
+    as_gap m text t (Gapped c more h are) = on_first m c (95 ∷ (more ++ t)) h
+digits_read n digits s (Gapped c text h are) ok =
+    let a = hex_not c h in
+    let m = 16 * n + hex_value c in
+    let is : number n (c ∷ 95 ∷ text) ≡ number m text = rw (number, a.1) refl in
+    let ok' : is_scalar_value (number m text) ≡ true = rw is at ok in
+    let small : m < 1114112 = omega (arith, grows m text, scalar_small (number m text) ok') in
+    read_go (Gap n) (Number m) [] c (95 ∷ (text ++ 125 ∷ s)) (number_step n c h small) ∙ more_none _
+    ∙ read_go (Number m) (Gap m) [] 95 (text ++ 125 ∷ s) refl ∙ more_none _ ∙ digits_read m text s are ok' ∙ ap (λ k. more (encode_utf8 k) (read Within s)) (sym is)
 
 element_read : {w b : List ℕ} → Element w b → (s : List ℕ) → read Within (w ++ s) ≡ more b (read Within s)
 element_read (Plain {c} p) s = read_go Within Within (c ∷ []) c s (plain_step c p)

@@ -5,7 +5,8 @@ use Rattle.std.specs.Str.{is_utf8}
 use Rattle.wast_lexer_strings.specs.declared.piece.Piece.{Piece}
 use Rattle.wast_lexer_strings.specs.declared.piece.Piece.TheVariants.{Byte, Char}
 use Rattle.wast_lexer_strings.specs.declared.error.LexError.{LexError}
-use Rattle.wast_lexer_strings.specs.Strings.{is_quote, is_backslash, is_hex, hex_value, is_string_byte, escaped, is_scalar_value}
+use Rattle.wast_lexer_numbers.specs.Numbers.{is_hex}
+use Rattle.wast_lexer_strings.specs.Strings.{is_quote, is_backslash, hex_value, is_string_byte, escaped, is_scalar_value}
 
 -- what a scan read of a string: the bytes that it stands for, and what follows it
 pub record Read : Type 0 where

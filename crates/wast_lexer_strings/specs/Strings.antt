@@ -1,17 +1,12 @@
 -- What a string is, and what it stands for (WebAssembly 3.0, 6.3.3), on the bytes of a text.
-use Rattle.std.specs.Prelude.{if◌then◌else◌, Option, Some, None, nat_lt, nat_le, ◌+◌, ◌*◌, ◌-◌, ◌≡◌, ℕ, Bool, true, false, not, ◌&&◌, ◌||◌, ◌==◌, List, [], ◌∷◌, ◌++◌, encode_utf8}
+use Rattle.std.specs.Prelude.{if◌then◌else◌, Option, Some, None, nat_lt, nat_le, ◌+◌, ◌*◌, ◌-◌, ◌≡◌, ℕ, Bool, true, not, ◌&&◌, ◌||◌, ◌==◌, List, [], ◌∷◌, ◌++◌, encode_utf8}
+use Rattle.wast_lexer_numbers.specs.Numbers.{is_digit, is_hex, Digits}
 
 abbrev pub is_quote : ℕ → Bool
 is_quote c = c == 34
 
 abbrev pub is_backslash : ℕ → Bool
 is_backslash c = c == 92
-
-abbrev pub is_digit : ℕ → Bool
-is_digit c = nat_le 48 c && nat_le c 57
-
-abbrev pub is_hex : ℕ → Bool
-is_hex c = is_digit c || (nat_le 65 c && nat_le c 70) || (nat_le 97 c && nat_le c 102)
 
 -- the number that a digit spells
 abbrev pub hex_value : ℕ → ℕ
@@ -34,12 +29,6 @@ escaped c =
 abbrev pub is_scalar_value : ℕ → Bool
 is_scalar_value n = nat_lt n 55296 || (nat_le 57344 n && nat_lt n 1114112)
 
--- hexadecimal digits, with single `_` between them (6.3.1)
-abbrev pub is_digits : List ℕ → Bool
-is_digits [] = false
-is_digits (c ∷ []) = is_hex c
-is_digits (c ∷ d ∷ text) = is_hex c && (if d == 95 then is_digits text else is_digits (d ∷ text))
-
 -- the number that the digits spell behind those of another
 abbrev pub number : ℕ → List ℕ → ℕ
 number n [] = n
@@ -50,7 +39,7 @@ pub data Element : List ℕ → List ℕ → Type 0 where
   Plain : {c : ℕ} → is_string_byte c ≡ true → Element (c ∷ []) (c ∷ [])
   Letter : {c d : ℕ} → escaped c ≡ Some d → Element (92 ∷ c ∷ []) (d ∷ [])
   Hex : {h l : ℕ} → is_hex h ≡ true → is_hex l ≡ true → Element (92 ∷ h ∷ l ∷ []) ((16 * hex_value h + hex_value l) ∷ [])
-  Scalar : (digits : List ℕ) → is_digits digits ≡ true → is_scalar_value (number 0 digits) ≡ true → Element (92 ∷ 117 ∷ 123 ∷ (digits ++ 125 ∷ [])) (encode_utf8 (number 0 digits))
+  Scalar : (digits : List ℕ) → Digits true digits → is_scalar_value (number 0 digits) ≡ true → Element (92 ∷ 117 ∷ 123 ∷ (digits ++ 125 ∷ [])) (encode_utf8 (number 0 digits))
 
 -- what stands between the quotes of a string, and the bytes that it stands for
 pub data Elements : List ℕ → List ℕ → Type 0 where

@@ -1,7 +1,8 @@
 //! One character of a string, or one escape.
 
 ghost use Rattle.std.specs.Prelude.{◌≡◌, ◌≢◌, ◌≤◌, ◌<◌, ℕ, List, ◌++◌, MatchOption, length, drop, slice_index, slice_range, false, true};
-ghost use Rattle.wast_lexer_strings.specs.Strings.{is_hex, hex_value, is_string_byte, escaped};
+ghost use Rattle.wast_lexer_numbers.specs.Numbers.{is_hex};
+ghost use Rattle.wast_lexer_strings.specs.Strings.{hex_value, is_string_byte, escaped};
 ghost use Rattle.wast_lexer_strings.specs.StringScan.{Gives, meant, read, more};
 ghost use Rattle.wast_lexer_strings.specs.StringScan.State.{Within, Escape, Digit, Open, Gap, Number};
 
