@@ -4,6 +4,7 @@ use Rattle.std.specs.Prelude.{ℕ, ◌+◌, Bool, true, false, ◌&&◌, nat_eq,
 use Rattle.std.specs.List.{flat_map, list_any, position_from}
 use Rattle.std.specs.Cmp.Lexicographic.{pointwise}
 use Rattle.wasm_encoder_base.specs.Types.{abstract_heap_byte}
+pub use Rattle.wast_grammar.specs.Look.{same as same_flag}
 use Rattle.wast_parser.specs.Identifiers.{Reference, ByNumber, ByName}
 use Rattle.wast_field_syntax.specs.ValueTree.{NumberType, I32, I64, F32, F64, V128, HeapWord, Known, Cont, NoCont, HeapType, Abstract, Concrete, Exact, ValType, Number, Ref}
 use Rattle.wast_field_syntax.specs.TypeTree.{Local, Sig, InnerType, FuncType, TypeItem, TypeUse}
@@ -22,10 +23,6 @@ abbrev pub word_code : HeapWord → ℕ
 word_code (Known a) = abstract_heap_byte a
 word_code Cont = 0
 word_code NoCont = 1
-
-abbrev pub same_flag : Bool → Bool → Bool
-same_flag true b = b
-same_flag false b = not b
 
 abbrev pub same_option : {A : Type 0} → (A → A → Bool) → Option A → Option A → Bool
 same_option same None None = true
