@@ -37,15 +37,16 @@ split (x ∷ xs) s ys (g ∷ gs) =
     let r = split xs s ys gs in
     record { front = map Free g ++ (Known x ∷ r.front); gaps = r.gaps; is = ap (λ v. map Free g ++ (Known x ∷ v)) r.is ∙ sym (append_assoc (map Free g) (Known x ∷ r.front) (Known s ∷ weave ys r.gaps)) }
 
+-- the kinds around those of hints and of codes
+abbrev pub before_hints : List SectionKind
+before_hints = Types ∷ Imports ∷ Functions ∷ Tables ∷ Memories ∷ Tags ∷ Globals ∷ Exports ∷ Starts ∷ Elements ∷ DataCount ∷ []
+
+abbrev pub behind_codes : List SectionKind
+behind_codes = Datas ∷ Names ∷ []
+
 module _ (m : AbstractModule (List ℕ)) where
-  abbrev slot : SectionKind → List Section
+  abbrev pub slot : SectionKind → List Section
   slot k = if_there (is_present m k) (section m k)
-
-  abbrev before_hints : List SectionKind
-  before_hints = Types ∷ Imports ∷ Functions ∷ Tables ∷ Memories ∷ Tags ∷ Globals ∷ Exports ∷ Starts ∷ Elements ∷ DataCount ∷ []
-
-  abbrev behind_codes : List SectionKind
-  behind_codes = Datas ∷ Names ∷ []
 
   two_sections : slot Hints ≡ section m Hints ∷ [] → slot Codes ≡ section m Codes ∷ [] → sections m ≡ flat_map slot before_hints ++ (section m Hints ∷ section m Codes ∷ flat_map slot behind_codes)
   two_sections p q =

@@ -16,6 +16,7 @@ use Rattle.wasm_layout.specs.Present.{is_present, is_called}
 use Rattle.wasm_layout.specs.Layout.{if_there, contents_of, Section, section, sections, Piece, Known, Free, weave, number, contents, piece_bytes, pieces, name_bytes}
 use Rattle.wasm_layout.specs.Lays.{Reads}
 use Rattle.wasm_layout.proofs.HadBack.{true_is_not_false, AreOf, once, had_back}
+use Rattle.wasm_layout.proofs.HintPlaces.{slot}
 use Rattle.wasm_layout.proofs.Joined.{all_joined}
 
 abbrev hints_text : List ℕ
@@ -221,16 +222,13 @@ module _ (m : AbstractModule (List ℕ)) where
   titled Codes = tt
   titled Datas = tt
 
-  abbrev slot : SectionKind → List Section
-  slot k = if_there (is_present m k) (section m k)
-
   slot_titled : (b : Bool) (k : SectionKind) → AreTitled (if_there b (section m k))
   slot_titled true k = (titled k, tt)
   slot_titled false k = tt
 
-  all_titled : (ks : List SectionKind) → AreTitled (flat_map slot ks)
+  all_titled : (ks : List SectionKind) → AreTitled (flat_map (slot m) ks)
   all_titled [] = tt
-  all_titled (k ∷ ks) = all_joined (λ s. IsTitled s.kind s.contents) (slot k) (flat_map slot ks) (slot_titled (is_present m k) k) (all_titled ks)
+  all_titled (k ∷ ks) = all_joined (λ s. IsTitled s.kind s.contents) (slot m k) (flat_map (slot m) ks) (slot_titled (is_present m k) k) (all_titled ks)
 
   slot_of : (b : Bool) (k : SectionKind) → AreOf (λ s. rank s.kind) (rank k) (if_there b (section m k))
   slot_of true k = (refl, tt)
@@ -240,9 +238,9 @@ module _ (m : AbstractModule (List ℕ)) where
   one_more true s k ss ks h = ap suc h
   one_more false s k ss ks h = h
 
-  section_count : (ks : List SectionKind) → length (flat_map slot ks) ≡ length (filter (is_present m) ks)
+  section_count : (ks : List SectionKind) → length (flat_map (slot m) ks) ≡ length (filter (is_present m) ks)
   section_count [] = refl
-  section_count (k ∷ ks) = one_more (is_present m k) (section m k) k (flat_map slot ks) (filter (is_present m) ks) (section_count ks)
+  section_count (k ∷ ks) = one_more (is_present m k) (section m k) k (flat_map (slot m) ks) (filter (is_present m) ks) (section_count ks)
 
 -- kinds by their ranks
 kind_at : ℕ → SectionKind
