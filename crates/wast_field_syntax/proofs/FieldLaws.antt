@@ -28,9 +28,9 @@ use Rattle.wast_field_syntax.specs.FieldTree.{Defined, Indices}
 use Rattle.wast_field_syntax.specs.DefinitionSyntax.{expr, element, as_definition, definition_body, as_imported, imported_or}
 use Rattle.wast_field_syntax.specs.FuncSyntax.{local_starts, all_locals, tag_defined, tag, global_defined, global, function, func_defined, func}
 use Rattle.wast_field_syntax.specs.ElemSyntax as elem_segments
-use Rattle.wast_field_syntax.specs.ElemSyntax.{list_starts, element_starts, table_use_starts, numbered, use_of, indices, elem_list, elem_body, elem}
+use Rattle.wast_field_syntax.specs.ElemSyntax.{list_starts, element_starts, use_starts_of, numbered, use_of, indices, elem_list, elem_body, elem}
 use Rattle.wast_field_syntax.specs.DataSyntax as data_segments
-use Rattle.wast_field_syntax.specs.DataSyntax.{memory_use_starts, active_starts, values, data_body, data_segment}
+use Rattle.wast_field_syntax.specs.DataSyntax.{active_starts, values, data_body, data_segment}
 use Rattle.wast_field_syntax.specs.TableSyntax.{sizes, memory_starts, memory_with, memory_defined, memory, typed, elements, filled_table, table_starts, table_with, table_defined, table}
 use Rattle.wast_field_syntax.proofs.ExpressionLaws.{expr_laws, element_laws, elem_offset_laws, segment_offset_laws}
 
@@ -106,7 +106,7 @@ module _ {N P : Type 0} where
 
   active_elem_laws : Lawful (elem_segments.active {N = N} {P = P})
   unfolding text_table entries uncovered
-  active_elem_laws = seen_laws _ _ (seq_laws _ _ (maybe_laws table_use_starts _ (use_of_laws (codes "table")) refl refl refl) (seq_laws _ _ elem_offset_laws active_list_laws refl) refl)
+  active_elem_laws = seen_laws _ _ (seq_laws _ _ (maybe_laws (use_starts_of (codes "table")) _ (use_of_laws (codes "table")) refl refl refl) (seq_laws _ _ elem_offset_laws active_list_laws refl) refl)
 
   pub elem_segment_laws : Lawful (elem_segments.segment {N = N} {P = P})
   unfolding text_table entries uncovered
@@ -127,7 +127,7 @@ module _ {N P : Type 0} where
 
   active_data_laws : Lawful (data_segments.active {N = N} {P = P})
   unfolding text_table entries uncovered
-  active_data_laws = seen_laws _ _ (seq_laws _ _ (maybe_laws memory_use_starts _ (use_of_laws (codes "memory")) refl refl refl) (seq_laws _ _ segment_offset_laws values_laws refl) refl)
+  active_data_laws = seen_laws _ _ (seq_laws _ _ (maybe_laws (use_starts_of (codes "memory")) _ (use_of_laws (codes "memory")) refl refl refl) (seq_laws _ _ segment_offset_laws values_laws refl) refl)
 
   pub data_segment_laws : Lawful (data_segments.segment {N = N} {P = P})
   unfolding text_table entries uncovered

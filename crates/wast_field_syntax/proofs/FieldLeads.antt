@@ -13,14 +13,14 @@ use Rattle.wast_parser.proofs.IntegerLaws.{number_leads}
 use Rattle.wast_parser.proofs.IdentifierLaws.{index_laws}
 use Rattle.wast_mnemonics.specs.TextTable.{TextEntry, text_table}
 use Rattle.wast_field_syntax.specs.DefinitionSyntax.{plain_starts, lone_instruction}
-use Rattle.wast_field_syntax.specs.ElemSyntax.{use_of}
+use Rattle.wast_field_syntax.specs.ElemSyntax.{use_starts_of, use_of}
 
 abbrev mnemonic : TextEntry → List ℕ
 mnemonic t = t.mnemonic
 
 module _ {N P : Type 0} where
   -- SEGMENTS: the table or the memory, of types that have names and places
-  pub use_of_leads : (w : List ℕ) → N → P → Leads (use_of {N = N} {P = P} w).spells (this_group w ∷ integer_starts)
+  pub use_of_leads : (w : List ℕ) → N → P → Leads (use_of {N = N} {P = P} w).spells (use_starts_of w)
   use_of_leads w n p =
       either_leads _ _ (this_group w ∷ []) integer_starts
       (group_leads w index index_laws (ByName (n, p)) (Id (Some n) p ∷ []) (inr ((n, p), refl, (Id (Some n) p, refl, refl))))

@@ -1,6 +1,6 @@
 -- The syntax of data segments (WebAssembly 3.0, 6.6, data segments).
 use Rattle.std.specs.Prelude.{List, [], ◌∷◌, Option, codes}
-use Rattle.wast_parser.specs.Look.{Test, this_group, join, integer_starts}
+use Rattle.wast_parser.specs.Look.{Test, this_group, join}
 use Rattle.wast_parser.specs.Grammar.{Syntax, word, seen, seq, maybe, many, either, paren}
 use Rattle.wast_parser.specs.Identifiers.{Reference}
 use Rattle.wast_imports.specs.ImportSyntax.{Head, head}
@@ -8,13 +8,10 @@ use Rattle.wast_data.specs.DataTree.{DataVal}
 use Rattle.wast_data.specs.DataSyntax.{value_starts, value}
 use Rattle.wast_field_syntax.specs.FieldTree.{Expr, DataMode, PassiveData, ActiveData, Data}
 use Rattle.wast_field_syntax.specs.DefinitionSyntax.{plain_starts, segment_offset}
-use Rattle.wast_field_syntax.specs.ElemSyntax.{use_of}
-
-abbrev pub memory_use_starts : List Test
-memory_use_starts = this_group (codes "memory") ∷ integer_starts
+use Rattle.wast_field_syntax.specs.ElemSyntax.{use_starts_of, use_of}
 
 abbrev pub active_starts : List Test
-active_starts = join memory_use_starts (join (this_group (codes "offset") ∷ []) plain_starts)
+active_starts = join (use_starts_of (codes "memory")) (join (this_group (codes "offset") ∷ []) plain_starts)
 
 module _ {N P : Type 0} where
   abbrev pub values : Syntax N P (List DataVal)
@@ -25,7 +22,7 @@ module _ {N P : Type 0} where
   as_active d = (ActiveData d.0 d.1.0, d.1.1)
 
   abbrev pub active : Syntax N P (DataMode N P × List DataVal)
-  active = seen as_active (seq (maybe memory_use_starts (use_of (codes "memory"))) (seq segment_offset values))
+  active = seen as_active (seq (maybe (use_starts_of (codes "memory")) (use_of (codes "memory"))) (seq segment_offset values))
 
   abbrev pub segment : Syntax N P (DataMode N P × List DataVal)
   segment = either active_starts active (seen (λ vs. (PassiveData, vs)) values)

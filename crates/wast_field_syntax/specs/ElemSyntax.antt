@@ -16,8 +16,9 @@ list_starts = this_word (codes "func") ∷ ref_starts
 abbrev pub element_starts : List Test
 element_starts = this_group (codes "item") ∷ plain_starts
 
-abbrev pub table_use_starts : List Test
-table_use_starts = this_group (codes "table") ∷ integer_starts
+-- what begins the table or the memory of a segment
+abbrev pub use_starts_of : List ℕ → List Test
+use_starts_of w = this_group w ∷ integer_starts
 
 module _ {N P : Type 0} where
   -- (word index) or u32: the table or the memory of a segment
@@ -42,7 +43,7 @@ module _ {N P : Type 0} where
   as_active e = (ActiveElem e.0 e.1.0, e.1.1)
 
   abbrev pub active : Syntax N P (ElemMode N P × Elements N P)
-  active = seen as_active (seq (maybe table_use_starts (use_of (codes "table"))) (seq elem_offset (either list_starts elem_list (seen Indices indices))))
+  active = seen as_active (seq (maybe (use_starts_of (codes "table")) (use_of (codes "table"))) (seq elem_offset (either list_starts elem_list (seen Indices indices))))
 
   abbrev pub segment : Syntax N P (ElemMode N P × Elements N P)
   segment =

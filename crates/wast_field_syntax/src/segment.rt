@@ -1,14 +1,14 @@
 //! The tables and memories of segments.
-ghost use Rattle.std.specs.Prelude.{ℕ, ◌∷◌, option_map, refl};
+ghost use Rattle.std.specs.Prelude.{ℕ, option_map, refl};
 ghost use Rattle.wast_grammar.specs.Tokens.{Name};
-ghost use Rattle.wast_parser.specs.Look.{ask, this_group, integer_starts};
+ghost use Rattle.wast_parser.specs.Look.{ask};
 ghost use Rattle.wast_parser.specs.Grammar.{maybe};
 ghost use Rattle.wast_parser.specs.Lawful.{Lawful, Leads};
 ghost use Rattle.wast_parser.specs.State.{ahead, Keeps};
 ghost use Rattle.wast_parser.specs.Reading.{Asks, Gives};
 ghost use Rattle.wast_parser.specs.Cursors.{stands};
 ghost use Rattle.wast_parser.specs.Identifiers.{Reference, index_tree};
-ghost use Rattle.wast_field_syntax.specs.ElemSyntax.{use_of};
+ghost use Rattle.wast_field_syntax.specs.ElemSyntax.{use_of, use_starts_of};
 
 use std::marker::PhantomData;
 use wast_parser::{
@@ -62,11 +62,11 @@ impl<'a, N: KeywordName> Peek for UseOf<'a, N> {
     ghost sure = { refl };
 
     fn leads()
-        ensures { Leads (use_of {N = Name} {P = ℕ} N.word).spells (this_group N.word ∷ integer_starts) }
+        ensures { Leads (use_of {N = Name} {P = ℕ} N.word).spells (use_starts_of N.word) }
     {}
 
     fn peek(cursor: Cursor<'_, '_>) -> Result<bool, Error>
-        ensures { Asks result (stands cursor.entry).source (ask (this_group N.word ∷ integer_starts) (ahead (stands cursor.entry))) }
+        ensures { Asks result (stands cursor.entry).source (ask (use_starts_of N.word) (ahead (stands cursor.entry))) }
     {
         or_peek::<u32>(Group::<N>::peek(cursor), cursor)
     }
@@ -79,7 +79,7 @@ impl<'a, N: KeywordName> Peek for UseOf<'a, N> {
 /// Reads the table or the memory of a segment where one is written. Refused where one that begins isn't read, where no token can be read,
 /// or for want of memory.
 pub fn parse_use<'a, N: KeywordName>(parser: &mut Parser<'a>) -> Result<Option<Index<'a>>, Error>
-    ensures read { Gives (option_map index_tree) result parser.new ((maybe (this_group N.word ∷ integer_starts) (use_of N.word)).reads (ahead parser.old)) }
+    ensures read { Gives (option_map index_tree) result parser.new ((maybe (use_starts_of N.word) (use_of N.word)).reads (ahead parser.old)) }
     ensures keeps { Keeps parser.old parser.new }
 {
     if parser.peek::<UseOf<'a, N>>()? {
