@@ -16,7 +16,7 @@ as_list s = s.0 ∷ s.1
 abbrev pub some : {N P A : Type 0} → Syntax N P A → Syntax N P (List A)
 some g = seen as_list (seq g (many g.starts g))
 
--- The module of these fields, exactly where one at most is the start.
+-- The module of these fields, exactly where one at most is the start. The place of an error isn't said.
 abbrev pub IsModuleOf : List (spec.Field Name ℕ) → Result Module Problem → Type 0
 IsModuleOf trees (Ok m) = (one_start trees ≡ true) × ((first : spec.Field Name ℕ) (others : List (spec.Field Name ℕ)) → trees ≡ first ∷ others → module_tree m ≡ as_fields (first, others))
 IsModuleOf trees (Err p) = one_start trees ≡ false

@@ -111,7 +111,7 @@ fn parse_content<'a>(parser: &mut Parser<'a>) -> Result<ModuleKind<'a>, Error>
     }
 }
 
-/// Reads fields, as many as there are. Refused where two of them are start functions, with an error at the second.
+/// Reads fields, as many as there are. Refused where two of them are start functions, with an error at the second (no clause sees the place).
 fn parse_fields<'a>(parser: &mut Parser<'a>) -> Result<Vec<ModuleField<'a>>, Error>
     ensures read { Gives (λ fs. map field_tree fs.items) result parser.new (fields.reads (ahead parser.old)) }
     ensures keeps { Keeps parser.old parser.new }
@@ -123,7 +123,7 @@ fn parse_fields<'a>(parser: &mut Parser<'a>) -> Result<Vec<ModuleField<'a>>, Err
     }
 }
 
-/// Where a second start function stands.
+/// Where a second start function stands, if there is one (no clause sees the place).
 pub(crate) fn second_start(fields: &[ModuleField<'_>]) -> Option<Span>
     ensures { is_some result ≡ not (one_start (map field_tree fields.now)) }
 {

@@ -58,7 +58,8 @@ fn parse_bare<'a>(parser: &mut Parser<'a>) -> Result<Module<'a>, Error>
     }
 }
 
-/// The module of fields, of which there is one at least. Refused where two of them are start functions, with an error at the second.
+/// The module of fields, of which there is one at least. Refused where two of them are start functions, with an error at the second (no clause
+/// sees the place).
 fn module_of<'a>(parser: &Parser<'a>, fields: Vec<ModuleField<'a>>) -> Result<Module<'a>, Error>
     requires { 0 < vec_len fields }
     ensures { IsModuleOf (map field_tree fields.entry.items) result }

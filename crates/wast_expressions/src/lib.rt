@@ -19,7 +19,8 @@
 //! | `Views` | what the grammar sees of the types of the code |
 //! | `Laws` | the statements of the law functions |
 //!
-//! `Machine` and `Partial` serve private contracts, and the count of turns.
+//! `Machine` and `Partial` serve private contracts, but that `Machine` says what a turn is that [`parse_counted`] counts, and `hint_tree` of
+//! `Partial` which hint a [`BranchHint`] is.
 #![tactic(auto)]
 
 mod data;

@@ -28,7 +28,8 @@
 //! | `Views` | which index space a [`Space`] is |
 //!
 //! `proofs/Examples` has worked examples, a few for each rule, and `proofs/Operands` one for each kind of row of operands with indices.
-//! The other files of `proofs/` have lemmas for the code that meets these definitions:
+//! `proofs/Words` has short words for the trees of these examples. The other files of `proofs/` have lemmas for the code that meets these
+//! definitions:
 //!
 //! | File of `proofs/` | Says |
 //! |---|---|
