@@ -1,6 +1,6 @@
 //! What the names of a module must keep to (WebAssembly Core Specification 3.0, 6.1.3, 6.5, and 6.6, type uses and modules).
 //!
-//! [`check_names`] refuses the first demand of the fields of a module that isn't met, in this order:
+//! [`ordered_spaces`] and [`check_mentions`] refuse the first demand of the fields of a module that isn't met, one behind the other in this order:
 //!
 //! 1. imports stand before definitions of functions, tables, memories, globals and tags;
 //! 2. no item bears the name of an earlier one of its index space, segments aside, and no field that of an earlier one of its structure;
@@ -13,7 +13,7 @@
 //! ```
 //!
 //! is an error at the word `import`, and without it one at `$f`: `` unknown func: failed to find name `$f` ``. Fields are only borrowed.
-//! [`ordered_spaces`] asks 1 and 2 alone, and answers the index spaces; [`check_mentions`] asks 3, where these and the types that uses imply
+//! [`ordered_spaces`] asks 1 and 2, and answers the index spaces; [`check_mentions`] asks 3, where these and the types that uses imply
 //! are at hand.
 //!
 //! The parts: `wast_spaces`, index spaces; `wast_implied`, the types that uses imply; `wast_scopes`, what is known at a place; `wast_parts`,
@@ -26,4 +26,4 @@
 
 mod names;
 
-pub use names::{check_mentions, check_names, ordered_spaces};
+pub use names::{check_mentions, ordered_spaces};

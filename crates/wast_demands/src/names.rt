@@ -6,7 +6,7 @@ ghost use Rattle.wast_grammar.specs.Spelling.{same_name};
 ghost use Rattle.wast_module_fields.specs.ModuleFieldViews.{field_tree};
 ghost use Rattle.wast_names.specs.Demand.{Answers, Demand, is_met};
 ghost use Rattle.wast_names.specs.Space as names;
-ghost use Rattle.wast_meaning.specs.Demands.{demands, field_demands, item_demands, order_demands};
+ghost use Rattle.wast_meaning.specs.Demands.{field_demands, item_demands, order_demands};
 ghost use Rattle.wast_meaning.specs.Implied.{implied as implied_types};
 ghost use Rattle.wast_meaning.specs.Scope.{scope_of};
 ghost use Rattle.wast_meaning.specs.Spaces.{items};
@@ -25,22 +25,6 @@ use wast_parts::{PartJudge, PartJudgement, tell_all_parts};
 use wast_scopes::{Scope, Signatures, check_constant, check_func, check_mention};
 use wast_spaces::{Spaces, check_order};
 
-/// Tests the names of a module with these fields.
-///
-/// Refuses the first import behind a definition, else the first item that bears the name of an earlier one, segments aside, or field that
-/// bears that of an earlier one of its structure, else the first name that means nothing, signature that isn't that of the type beside it,
-/// parameter or local that bears the name of an earlier one, or repeated name that isn't its block's; else only where no memory is found, or there
-/// are more than 4294967295 items of a kind, types with those that uses imply, fields of a structure, parameters and locals of a function, or blocks
-/// inside each other, which is told as want of memory.
-pub fn check_names<'a>(alloc: Global, fields: &[ModuleField<'a>]) -> Result<(), Error>
-    ensures { Answers result (demands same_name (map field_tree fields.now)) }
-{
-    match ordered_spaces(alloc, fields) {
-        Ok(spaces) => check_mentioned(alloc, fields, &spaces),
-        Err(e) => Err(e),
-    }
-}
-
 /// The index spaces of fields in which imports stand before definitions, and no item bears the name of an earlier one.
 ///
 /// Refuses the first import behind a definition, else the first item that bears the name of an earlier one, segments aside, or field that
@@ -54,22 +38,6 @@ pub fn ordered_spaces<'a>(alloc: Global, fields: &[ModuleField<'a>]) -> Result<S
     match check_order(alloc, fields) {
         Ok(()) => Spaces::of(alloc, fields),
         Err(e) => Err(e),
-    }
-}
-
-/// Tests what is mentioned, where these are the index spaces of the fields.
-fn check_mentioned<'a>(
-    alloc: Global,
-    fields: &[ModuleField<'a>],
-    spaces: &Spaces<'a>,
-) -> Result<(), Error>
-    requires spaces { spaces_of spaces.now ≡ spaces_behind (λ t. names.empty) (flat_map items (map field_tree fields.now)) }
-    requires fields { fields_of_types spaces.now ≡ type_fields (flat_map items (map field_tree fields.now)) }
-    ensures { Answers result (flat_map (field_demands same_name (scope_of same_name (map field_tree fields.now))) (map field_tree fields.now)) }
-{
-    match Implied::of(alloc, fields) {
-        Ok(implied) => check_mentions(alloc, fields, spaces, &implied),
-        Err(e) => Err(Error::from(e)),
     }
 }
 
