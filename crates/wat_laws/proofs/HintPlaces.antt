@@ -23,8 +23,9 @@ use Rattle.wasm_layout.specs.IsModule.{IsHint, AreHints}
 use Rattle.wasm_layout.specs.Laws.{HintStands, bodies_bytes}
 use Rattle.wasm_layout.specs.Lays.{Lays}
 use Rattle.wasm_layout.proofs.HintPlaces as layouts
+use Rattle.wasm_layout.proofs.HintPlaces.{before_hints, behind_codes}
 use Rattle.wat_laws.specs.HintPlaces.{HasHint, SectionStands, ListsHint, BodyStarts, HintPlaces, HintPlaced}
-use Rattle.wat_laws.proofs.SectionPlaces.{before_hints, behind_hints, before_codes, behind_codes, any_around, section_stands}
+use Rattle.wat_laws.proofs.SectionPlaces.{behind_hints, before_codes, any_around, section_stands}
 
 -- LISTS: an item behind others
 item_behind : {A : Type 0} (xs : List A) (x : A) (ys : List A) → slice_get (xs ++ (x ∷ ys)) (length xs) ≡ Some x

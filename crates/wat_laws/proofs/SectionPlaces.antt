@@ -2,11 +2,11 @@
 use Rattle.std.proofs.Common.{◌≡◌, ℕ, true, List, [], ◌∷◌, ◌++◌, refl, sym, ap, ◌∙◌, append_assoc, flat_map}
 use Rattle.std.proofs.lemmas.Grind.{flat_map-append}
 use Rattle.wasm_encoder.specs.Module.{header}
-use Rattle.wasm_layout.specs.Section.{SectionKind, Types, Imports, Functions, Tables, Memories, Tags, Globals, Exports, Starts, Elements, DataCount, Hints, Codes, Datas, Names, order}
+use Rattle.wasm_layout.specs.Section.{SectionKind, Hints, Codes, order}
 use Rattle.wasm_layout.specs.AbstractModule.{AbstractModule}
 use Rattle.wasm_layout.specs.Present.{has_any, is_present}
-use Rattle.wasm_layout.specs.Layout.{if_there, Section, section, sections, Known, weave, piece_bytes, pieces, layout}
-use Rattle.wasm_layout.proofs.HintPlaces.{split}
+use Rattle.wasm_layout.specs.Layout.{if_there, section, sections, Known, weave, piece_bytes, pieces, layout}
+use Rattle.wasm_layout.proofs.HintPlaces.{split, before_hints, behind_codes, slot}
 use Rattle.wat_laws.specs.HintPlaces.{SectionStands}
 
 -- a list with an item has one
@@ -14,34 +14,25 @@ pub any_around : {A : Type 0} (xs : List A) (y : A) (ys : List A) → has_any (x
 any_around [] y ys = refl
 any_around (x ∷ xs) y ys = refl
 
--- the kinds around those of hints and of codes
-abbrev pub before_hints : List SectionKind
-before_hints = Types ∷ Imports ∷ Functions ∷ Tables ∷ Memories ∷ Tags ∷ Globals ∷ Exports ∷ Starts ∷ Elements ∷ DataCount ∷ []
-
+-- the kinds before that of codes, and behind that of hints
 abbrev pub before_codes : List SectionKind
 before_codes = before_hints ++ (Hints ∷ [])
-
-abbrev pub behind_codes : List SectionKind
-behind_codes = Datas ∷ Names ∷ []
 
 abbrev pub behind_hints : List SectionKind
 behind_hints = Codes ∷ behind_codes
 
 module _ (b : List ℕ) (m : AbstractModule (List ℕ)) (before : List SectionKind) (kind : SectionKind) (behind : List SectionKind) (is_order : order ≡ before ++ (kind ∷ behind)) (there : is_present m kind ≡ true) where
-  abbrev slot : SectionKind → List Section
-  slot k = if_there (is_present m k) (section m k)
-
-  sections_are : sections m ≡ flat_map slot before ++ (section m kind ∷ flat_map slot behind)
+  sections_are : sections m ≡ flat_map (slot m) before ++ (section m kind ∷ flat_map (slot m) behind)
   sections_are =
-      ap (flat_map slot) is_order
-      ∙ flat_map-append slot before (kind ∷ behind)
-      ∙ ap (λ t. flat_map slot before ++ (if_there t (section m kind) ++ flat_map slot behind)) there
+      ap (flat_map (slot m)) is_order
+      ∙ flat_map-append (slot m) before (kind ∷ behind)
+      ∙ ap (λ t. flat_map (slot m) before ++ (if_there t (section m kind) ++ flat_map (slot m) behind)) there
 
   pub section_stands : b ≡ layout m → SectionStands b m kind
   section_stands laid =
       let s = section m kind in
-      let parts = split (flat_map slot before) s (flat_map slot behind) m.customs in
-      let after = weave (flat_map slot behind) parts.gaps in
+      let parts = split (flat_map (slot m) before) s (flat_map (slot m) behind) m.customs in
+      let after = weave (flat_map (slot m) behind) parts.gaps in
       let are : pieces m ≡ parts.front ++ (Known s ∷ after) = ap (λ v. weave v m.customs) sections_are ∙ parts.is in
       record {
         before = parts.front;
