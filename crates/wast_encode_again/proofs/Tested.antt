@@ -1,5 +1,5 @@
 -- Fields of which it is known that they are well formed pass the tests of that.
-use Rattle.std.proofs.Common.{◌≡◌, ℕ, zero, suc, ◌+◌, ◌^◌, Bool, true, List, [], ◌∷◌, length, map, All, Option, Some, None, refl, ◌∙◌, ap, arith, subst}
+use Rattle.std.proofs.Common.{◌≡◌, ℕ, zero, suc, ◌+◌, ◌^◌, Bool, true, List, [], ◌∷◌, length, map, All, Option, Some, None, refl, sym, ◌∙◌, ap, arith, subst}
 use Rattle.std.specs.Prelude.{not, option_to_list}
 use Rattle.std.specs.List.{flat_map, list_all}
 use Rattle.std.specs.Cmp.Derive.{both_true}
@@ -14,7 +14,8 @@ use Rattle.wast_expressions.specs.Items.{Hint}
 use Rattle.wast_field_syntax.specs.FieldTree.{Expr, Elements, Indices, Expressions, Defined, Imported, Func, Table, TableOf, Memory, MemoryOf, Global, Tag, ElemMode, PassiveElem, DeclaredElem, ActiveElem, DataMode, PassiveData, ActiveData, Field, TypeField, RecField, ImportField, Define, ExportField, StartField, ElemField, DataField, CustomField}
 use Rattle.wast_meaning.specs.Mentions.{Mention, Refers, Constant, ref_mentions, val_mentions, type_mentions, extern_mentions, import_mentions, refers_if, says, elements_parts, defined_parts, elem_mode_parts, data_mode_parts, parts}
 use Rattle.wast_meaning.specs.Scope.{turn_of_head}
-use Rattle.wast_meaning.specs.WellFormed.{is_power, are_hints, turned_then, is_aligned, is_balanced, is_formed, part_formed}
+use Rattle.wast_meaning.specs.WellFormed.{is_power, turned_then, is_aligned, is_balanced, is_formed, part_formed}
+use Rattle.wast_meaning.proofs.Hints.{are_hints_from, hints_same}
 use Rattle.wast_conversions.specs.Operands.{IsPower, OperandsAligned}
 use Rattle.wast_conversions.specs.Instructions.{opcode_of, instrs_meant}
 use Rattle.wast_conversions.specs.Resolved.{IfThere}
@@ -29,7 +30,7 @@ all_tested q Q so (x ∷ xs) h = both_true (so x (All-head Q x xs h)) (all_teste
 power_tested : (n : ℕ) → IsPower n → is_power n ≡ true
 power_tested n p = ap is_power p.2 ∙ agree_below_at (λ k. is_power (2 ^ k)) (λ k. true) 16 p.0 refl p.1
 
-hints_tested : (least len : ℕ) (hs : List Hint) → HintsFit least len hs → are_hints least len hs ≡ true
+hints_tested : (least len : ℕ) (hs : List Hint) → HintsFit least len hs → are_hints_from least len hs ≡ true
 hints_tested least len [] h = refl
 hints_tested least len (x ∷ hs) h =
     both_true (both_true (both_true (ap not (le-ltb x.index least h.0)) (lt-ltb x.index len h.1)) (lt-ltb x.value 128 h.2)) (hints_tested (x.index + 1) len hs h.3)
@@ -62,7 +63,7 @@ module _ {N P : Type 0} where
   formed_tested e h =
       both_true
       (all_tested (λ (i : Instruction N P). is_aligned i.operands) (λ (i : Instruction N P). OperandsAligned i.operands) (λ i a. operands_tested i.operands a) e.instrs h.aligned)
-      (hints_tested 0 (length e.instrs) e.hints h.hints)
+      (sym (hints_same (length e.instrs) e.hints) ∙ hints_tested 0 (length e.instrs) e.hints h.hints)
 
   constant_tested : (e : Expr N P) → IsConstant e → part_formed (Constant e) ≡ true
   constant_tested e h = both_true (formed_tested e h.formed) (balanced_tested e.instrs 0 h.balanced)

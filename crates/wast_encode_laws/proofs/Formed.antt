@@ -15,6 +15,7 @@ use Rattle.wast_meaning.specs.Mentions.{Part, Constant, ref_mentions, val_mentio
 use Rattle.wast_meaning.specs.Scope.{turn_of_head}
 use Rattle.wast_meaning.specs.Numbered.{resolved}
 use Rattle.wast_meaning.specs.WellFormed.{is_power, are_hints, turned_then, is_aligned, is_balanced, is_formed, part_formed, breaches}
+use Rattle.wast_meaning.proofs.Hints.{are_hints_from, hints_same}
 use Rattle.wast_meaning.proofs.Settled.{left, right, front, back}
 use Rattle.wast_conversions.specs.Operands.{IsPower, OperandsAligned}
 use Rattle.wast_conversions.specs.Instructions.{opcode_of, instrs_meant}
@@ -39,13 +40,13 @@ power_is : (n : ℕ) → is_power n ≡ true → IsPower n
 power_is n e = one_of n (0 ∷ 1 ∷ 2 ∷ 3 ∷ 4 ∷ 5 ∷ 6 ∷ 7 ∷ 8 ∷ 9 ∷ 10 ∷ 11 ∷ 12 ∷ 13 ∷ 14 ∷ 15 ∷ []) refl e
 
 -- HINTS
-hints_fit : (least len : ℕ) (hs : List Hint) → are_hints least len hs ≡ true → HintsFit least len hs
+hints_fit : (least len : ℕ) (hs : List Hint) → are_hints_from least len hs ≡ true → HintsFit least len hs
 hints_fit least len [] e = tt
 hints_fit least len (h ∷ hs) e =
     let above = not (nat_lt h.index least) in
     let inside = nat_lt h.index len in
     let small = nat_lt h.value 128 in
-    let rest = are_hints (h.index + 1) len hs in
+    let rest = are_hints_from (h.index + 1) len hs in
     let three = left (above && inside && small) rest e in
     let first = left (above && inside) small three in (
       ltb-false h.index least (not-true (nat_lt h.index least) (left above inside first)),
@@ -81,10 +82,10 @@ module _ {N P : Type 0} where
   formed_is : (e : Expr N P) → is_formed e ≡ true → IsFormed e
   formed_is e h =
       let aligned = list_all (λ (i : Instruction N P). is_aligned i.operands) e.instrs in
-      let fit = are_hints 0 (length e.instrs) e.hints in
+      let fit = are_hints (length e.instrs) e.hints in
       record {
         aligned = all_is (λ (i : Instruction N P). is_aligned i.operands) (λ (i : Instruction N P). OperandsAligned i.operands) (λ i a. operands_are i.operands a) e.instrs (left aligned fit h);
-        hints = hints_fit 0 (length e.instrs) e.hints (right aligned fit h);
+        hints = hints_fit 0 (length e.instrs) e.hints (hints_same (length e.instrs) e.hints ∙ right aligned fit h);
       }
 
   constant_is : (e : Expr N P) → part_formed (Constant e) ≡ true → IsConstant e

@@ -150,8 +150,8 @@ module _ {N P : Type 0} where
     balanced_kept before (i ∷ is) n = turn_kept (turn_of_head i.head) (is_balanced (instrs_changed change (i ∷ before) is)) (is_balanced is) (balanced_kept (i ∷ before) is) n
 
     formed_kept : (is : List (Instruction N P)) (hints : List Hint) →
-        (list_all aligned (instrs_changed change [] is) && are_hints 0 (length (instrs_changed change [] is)) hints) ≡ (list_all aligned is && are_hints 0 (length is) hints)
-    formed_kept is hints = two (λ a len. a && are_hints 0 len hints) (aligned_kept [] is) (length_kept [] is)
+        (list_all aligned (instrs_changed change [] is) && are_hints (length (instrs_changed change [] is)) hints) ≡ (list_all aligned is && are_hints (length is) hints)
+    formed_kept is hints = two (λ a len. a && are_hints len hints) (aligned_kept [] is) (length_kept [] is)
 
   part_kept : (cs : Changes N P) (x : Part N P) → part_formed (part_changed cs x) ≡ part_formed x
   part_kept cs (Says m) = refl

@@ -1,6 +1,7 @@
 pub mod Again
 pub mod Counter
 mod Examples
+pub mod Hints
 pub mod Labels
 mod Operands
 pub mod Resolved

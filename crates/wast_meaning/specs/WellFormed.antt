@@ -19,10 +19,15 @@ powers = map (λ k. 2 ^ k) (0 ∷ 1 ∷ 2 ∷ 3 ∷ 4 ∷ 5 ∷ 6 ∷ 7 ∷ 8 �
 abbrev pub is_power : ℕ → Bool
 is_power n = list_any (nat_eq n) powers
 
--- hints rise from an index on, each stands on one of so many instructions, and their values are below 128
-abbrev pub are_hints : ℕ → ℕ → List Hint → Bool
-are_hints next len [] = true
-are_hints next len (h ∷ hs) = not (nat_lt h.index next) && nat_lt h.index len && nat_lt h.value 128 && are_hints (h.index + 1) len hs
+-- each is below the one behind it
+abbrev pub is_rising : List ℕ → Bool
+is_rising [] = true
+is_rising (n ∷ []) = true
+is_rising (n ∷ m ∷ ns) = nat_lt n m && is_rising (m ∷ ns)
+
+-- hints rise, each stands on one of so many instructions, and their values are below 128
+abbrev pub are_hints : ℕ → List Hint → Bool
+are_hints len hs = is_rising (map (λ h. h.index) hs) && list_all (λ h. nat_lt h.index len && nat_lt h.value 128) hs
 
 abbrev pub closed_then : (ℕ → Bool) → ℕ → Bool
 closed_then rest zero = false
@@ -46,7 +51,7 @@ module _ {N P : Type 0} where
   is_balanced (i ∷ is) open_blocks = turned_then (turn_of_head i.head) (is_balanced is) open_blocks
 
   abbrev pub is_formed : Expr N P → Bool
-  is_formed e = list_all (λ i. is_aligned i.operands) e.instrs && are_hints 0 (length e.instrs) e.hints
+  is_formed e = list_all (λ i. is_aligned i.operands) e.instrs && are_hints (length e.instrs) e.hints
 
   abbrev pub part_formed : Part N P → Bool
   part_formed (Says m) = true

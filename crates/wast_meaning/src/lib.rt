@@ -38,6 +38,7 @@
 //! | `Walked` | the index spaces that are reached behind all items tell the numbers of names |
 //! | `Taken` | the types that uses take and imply, one use after the other |
 //! | `Labels` | labels as a stack |
+//! | `Hints` | hints are the same told one after the other |
 //! | `Settled`, `SettledFields`, `Resolved` | settled fields without inline parts are resolved to themselves |
 #![tactic(auto)]
 

@@ -6,7 +6,7 @@ ghost use Rattle.wast_meaning.specs.WellFormed as spec;
 use wast_core_instr::Instruction;
 
 /// Whether the alignment of an instruction that has one is a power of two below 65536, in bytes (6.5, memory instructions).
-pub fn is_aligned(instruction: &Instruction<'_>) -> bool
+pub(crate) fn is_aligned(instruction: &Instruction<'_>) -> bool
     ensures { result ≡ spec.is_aligned (instruction_operands instruction.now) }
 {
     match instruction.memarg() {

@@ -12,7 +12,7 @@ use crate::turn::Turn;
 use wast_core_instr::{BranchHint, Expression, Instruction};
 
 /// Whether alignments are powers of two below 65536, in bytes, and branch hints rise, each on an instruction, with values below 128.
-pub fn is_formed(expression: &Expression<'_>) -> bool
+pub(crate) fn is_formed(expression: &Expression<'_>) -> bool
     ensures { result ≡ spec.is_formed (expression_tree expression.now) }
 {
     are_aligned(&expression.instrs) && are_hints(&expression.branch_hints, expression.instrs.len())
@@ -20,7 +20,7 @@ pub fn is_formed(expression: &Expression<'_>) -> bool
 
 /// Whether the same holds of a constant expression, and it closes each block that it opens, and no other. That is asked of no
 /// function's body.
-pub fn is_formed_constant(expression: &Expression<'_>) -> bool
+pub(crate) fn is_formed_constant(expression: &Expression<'_>) -> bool
     ensures { result ≡ spec.part_formed (Constant (expression_tree expression.now)) }
 {
     is_formed(expression) && is_balanced(&expression.instrs)
@@ -40,7 +40,7 @@ fn are_aligned(instructions: &[Instruction<'_>]) -> bool
 
 /// Whether branch hints rise, each stands on one of so many instructions, and their values are below 128.
 fn are_hints(hints: &[BranchHint], len: usize) -> bool
-    ensures { result ≡ spec.are_hints 0 len (map hint_tree hints.now) }
+    ensures { result ≡ spec.are_hints len (map hint_tree hints.now) }
 {
     let mut next = 0;
     for hint in hints {

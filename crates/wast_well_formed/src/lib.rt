@@ -27,7 +27,5 @@ mod field;
 mod parts;
 mod turn;
 
-pub use alignment::is_aligned;
-pub use expression::{is_formed, is_formed_constant};
 pub use field::{field_formed, is_start};
 pub use turn::Turn;
