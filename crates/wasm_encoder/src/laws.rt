@@ -1,7 +1,7 @@
 //! Laws of the bytes of modules: functions without parameters whose contracts are the laws. They do nothing.
 
 pub use wasm_encoder_base::laws::{
-    distinct_entries, distinct_uncovered, examples, one_instruction, one_reading, one_type,
+    distinct_entries, distinct_uncovered, examples, lists, one_instruction, one_reading, one_type,
     short_forms, shortest, spelling_examples,
 };
 pub use wasm_encoder_code::laws::{bodies, listed, one_body, one_expression, places, runs};

@@ -8,7 +8,7 @@ ghost use Rattle.wasm_encoder_base.specs.Views.{ref_view};
 ghost use Rattle.wasm_encoder_base.specs.Laws.{OneHeapType, OneRefType, OneValType, OneFieldType, OneFuncType, OneCompositeType, OneSubType, OneInstruction, OneExpression, EntryCount, OpcodesDistinct, OpcodesApart, MnemonicsDistinct, EntriesDistinct, UncoveredDistinct, UncoveredUnlisted};
 
 use crate::types::RefType;
-pub use wasm_encoder_bytes::laws::{one_reading, shortest, spelling_examples};
+pub use wasm_encoder_bytes::laws::{lists, one_reading, shortest, spelling_examples};
 
 /// Types are told apart by their bytes, whatever follows these.
 pub fn one_type()

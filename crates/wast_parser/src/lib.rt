@@ -14,11 +14,13 @@
 //! (errors, identifiers), `wast_byte_spellings` and `wast_parser_core`.
 #![tactic(auto)]
 
+pub mod laws;
+
 pub use wast_byte_spellings::{Encode, EncodeError};
 pub use wast_parser_core::{
     Cursor, Error, Exhausted, FixedInteger, Float, FloatKind, Gensym, Id, Index, Integer,
     IntegerKind, Item, ItemRef, Keyword, KeywordName, LParen, LexError, LexFault, Lexer,
     Lookahead1, Meaning, NameAnnotation, Parse, ParseBuffer, Parser, Peek, RParen, SignToken, Span,
-    Spelled, Token, TokenKind, TokenTable, Tokens, WordSet, closed, closed_or, find_among, laws,
+    Spelled, Token, TokenKind, TokenTable, Tokens, WordSet, closed, closed_or, find_among,
     lexical_text, list_of, magnitude, pair, parse, push_place, required,
 };

@@ -17,7 +17,8 @@ use wast_lexer::{Token, TokenKind};
 use wast_parser_base::Error;
 
 impl<'a> Parser<'a> {
-    /// Registers an annotation: its groups are shown from now on. Refused for want of memory alone; then nothing changes.
+    /// Registers an annotation: its groups are shown from now on. One that is registered already counts once more. Refused for want
+    /// of memory alone; then nothing changes.
     pub fn register_annotation(&mut self, name: &'a str) -> Result<(), Error>
         ensures ok { OnOk result (self.new ≡ record self.old { names = self.old.names ++ name.now ∷ [] }) }
         ensures refused { IfErr result (λ e. (self.new ≡ self.old) × (e ≡ out_of_memory)) }
@@ -26,7 +27,7 @@ impl<'a> Parser<'a> {
         Ok(())
     }
 
-    /// Takes back an annotation that is registered.
+    /// Takes back an annotation, which is registered. One that was registered twice is registered once then.
     pub fn unregister_annotation(&mut self, name: &str)
         requires { any_is name.now self.old.names ≡ true }
         ensures { (front back : List (List ℕ)) × (self.old.names ≡ front ++ name.now ∷ back) × (self.new ≡ record self.old { names = front ++ back }) }

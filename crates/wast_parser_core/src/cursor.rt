@@ -20,8 +20,8 @@ use wast_parser_base::Error;
 /// A place among the tokens of a parser, which its calls never move: one that takes answers what stands here and the cursor
 /// behind it, `None` where something else stands here or nothing.
 ///
-/// Calls are refused where no token can be read; those that answer what a string, an identifier or the name of an annotation
-/// stands for, for want of memory too.
+/// Calls are refused where no token can be read, or for want of memory for the message that says so; those that answer what a
+/// string, an identifier or the name of an annotation stands for, for want of memory for that too.
 #[derive(Clone, Copy)]
 pub struct Cursor<'b, 'a> {
     pub(crate) parser: &'b Parser<'a>,

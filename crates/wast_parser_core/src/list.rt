@@ -9,7 +9,7 @@ use crate::parser::Parser;
 use wast_parser_base::Error;
 
 /// As many as there are, one after the other. Refused where one that begins isn't read, where no token can be read, or for want
-/// of memory.
+/// of memory; the depth and the registered names stay then, and the parser goes back nowhere.
 pub fn list_of<'a, T: Parse<'a> + Item>(parser: &mut Parser<'a>) -> Result<Vec<T>, Error>
     ensures read { Gives (λ v. map T.tree v.items) result parser.new ((many T.syntax.starts T.syntax).reads (ahead parser.old)) }
     ensures keeps { Keeps parser.old parser.new }

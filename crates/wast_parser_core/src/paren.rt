@@ -5,7 +5,7 @@ ghost use Rattle.wast_grammar.specs.Look.{On, AClose, Any, Opening};
 ghost use Rattle.wast_grammar.specs.Grammar.{token};
 
 use crate::cursor::Cursor;
-use crate::meaning::{Meaning, Parse, Peek};
+use crate::meaning::{Item, Meaning, Parse, Peek};
 use crate::parser::Parser;
 use wast_lexer::Span;
 use wast_parser_base::Error;
@@ -50,6 +50,10 @@ impl Peek for LParen {
     fn display() -> &'static str {
         "`(`"
     }
+}
+
+impl Item for LParen {
+    ghost inside = { refl };
 }
 
 /// A parenthesis that closes.

@@ -13,7 +13,8 @@ use crate::paren::RParen;
 use crate::parser::Parser;
 use wast_parser_base::Error;
 
-/// Reads a value and one behind it, of types that register no annotation. Refused where they aren't spelled here, or for want of memory.
+/// Reads a value and one behind it, of types that register no annotation. Refused where they aren't spelled here, or for want of
+/// memory; the depth and the registered names stay then, and the parser goes back nowhere.
 pub fn pair<'a, A: Parse<'a>, B: Parse<'a>>(parser: &mut Parser<'a>) -> Result<(A, B), Error>
     requires first { A.registers ≡ [] }
     requires second { B.registers ≡ [] }
