@@ -13,7 +13,7 @@ use wasm_encoder_base::{
 };
 use wasm_encoder_instr::{GcOp, Instruction, NumericOp, VectorArgOp};
 
-/// A constant expression (5.4.9): the bytes of its instructions, without the `end`. Contracts see the bytes.
+/// A constant expression (5.4): the bytes of its instructions, without the `end`. Contracts see the bytes.
 ///
 /// No call but [`extended`](ConstExpr::extended) is refused as too large.
 #[derive(Debug, Drop)]
@@ -79,7 +79,7 @@ impl ConstExpr {
     }
 
     /// The function's index, where the bytes begin with the opcode of `ref.func` and the shortest spelling of an index, whatever follows; else
-    /// none, of an index that is padded too.
+    /// none, of an index that is padded too. It takes no memory.
     pub fn get_ref_func(&self) -> Option<u32>
         ensures found { IfSome result (λ index. StandsInFront (0xD2 ∷ uleb index) self.now) }
         ensures none { IfNone result ((n : ℕ) → n < 2 ^ 32 → StandsInFront (0xD2 ∷ uleb n) self.now → ⊥) }
@@ -149,7 +149,7 @@ impl ConstExpr {
         ConstExpr::empty(alloc).with_instruction(&Instruction::F64Const(value))
     }
 
-    /// `v128.const`
+    /// `v128.const`: 16 bytes, the lowest first.
     pub fn v128_const(alloc: Global, value: i128) -> Result<Self, EncodeError>
         ensures { IsMade (instr_bytes (instr_view (Instruction.VectorArg (VectorArgOp.V128Const value)))) (Unit {0}) result }
     {
@@ -207,7 +207,7 @@ impl ConstExpr {
         self.with_instruction(&Instruction::F64Const(value))
     }
 
-    /// `v128.const` at the end; refused, the expression is dropped.
+    /// `v128.const` at the end, 16 bytes, the lowest first; refused, the expression is dropped.
     pub fn with_v128_const(self, value: i128) -> Result<Self, EncodeError>
         ensures { IsMade (self ++ instr_bytes (instr_view (Instruction.VectorArg (VectorArgOp.V128Const value)))) (Unit {0}) result }
     {

@@ -132,14 +132,14 @@ impl Function {
         Ok(Added { target: self })
     }
 
-    /// How many bytes the body has.
+    /// How many bytes the body has, without the size that a code section puts before it. It takes no memory.
     pub fn byte_len(&self) -> usize
         ensures { result ≡ length self.now }
     {
         self.bytes.as_slice().len()
     }
 
-    /// The bytes.
+    /// The bytes of the body: the locals and what was appended, without the size, and with no `end` but those appended. It takes no memory.
     pub fn into_raw_body(self) -> Vec<u8>
         ensures { result.items ≡ self }
     {

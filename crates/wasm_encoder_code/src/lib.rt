@@ -1,4 +1,4 @@
-//! Bodies of functions and constant expressions (WebAssembly Core Specification 3.0, 5.4.9 and 5.5.13), and the
+//! Bodies of functions and constant expressions (WebAssembly Core Specification 3.0, 5.4 and 5.5.13), and the
 //! instructions of the part `wasm_encoder_instr`.
 //!
 //! A [`Function`] is a body: its locals, and the instructions that are appended. [`Function::instructions`] lends it to an

@@ -92,7 +92,7 @@ impl<'a> InstructionSink<'a> {
         self.instruction(&Instruction::End)
     }
 
-    /// `br`
+    /// `br`: label 0 is of the innermost block.
     pub fn br(self, label: u32) -> Result<Self, EncodeError>
         ensures* refused { sem 𝓛 (RestsUnchanged self.entry result) }
         ensures appended { Appends (instr_bytes (instr_view (Instruction.Br label))) (Unit {0}) self.entry result }
@@ -100,7 +100,7 @@ impl<'a> InstructionSink<'a> {
         self.instruction(&Instruction::Br(label))
     }
 
-    /// `br_if`
+    /// `br_if`: label 0 is of the innermost block.
     pub fn br_if(self, label: u32) -> Result<Self, EncodeError>
         ensures* refused { sem 𝓛 (RestsUnchanged self.entry result) }
         ensures appended { Appends (instr_bytes (instr_view (Instruction.BrIf label))) (Unit {0}) self.entry result }
@@ -228,7 +228,7 @@ impl<'a> InstructionSink<'a> {
         self.instruction(&Instruction::F64Const(value))
     }
 
-    /// `v128.const`
+    /// `v128.const`: 16 bytes, the lowest first.
     pub fn v128_const(self, value: i128) -> Result<Self, EncodeError>
         ensures* refused { sem 𝓛 (RestsUnchanged self.entry result) }
         ensures appended { Appends (instr_bytes (instr_view (Instruction.VectorArg (VectorArgOp.V128Const value)))) (Unit {0}) self.entry result }

@@ -1,4 +1,4 @@
-//! The name section (WebAssembly 3.0, the appendix on custom sections).
+//! The name section (WebAssembly 3.0, the appendix on custom sections, which has some of its subsections).
 
 ghost use Rattle.std.specs.Prelude.{◌≡◌, ◌+◌, ◌<◌, ◌^◌, ◌++◌, [], length, IfOk};
 ghost use Rattle.std.specs.Borrow.{sem};
@@ -64,7 +64,7 @@ impl NameSection {
         }
     }
 
-    /// Appends the name of the module.
+    /// Appends the name of the module: subsection 0.
     pub fn module(&mut self, name: &str) -> Result<Added<'_, Self>, EncodeError>
         ensures* refused { sem 𝓛 (KeptIfRefused the_row self.entry result) }
         ensures adds { Adds self.entry (self.old ++ subsection 0 (sized name.now)) (length (sized name.now) < 2 ^ 32) result }
@@ -72,7 +72,7 @@ impl NameSection {
         self.subsection(Subsection::Module as u8, &name)
     }
 
-    /// Appends the names of functions.
+    /// Appends the names of functions: subsection 1.
     pub fn functions(&mut self, names: &NameMap) -> Result<Added<'_, Self>, EncodeError>
         ensures* refused { sem 𝓛 (KeptIfRefused the_row self.entry result) }
         ensures adds { Adds self.entry (self.old ++ subsection (number_of Functions) (list_bytes names.now)) (length (list_bytes names.now) < 2 ^ 32) result }
@@ -80,7 +80,7 @@ impl NameSection {
         self.subsection(Subsection::Function as u8, names)
     }
 
-    /// Appends the names of locals, by function.
+    /// Appends the names of locals, by function: subsection 2.
     pub fn locals(&mut self, names: &IndirectNameMap) -> Result<Added<'_, Self>, EncodeError>
         ensures* refused { sem 𝓛 (KeptIfRefused the_row self.entry result) }
         ensures adds { Adds self.entry (self.old ++ subsection (inner_number_of Locals) (list_bytes names.now)) (length (list_bytes names.now) < 2 ^ 32) result }
@@ -88,7 +88,7 @@ impl NameSection {
         self.subsection(Subsection::Local as u8, names)
     }
 
-    /// Appends the names of labels, by function.
+    /// Appends the names of labels, by function: subsection 3.
     pub fn labels(&mut self, names: &IndirectNameMap) -> Result<Added<'_, Self>, EncodeError>
         ensures* refused { sem 𝓛 (KeptIfRefused the_row self.entry result) }
         ensures adds { Adds self.entry (self.old ++ subsection (inner_number_of Labels) (list_bytes names.now)) (length (list_bytes names.now) < 2 ^ 32) result }
@@ -96,7 +96,7 @@ impl NameSection {
         self.subsection(Subsection::Label as u8, names)
     }
 
-    /// Appends the names of types.
+    /// Appends the names of types: subsection 4.
     pub fn types(&mut self, names: &NameMap) -> Result<Added<'_, Self>, EncodeError>
         ensures* refused { sem 𝓛 (KeptIfRefused the_row self.entry result) }
         ensures adds { Adds self.entry (self.old ++ subsection (number_of Types) (list_bytes names.now)) (length (list_bytes names.now) < 2 ^ 32) result }
@@ -104,7 +104,7 @@ impl NameSection {
         self.subsection(Subsection::Type as u8, names)
     }
 
-    /// Appends the names of tables.
+    /// Appends the names of tables: subsection 5.
     pub fn tables(&mut self, names: &NameMap) -> Result<Added<'_, Self>, EncodeError>
         ensures* refused { sem 𝓛 (KeptIfRefused the_row self.entry result) }
         ensures adds { Adds self.entry (self.old ++ subsection (number_of Tables) (list_bytes names.now)) (length (list_bytes names.now) < 2 ^ 32) result }
@@ -112,7 +112,7 @@ impl NameSection {
         self.subsection(Subsection::Table as u8, names)
     }
 
-    /// Appends the names of memories.
+    /// Appends the names of memories: subsection 6.
     pub fn memories(&mut self, names: &NameMap) -> Result<Added<'_, Self>, EncodeError>
         ensures* refused { sem 𝓛 (KeptIfRefused the_row self.entry result) }
         ensures adds { Adds self.entry (self.old ++ subsection (number_of Memories) (list_bytes names.now)) (length (list_bytes names.now) < 2 ^ 32) result }
@@ -120,7 +120,7 @@ impl NameSection {
         self.subsection(Subsection::Memory as u8, names)
     }
 
-    /// Appends the names of globals.
+    /// Appends the names of globals: subsection 7.
     pub fn globals(&mut self, names: &NameMap) -> Result<Added<'_, Self>, EncodeError>
         ensures* refused { sem 𝓛 (KeptIfRefused the_row self.entry result) }
         ensures adds { Adds self.entry (self.old ++ subsection (number_of Globals) (list_bytes names.now)) (length (list_bytes names.now) < 2 ^ 32) result }
@@ -128,7 +128,7 @@ impl NameSection {
         self.subsection(Subsection::Global as u8, names)
     }
 
-    /// Appends the names of element segments.
+    /// Appends the names of element segments: subsection 8.
     pub fn elements(&mut self, names: &NameMap) -> Result<Added<'_, Self>, EncodeError>
         ensures* refused { sem 𝓛 (KeptIfRefused the_row self.entry result) }
         ensures adds { Adds self.entry (self.old ++ subsection (number_of Elements) (list_bytes names.now)) (length (list_bytes names.now) < 2 ^ 32) result }
@@ -136,7 +136,7 @@ impl NameSection {
         self.subsection(Subsection::Element as u8, names)
     }
 
-    /// Appends the names of data segments.
+    /// Appends the names of data segments: subsection 9.
     pub fn data(&mut self, names: &NameMap) -> Result<Added<'_, Self>, EncodeError>
         ensures* refused { sem 𝓛 (KeptIfRefused the_row self.entry result) }
         ensures adds { Adds self.entry (self.old ++ subsection (number_of DataSegments) (list_bytes names.now)) (length (list_bytes names.now) < 2 ^ 32) result }
@@ -144,7 +144,7 @@ impl NameSection {
         self.subsection(Subsection::Data as u8, names)
     }
 
-    /// Appends the names of tags: the same as [`tags`](NameSection::tags).
+    /// Appends the names of tags, subsection 11: the same as [`tags`](NameSection::tags).
     pub fn tag(&mut self, names: &NameMap) -> Result<Added<'_, Self>, EncodeError>
         ensures* refused { sem 𝓛 (KeptIfRefused the_row self.entry result) }
         ensures adds { Adds self.entry (self.old ++ subsection (number_of Tags) (list_bytes names.now)) (length (list_bytes names.now) < 2 ^ 32) result }
@@ -152,7 +152,7 @@ impl NameSection {
         self.subsection(Subsection::Tag as u8, names)
     }
 
-    /// Appends the names of fields, by structure type.
+    /// Appends the names of fields, by structure type: subsection 10.
     pub fn fields(&mut self, names: &IndirectNameMap) -> Result<Added<'_, Self>, EncodeError>
         ensures* refused { sem 𝓛 (KeptIfRefused the_row self.entry result) }
         ensures adds { Adds self.entry (self.old ++ subsection (inner_number_of Fields) (list_bytes names.now)) (length (list_bytes names.now) < 2 ^ 32) result }
@@ -160,7 +160,7 @@ impl NameSection {
         self.subsection(Subsection::Field as u8, names)
     }
 
-    /// Appends the names of tags.
+    /// Appends the names of tags: subsection 11.
     pub fn tags(&mut self, names: &NameMap) -> Result<Added<'_, Self>, EncodeError>
         ensures* refused { sem 𝓛 (KeptIfRefused the_row self.entry result) }
         ensures adds { Adds self.entry (self.old ++ subsection (number_of Tags) (list_bytes names.now)) (length (list_bytes names.now) < 2 ^ 32) result }
@@ -168,7 +168,7 @@ impl NameSection {
         self.subsection(Subsection::Tag as u8, names)
     }
 
-    /// Appends the names of parameters, by function type.
+    /// Appends the names of parameters, by function type: subsection 12.
     pub fn parameters(&mut self, names: &IndirectNameMap) -> Result<Added<'_, Self>, EncodeError>
         ensures* refused { sem 𝓛 (KeptIfRefused the_row self.entry result) }
         ensures adds { Adds self.entry (self.old ++ subsection (inner_number_of Parameters) (list_bytes names.now)) (length (list_bytes names.now) < 2 ^ 32) result }
@@ -176,7 +176,7 @@ impl NameSection {
         self.subsection(Subsection::Parameter as u8, names)
     }
 
-    /// Appends the names of parameters, by tag.
+    /// Appends the names of parameters, by tag: subsection 13.
     pub fn tag_parameters(
         &mut self,
         names: &IndirectNameMap,

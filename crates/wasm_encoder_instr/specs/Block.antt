@@ -1,4 +1,4 @@
--- Block types (WebAssembly 3.0, 5.4.1).
+-- Block types (WebAssembly 3.0, 5.4).
 use Rattle.wasm_encoder_base.specs.Instr as binary
 use Rattle.wasm_encoder_base.specs.Views.{val_view}
 use Rattle.wasm_encoder_instr.specs.declared.block.BlockType.{BlockType}

@@ -1,4 +1,4 @@
--- Catch clauses (WebAssembly 3.0, 5.4.1).
+-- Catch clauses (WebAssembly 3.0, 5.4).
 use Rattle.wasm_encoder_base.specs.Instr as binary
 use Rattle.wasm_encoder_instr.specs.declared.catch.Catch.{Catch}
 use Rattle.wasm_encoder_instr.specs.declared.catch.Catch.TheVariants.{One, OneRef, All, AllRef}

@@ -1,4 +1,4 @@
--- Memory arguments (WebAssembly 3.0, 5.4.6).
+-- Memory arguments (WebAssembly 3.0, 5.4).
 use Rattle.std.specs.Prelude.{ℕ, ◌<◌}
 use Rattle.wasm_encoder_base.specs.Instr as binary
 use Rattle.wasm_encoder_instr.specs.declared.mem_arg.MemArg.{MemArg}

@@ -2,7 +2,7 @@ ghost use Rattle.std.specs.Prelude.{◌≡◌, ◌+◌, ◌++◌, ◌<◌};
 
 use wasm_encoder_base::{Encode, EncodeError, ValType};
 
-/// The type of a block.
+/// The type of a block (5.4).
 #[derive(Clone, Copy, Debug)]
 pub enum BlockType {
     /// No parameters and no results.

@@ -1,7 +1,7 @@
 use wasm_encoder_base::{Encode, EncodeError, encode_both};
 use wasm_encoder_opcodes::Prefixed;
 
-/// Bulk instructions on memories and tables, with their operands: opcodes FC 8 to 17.
+/// Bulk instructions on memories and tables, with their operands (5.4): opcodes FC 8 to 17.
 #[derive(Clone, Copy, Debug)]
 pub enum BulkOp {
     MemoryInit { mem: u32, data_index: u32 },

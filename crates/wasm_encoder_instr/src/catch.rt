@@ -1,6 +1,6 @@
 use wasm_encoder_base::{Encode, EncodeError, encode_both};
 
-/// A clause of a `try_table`: what is caught, and the label that is branched to.
+/// A clause of a `try_table` (5.4): what is caught, and the label that is branched to.
 #[derive(Clone, Copy, Debug)]
 pub enum Catch {
     /// Exceptions of the tag.

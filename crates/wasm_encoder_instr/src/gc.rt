@@ -2,7 +2,7 @@ use crate::operand::Cast;
 use wasm_encoder_base::{Encode, EncodeError, HeapType, RefType, encode_both};
 use wasm_encoder_opcodes::Prefixed;
 
-/// References, structures and arrays, with their operands: opcodes D0 to D6 and FB.
+/// References, structures and arrays, with their operands (5.4): opcodes D0 to D6 and FB.
 #[derive(Clone, Copy, Debug)]
 pub enum GcOp {
     RefNull(HeapType),

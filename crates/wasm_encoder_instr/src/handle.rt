@@ -1,6 +1,6 @@
 use wasm_encoder_base::{Encode, EncodeError, encode_both};
 
-/// What a resumed continuation does where a tag is suspended to.
+/// What a resumed continuation does where a tag is suspended to (a proposal). No [`Instruction`](crate::Instruction) has one.
 #[derive(Clone, Debug, Drop)]
 pub enum Handle {
     /// Branches to the label.

@@ -14,7 +14,8 @@ use wasm_encoder_opcodes::{
     VectorNarrowOp, VectorOp, VectorWideOp,
 };
 
-/// An instruction (WebAssembly 3.0, 5.4). Those of one family stand behind a variant of their own.
+/// An instruction (WebAssembly 3.0, 5.4). Those of one family stand behind a variant of their own. Some are of proposals: of atomic
+/// access, arithmetic on 128 bits, and `try` with what belongs to it, as it was before `try_table`.
 #[derive(Clone, Debug, Drop)]
 pub enum Instruction<'a> {
     Unreachable,

@@ -23,7 +23,7 @@ impl Default for MemArgTarget {
     }
 }
 
-/// The memory argument of a load, a store or an atomic instruction.
+/// The memory argument of a load, a store or an atomic instruction (5.4).
 #[derive(Clone, Copy, Debug)]
 pub struct MemArg {
     /// What is added to the address, in bytes.

@@ -2,7 +2,7 @@ ghost use Rattle.std.specs.Prelude.{◌≡◌, ◌+◌, ◌++◌, ◌<◌};
 
 use wasm_encoder_base::{Encode, EncodeError};
 
-/// How an atomic instruction is ordered among the others.
+/// How an atomic instruction is ordered among the others (a proposal). No [`Instruction`](crate::Instruction) has one.
 #[derive(Clone, Copy, Debug, PartialEq, Eq, Hash)]
 pub enum Ordering {
     SeqCst,
@@ -28,7 +28,7 @@ impl Encode for Ordering {
     }
 }
 
-/// The ordering of a memory argument: of an instruction that reads or writes, or of one that does both.
+/// The ordering of a memory argument: of an instruction that reads or writes, or of one that does both (a proposal).
 #[derive(Clone, Copy, Debug, PartialEq, Eq, Hash)]
 pub enum MemArgOrdering {
     Op(Ordering),

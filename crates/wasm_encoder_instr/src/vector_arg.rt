@@ -21,7 +21,9 @@ pub enum VectorArgOp {
     V128Load32Splat(MemArg),
     V128Load64Splat(MemArg),
     V128Store(MemArg),
+    /// 16 bytes, the lowest first.
     V128Const(i128),
+    /// The lanes in order.
     I8x16Shuffle([Lane; 16]),
     I8x16ExtractLaneS(Lane),
     I8x16ExtractLaneU(Lane),

@@ -1,4 +1,4 @@
-//! Imports and their groups (WebAssembly 3.0, 5.5.5).
+//! Imports (WebAssembly 3.0, 5.5.5), and groups of them, which the standard doesn't have.
 
 ghost use Rattle.std.specs.Prelude.{◌≡◌, ◌++◌, ◌∷◌, length, IfOk};
 
@@ -7,7 +7,7 @@ use crate::types::EntityType;
 use std::alloc::AllocError;
 use wasm_encoder_base::{Encode, EncodeError, Items};
 
-/// An import.
+/// An import (5.5.5).
 #[derive(Clone, Debug, Drop)]
 pub struct Import<'a> {
     pub module: &'a str,
@@ -31,7 +31,7 @@ impl Encode for Import<'_> {
     }
 }
 
-/// An import of a group whose module name stands once.
+/// An import of a group whose module name stands once: the name and the type.
 #[derive(Clone, Debug, Drop)]
 pub struct ImportCompact<'a> {
     pub name: &'a str,
@@ -54,7 +54,7 @@ impl Encode for ImportCompact<'_> {
     }
 }
 
-/// An entry of an import section.
+/// An entry of an import section: an import, or a group of a proposal, which readers of WebAssembly 3.0 don't know.
 #[derive(Debug, Drop)]
 pub enum Imports<'a> {
     /// One import.

@@ -18,7 +18,7 @@ pub struct TableType {
     pub minimum: u64,
     /// How many elements it can have at most.
     pub maximum: Option<u64>,
-    /// Whether threads share it.
+    /// Whether threads share it (a proposal).
     pub shared: bool,
 }
 
@@ -68,9 +68,9 @@ pub struct MemoryType {
     pub maximum: Option<u64>,
     /// Whether its addresses have 64 bits; else they have 32.
     pub memory64: bool,
-    /// Whether threads share it.
+    /// Whether threads share it (a proposal).
     pub shared: bool,
-    /// The logarithm of a page's bytes to the base 2, where it is not 16.
+    /// The logarithm of a page's bytes to the base 2, where it is not 16 (a proposal).
     pub page_size_log2: Option<u32>,
 }
 
@@ -133,7 +133,7 @@ pub struct GlobalType {
     pub val_type: ValType,
     /// Whether it can be set.
     pub mutable: bool,
-    /// Whether threads share it.
+    /// Whether threads share it (a proposal).
     pub shared: bool,
 }
 

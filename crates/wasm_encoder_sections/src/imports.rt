@@ -52,7 +52,7 @@ impl ImportSection {
         self.entries.is_empty()
     }
 
-    /// Appends an entry: an import, or a group.
+    /// Appends an entry: an import, or a group, which readers of WebAssembly 3.0 don't know.
     pub fn imports(&mut self, imports: Imports<'_>) -> Result<Added<'_, Self>, EncodeError>
         ensures* refused { sem 𝓛 (KeptIfRefused the_row self.entry result) }
         ensures adds { Adds self.entry (with_item self.old (imports_bytes (imports_view imports.entry))) (HasRoom self.old × ImportsFit imports.entry) result }

@@ -123,7 +123,7 @@ export_some e = omega (arith, sized_some e.name, length-append (sized e.name) (e
 pub export_fits : (e : Export) → length (export_bytes e) < 2 ^ 32 → ExportFits e
 export_fits e h = omega (arith, h, sized_size e.name, length-append (sized e.name) (export_code e.kind ∷ uleb e.index))
 
--- EXPRESSIONS (5.4.9)
+-- EXPRESSIONS (5.4)
 pub expr_fits : (is : List Instr) → length (expr_bytes is) < 2 ^ 32 → ExprFits is
 expr_fits is h =
     let less : length (flat_map instr_bytes is) < 2 ^ 32 = omega (arith, h, length-append (flat_map instr_bytes is) (0x0B ∷ [])) in

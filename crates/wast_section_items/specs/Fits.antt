@@ -34,7 +34,7 @@ ImportsFit (OfType from type names) = Counted from × Counted names × AllByRecu
 abbrev pub ExportFits : Export → Type 0
 ExportFits e = Counted e.name
 
--- expressions (5.4.9), and tables and globals with their initialisers (5.5.7 and 5.5.9)
+-- expressions (5.4), and tables and globals with their initialisers (5.5.7 and 5.5.9)
 abbrev pub ExprFits : List Instr → Type 0
 ExprFits is = All (λ i. counts_fit i.operands) is
 
