@@ -1,7 +1,9 @@
-//! The words of the syntax of modules, and those of fields.
+//! The words of the syntax of modules and fields, and those from which an [`ExportKind`](crate::ExportKind) is made.
 ghost use Rattle.std.specs.Prelude.{codes};
 
-pub use wast_module_fields::keyword::{Data, Declare, Elem, Item, Local, Offset, Rec, Start};
+pub use wast_module_fields::keyword::{
+    Data, Declare, Elem, Func, Global, Item, Local, Memory, Offset, Rec, Start, Table, Tag,
+};
 use wast_parser::KeywordName;
 
 /// `binary`

@@ -1,5 +1,5 @@
 //! Expressions of instructions.
-ghost use Rattle.std.specs.Prelude.{◌≡◌, ℕ, ◌+◌, ◌≤◌, [], ◌∷◌, None, IfOk, length};
+ghost use Rattle.std.specs.Prelude.{◌≡◌, ℕ, ◌+◌, ◌≤◌, [], ◌∷◌, None, IfOk, OnOk, length};
 ghost use Rattle.wast_typed_operands.specs.Tokens.{Name};
 ghost use Rattle.wast_typed_operands.specs.Grammar.{seen};
 ghost use Rattle.wast_typed_operands.specs.Lawful.{Lawful};
@@ -72,8 +72,9 @@ impl<'a> Expression<'a> {
     }
 
     /// Reads an expression as `parse` does, and counts the turns of the loop, that which is refused too; for want of memory the
-    /// count is at least one, and no more than it would be else. On both outcomes it is at most one more than the tokens that
-    /// it took or passed, and than the significant tokens that stood before it.
+    /// count is at least one, and no more than it would be else. Where an expression is read it is no more than the significant tokens that
+    /// this takes. On both outcomes it is at most one more than the tokens that it took or passed, and than the significant tokens
+    /// that stood before it. The depth and the registered names stay, and the parser goes back nowhere.
     pub fn parse_counted<L: Ledger>(
         parser: &mut Parser<'a>,
         steps: &mut Steps<L>,
@@ -81,6 +82,7 @@ impl<'a> Expression<'a> {
         ensures read { Gives expression_tree result parser.new ((expression instruction instruction_heads instruction_made).reads (ahead parser.old)) }
         ensures keeps { Keeps parser.old parser.new }
         ensures counted { (n : ℕ) × (steps.new ≡ steps.old + n) × Counts instruction instruction_heads instruction_made (ahead parser.old) result n }
+        ensures spent { OnOk result (steps.new + length (ahead parser.new) ≤ steps.old + length (ahead parser.old)) }
         ensures taken { steps.new + parser.old.at ≤ steps.old + parser.new.at + 1 }
         ensures turns { steps.new ≤ steps.old + length (ahead parser.old) + 1 }
         ensures spans { IfOk result (λ e. e.instr_spans ≡ None) }
@@ -92,7 +94,8 @@ impl<'a> Expression<'a> {
     }
 
     /// Reads `(instruction item*)`: the instructions to which the items unfold, and then the one that heads the group, whatever
-    /// its kind. Refused where none is spelled here, or for want of memory.
+    /// its kind. Refused where none is spelled here, or for want of memory; the depth and the registered names stay then, and the parser
+    /// goes back nowhere.
     pub fn parse_folded_instruction(parser: &mut Parser<'a>) -> Result<Self, Error>
         ensures read { Gives expression_tree result parser.new ((folded_instruction instruction instruction_heads instruction_made).reads (ahead parser.old)) }
         ensures keeps { Keeps parser.old parser.new }
@@ -106,7 +109,7 @@ impl<'a> Expression<'a> {
 
     /// Reads `(instruction plain*)`: the operands' instructions in order, and then the one that heads the group. The word of a block
     /// is read as any other: it opens nothing, and no `end` is put behind it. No hint may stand among them. Refused where none is spelled here, or
-    /// for want of memory.
+    /// for want of memory; the depth and the registered names stay then, and the parser goes back nowhere.
     pub fn parse_plain(parser: &mut Parser<'a>) -> Result<Self, Error>
         ensures read { Gives expression_tree result parser.new ((seen (without_hints instruction instruction_heads) (plain instruction instruction_heads)).reads (ahead parser.old)) }
         ensures keeps { Keeps parser.old parser.new }
@@ -118,7 +121,8 @@ impl<'a> Expression<'a> {
         }
     }
 
-    /// Reads the offset of data: `(offset item*)`, or `(instruction item*)`. Refused where none is spelled here, or for want of memory.
+    /// Reads the offset of data: `(offset item*)`, or `(instruction item*)`. Refused where none is spelled here, or for want of memory;
+    /// the depth and the registered names stay then, and the parser goes back nowhere.
     pub fn parse_offset(parser: &mut Parser<'a>) -> Result<Self, Error>
         ensures read { Gives expression_tree result parser.new ((data_offset instruction instruction_heads instruction_made).reads (ahead parser.old)) }
         ensures keeps { Keeps parser.old parser.new }

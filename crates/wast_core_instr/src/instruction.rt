@@ -12,7 +12,7 @@ use wast_typed_operands::{BlockType, CallIndirect, Id, Index, SelectTypes, TryTa
 
 /// An instruction with its operands (6.5). Those of one family stand behind a variant of their own, as they do in the encoder:
 /// what they are called there and have no operands, they are. What is large and seldom stands in a box, so that all others take less
-/// room.
+/// room. Some are of proposals: stack switching, atomic access, arithmetic on 128 bits, and `try` as it was before `try_table` among them.
 #[derive(Drop)]
 pub enum Instruction<'a> {
     Unreachable,

@@ -5,8 +5,8 @@
 //! [`Expression`] is what folded and flat items unfold to: `(i32.add (i32.const 1) (i32.const 2))` and
 //! `i32.const 1 i32.const 2 i32.add` are one. The types of operands stand in the parts `wast_operands` and
 //! `wast_typed_operands`, how expressions are read in `wast_expressions`, and words in `wast_mnemonics`. This crate hands on the
-//! operands of the first two, the encoder's operations that stand in an [`Instruction`], and [`BranchHint`] and [`Steps`]; not the
-//! types of the text.
+//! operands of the first two, the encoder's operations that stand in an [`Instruction`], and [`BranchHint`], [`Steps`] and the laws of
+//! expressions ([`laws`]); not the types of the text.
 //!
 //! # What has to be believed
 //!
@@ -39,7 +39,7 @@ pub use wasm_encoder_opcodes::{
     AccessOp, AtomicOp, AtomicRmwOp, CompareOp, ConvertOp, NumericOp, VectorFloatOp,
     VectorNarrowOp, VectorOp, VectorWideOp,
 };
-pub use wast_expressions::{BranchHint, Steps};
+pub use wast_expressions::{BranchHint, Steps, laws};
 pub use wast_operands::{
     ArrayCopy, ArrayFill, ArrayInit, ArrayNewData, ArrayNewElem, ArrayNewFixed, BrTableIndices,
     ContBind, FloatLit, Handle, I8x16Shuffle, LaneArg, LoadOrStoreLane, MemArg, MemArgOrdering,

@@ -24,7 +24,7 @@ use wast_signatures::{Body, FunctionType, Grouped, Several, StructField, join_gr
 use wast_value_types::keyword::Shared;
 use wast_value_types::{FieldType, Group, StorageType};
 
-/// The fields of a structure (6.4.6), in the order of their text.
+/// The fields of a structure (6.4.6), in the order of their text. They are read as they stand behind `(struct`.
 #[derive(Drop)]
 pub struct StructType<'a> {
     pub fields: Vec<StructField<'a>>,
@@ -64,7 +64,7 @@ impl<'a> Body for StructType<'a> {
     }
 }
 
-/// The type of an array's elements (6.4.6), and whether they may be written.
+/// The type of an array's elements (6.4.6), and whether they may be written. It is read as it stands behind `(array`.
 #[derive(Drop)]
 pub struct ArrayType<'a> {
     pub mutable: bool,
@@ -103,7 +103,7 @@ impl<'a> Body for ArrayType<'a> {
     ghost ended = { refl };
 }
 
-/// The function type of a continuation; a proposal's.
+/// The function type of a continuation; a proposal's. It is read as it stands behind `(cont`.
 #[derive(Drop)]
 pub struct ContType<'a>(pub Index<'a>);
 

@@ -12,7 +12,7 @@
 //! (memory $gensym 1 1) (export "m" (memory $gensym)) (data (memory $gensym) (i32.const 0) "ab")
 //! ```
 //!
-//! where `$gensym` is a name that was made, and differs from all that are written.
+//! where `$gensym` is a name that was made, and differs from all that are written in the text, and from those that the same counter made before.
 //!
 //! # What has to be believed
 //!

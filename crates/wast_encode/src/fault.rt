@@ -8,7 +8,8 @@ use wast_parser::{Error, Span};
 /// Why a module was not encoded.
 #[derive(Debug, Drop, thiserror::Error)]
 pub enum EncodeFault {
-    /// A name or a use of a type doesn't stand for what it must; the first, with its place and message.
+    /// A demand of names isn't met, as that a name or a use of a type stands for what it must, that no two items bear one name, or that
+    /// imports stand first; the first, with its place and message.
     #[error("{0}")]
     Unmet(Error),
     /// A form has no binary here; the first, by the place of its field and what it is called.

@@ -11,7 +11,7 @@
 //! it makes `00 61 73 6d 01 00 00 00  01 04 01 60 00 00  03 02 01 00  0a 04 01 02 00 0b  00 0b 04 6e 61 6d 65 01 04 01 00 01 66`.
 //!
 //! The crate hands on what it stands on: the resolving of names, the conversions of types, instructions and operands to the encoder's, and
-//! what stands in sections.
+//! what stands in sections; and laws of branch hints, name maps and renaming ([`laws`]).
 //!
 //! A conversion asks of its tree that each index is a number, that each use of a type has its index, but that of a block without
 //! parameters and with at most one result, and that no form stands in it that has no binary here. What makes lists is refused only for
@@ -30,6 +30,7 @@
 #![tactic(auto)]
 
 mod fault;
+pub mod laws;
 mod options;
 
 pub use fault::EncodeFault;

@@ -14,8 +14,8 @@ use std::alloc::Global;
 use std::borrow::CowStr;
 use wast_lexer::Span;
 use wast_parser::{
-    Cursor, Error, Index, Keyword, LParen, Meaning, Parse, Parser, Peek, Spelled, WordSet, closed,
-    find_among, pair, required,
+    Cursor, Error, Index, Item, Keyword, LParen, Meaning, Parse, Parser, Peek, Spelled, WordSet,
+    closed, find_among, pair, required,
 };
 
 /// An export: `(export "name" (func $f))` (6.6, exports).
@@ -109,6 +109,10 @@ impl Peek for ExportKind {
     fn display() -> &'static str {
         "a kind of export"
     }
+}
+
+impl Item for ExportKind {
+    ghost inside = { refl };
 }
 
 impl<'a> Meaning for Export<'a> {

@@ -160,3 +160,7 @@ impl<'a> Peek for InlineImport<'a> {
         "an inline import"
     }
 }
+
+impl<'a> Item for InlineImport<'a> {
+    ghost inside = { refl };
+}

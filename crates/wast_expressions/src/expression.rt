@@ -1,5 +1,5 @@
 //! Items, by a loop over a stack of its own: no depth of groups is too deep.
-ghost use Rattle.std.specs.Prelude.{◌≡◌, ℕ, ◌+◌, ◌≤◌, ◌<◌, length};
+ghost use Rattle.std.specs.Prelude.{◌≡◌, ℕ, ◌+◌, ◌≤◌, ◌<◌, OnOk, length};
 ghost use Rattle.wast_parser.specs.State.{ahead, Keeps};
 ghost use Rattle.wast_parser.specs.Reading.{Gives};
 ghost use Rattle.wast_expressions.specs.Expressions.{expression};
@@ -35,8 +35,8 @@ pub fn parse_items<'a, I: ParseOperation<'a>>(
 }
 
 /// The same, and counts the turns of the loop, that which is refused too; for want of memory the count is at least one, and no
-/// more than it would be else. On both outcomes it is at most one more than the tokens that it took or passed, and than the
-/// significant tokens that stood before it.
+/// more than it would be else. Where items are read it is no more than the significant tokens that they take. On both outcomes it is
+/// at most one more than the tokens that it took or passed, and than the significant tokens that stood before it.
 pub fn parse_counted<'a, I: ParseOperation<'a>, L: Ledger>(
     parser: &mut Parser<'a>,
     steps: &mut Steps<L>,
@@ -44,6 +44,7 @@ pub fn parse_counted<'a, I: ParseOperation<'a>, L: Ledger>(
     ensures read { Gives (instructions_tree I.tree) result parser.new ((expression I.syntax I.heads I.made).reads (ahead parser.old)) }
     ensures keeps { Keeps parser.old parser.new }
     ensures counted { (n : ℕ) × (steps.new ≡ steps.old + n) × Counts I.syntax I.heads I.made (ahead parser.old) result n }
+    ensures spent { OnOk result (steps.new + length (ahead parser.new) ≤ steps.old + length (ahead parser.old)) }
     ensures taken { steps.new + parser.old.at ≤ steps.old + parser.new.at + 1 }
     ensures turns { steps.new ≤ steps.old + length (ahead parser.old) + 1 }
 {

@@ -28,7 +28,7 @@ pub struct Local<'a> {
 
 impl<'a> Local<'a> {
     /// Reads the groups `(local ..)` that stand here, and gives the locals of all, in order. Refused where one begins that isn't
-    /// spelled, or for want of memory.
+    /// spelled, or for want of memory; the depth and the registered names stay then, and the parser goes back nowhere.
     pub fn parse_remainder(parser: &mut Parser<'a>) -> Result<Vec<Local<'a>>, Error>
         ensures read { Gives (λ ls. map local_tree ls.items) result parser.new (all_locals.reads (ahead parser.old)) }
         ensures keeps { Keeps parser.old parser.new }

@@ -1,6 +1,7 @@
 //! The words of the syntax of fields.
 ghost use Rattle.std.specs.Prelude.{codes};
 
+pub use wast_exports::keyword::{Func, Global, Memory, Table, Tag};
 pub use wast_fields::keyword::{Declare, Item, Local, Offset};
 use wast_parser::KeywordName;
 

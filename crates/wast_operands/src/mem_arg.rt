@@ -41,7 +41,7 @@ pub struct MemArg<'a> {
 
 impl<'a> MemArg<'a> {
     /// Reads one of an instruction with this natural alignment, in bytes, which counts where none is written. Refused where none is
-    /// spelled here, or for want of memory.
+    /// spelled here, or for want of memory; the depth and the registered names stay then, and the parser goes back nowhere.
     pub fn parse(parser: &mut Parser<'a>, default_align: u64) -> Result<Self, Error>
         ensures read { Gives mem_arg_tree result parser.new ((mem_arg default_align).reads (ahead parser.old)) }
         ensures keeps { Keeps parser.old parser.new }
@@ -61,7 +61,8 @@ pub struct LoadOrStoreLane<'a> {
 
 impl<'a> LoadOrStoreLane<'a> {
     /// Reads one of an instruction with this natural alignment, in bytes, which counts where none is written. An integer in
-    /// front is the memory where a lane still follows it, and else the lane. Refused where none is spelled here, or for want of memory.
+    /// front is the memory where a lane still follows it, and else the lane. Refused where none is spelled here, or for want of memory;
+    /// the depth and the registered names stay then, and the parser goes back nowhere.
     pub fn parse(parser: &mut Parser<'a>, default_align: u64) -> Result<Self, Error>
         ensures read { Gives lane_access_tree result parser.new ((mem_arg_lane default_align).reads (ahead parser.old)) }
         ensures keeps { Keeps parser.old parser.new }

@@ -23,7 +23,7 @@ ns_space kinds.Table = table.Tables
 ns_space kinds.Global = table.Globals
 ns_space kinds.Memory = table.Memories
 ns_space kinds.Tag = table.Tags
-ns_space kinds.Type = table.Types
+ns_space kinds.TypeItem = table.Types
 
 -- the index spaces that it looks into
 abbrev pub resolver_spaces : Resolver → Space → names.Space Name

@@ -45,10 +45,14 @@
 //! | `Resolving` | the index spaces in which a [`names::Resolver`] looks, and that names mean what they mean in fields |
 //! | `Whole` | what fields and modules are resolved to where a counter makes the names of what has none, and what a module that is refused keeps |
 //!
+//! The laws are those of the crate's parts ([`laws`]): what names mean and what is demanded of them stays where fields are written out,
+//! where uses have their types, and where names are others.
+//!
 //! What fields are expanded to and numbered as is said by `wast_meaning`'s file `Numbered`, and demands by its file `Demands`. The other
 //! file of `specs/` serves private contracts: `Known` says when index spaces are those of fields.
 #![tactic(auto)]
 
+pub mod laws;
 mod module;
 pub mod names;
 mod numbered;

@@ -36,7 +36,7 @@ pub enum Ns {
     Global,
     Memory,
     Tag,
-    Type,
+    TypeItem,
 }
 
 /// What the names of a module mean, in each of its index spaces.
@@ -63,7 +63,7 @@ impl<'a> Resolver<'a> {
             Ns::Global => self.spaces.space(Space::Globals).resolve(index, "global"),
             Ns::Memory => self.spaces.space(Space::Memories).resolve(index, "memory"),
             Ns::Tag => self.spaces.space(Space::Tags).resolve(index, "tag"),
-            Ns::Type => self.spaces.space(Space::Types).resolve(index, "type"),
+            Ns::TypeItem => self.spaces.space(Space::Types).resolve(index, "type"),
         }
     }
 }

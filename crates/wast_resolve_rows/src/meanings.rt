@@ -74,7 +74,7 @@ fn print_index(page: &Page, index: &Index<'_>) {
 
 impl<'a> Knowing<'a> for Resolver<'a> {
     fn look_up(&self, index: &mut Index<'a>, word: &str) -> Result<(), Error> {
-        let ns = if word == "tag" { Ns::Tag } else { Ns::Type };
+        let ns = if word == "tag" { Ns::Tag } else { Ns::TypeItem };
         match self.resolve(index, ns) {
             Ok(_) => Ok(()),
             Err(error) => Err(error),

@@ -62,7 +62,8 @@ impl<'a> Parse<'a> for TableType<'a> {
     }
 }
 
-/// A memory type (6.4.11). The page size, where one is written, is 2 to this power, in bytes.
+/// A memory type (6.4.11). The page size, where one is written, is 2 to this power, in bytes; it is a proposal's, and so is that threads
+/// share a memory.
 #[derive(Clone, Copy, PartialEq, Eq, Hash)]
 pub struct MemoryType {
     pub limits: Limits,
@@ -95,8 +96,9 @@ impl<'a> Parse<'a> for MemoryType {
     }
 }
 
-/// Reads `(pagesize n)` where it stands; answers the power to which 2 is n. Refused where no token can be read here, where n is no power of
-/// two that is a `u32`, where the group isn't spelled behind its word, or for want of memory.
+/// Reads `(pagesize n)` of a memory type where it stands, which is a proposal's; answers the power to which 2 is n. Refused where no token can be read here, where n is no power of
+/// two that is a `u32`, where the group isn't spelled behind its word, or for want of memory; the depth and the registered names stay then,
+/// and the parser goes back nowhere.
 pub fn page_size(parser: &mut Parser<'_>) -> Result<Option<u32>, Error>
     ensures read { Gives (λ p. p) result parser.new (page_size.reads (ahead parser.old)) }
     ensures keeps { Keeps parser.old parser.new }

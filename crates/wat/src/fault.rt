@@ -24,7 +24,8 @@ pub enum Fault {
     /// The module spelled isn't well formed, by the place of the keyword of the first field that isn't.
     #[error("module isn't well formed")]
     NotWellFormed(Span),
-    /// A name or a type use doesn't stand for what it must.
+    /// A demand of names isn't met, as that a name or a type use stands for what it must, that no two items bear one name, or that
+    /// imports stand first.
     #[error("{0}")]
     Unmet(Error),
     /// A form that isn't written to binaries: what it is called, in an instruction its mnemonic, and the place of its field.

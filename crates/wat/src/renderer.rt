@@ -8,7 +8,8 @@ use std::alloc::{AllocError, Global};
 use wast_parser_base::push_place;
 
 /// What is wrong, and, where the fault has a place in the input, its line and column, both from 1, the column in bytes, and that
-/// line with a caret below the place. Fails only where no memory is found.
+/// line with a caret below the place. A fault whose place is that of no character of the input and not its end, as of another
+/// input, has none, nor has any in an input that isn't UTF-8. Fails only where no memory is found.
 pub fn render(alloc: Global, fault: &Fault, input: &[u8]) -> Result<String, AllocError>
     ensures { IfOk result (λ text. string_bytes text ≡ rendering fault.now input.now) }
 {
