@@ -10,6 +10,7 @@ use wasm_encoder_code::{ConstExpr, Function, GcOp, Instruction, NumericOp};
 pub fn print_bodies(page: &Page) {
     print_body(page, "runs of locals", locals(page.alloc()));
     print_body(page, "locals joined", joined(page.alloc()));
+    print_body(page, "an empty body", empty_body(page.alloc()));
     print_body(page, "a body", body(page.alloc()));
     print_body(page, "calls of a sink", lent(page.alloc()));
     print_body(page, "an expression", expression(page.alloc()));
@@ -54,11 +55,16 @@ fn raw_body(made: Result<Function, EncodeError>) -> Result<Vec<u8>, EncodeError>
     }
 }
 
-/// The empty body, and more bytes behind it.
-fn body(alloc: Global) -> Result<Vec<u8>, EncodeError> {
+/// The body of a function that does nothing.
+fn empty_body(alloc: Global) -> Result<Vec<u8>, EncodeError> {
     let mut function = Function::new(alloc, &[])?;
     close(&mut function)?;
-    let mut bytes = function.into_raw_body();
+    Ok(function.into_raw_body())
+}
+
+/// The empty body, and more bytes behind it.
+fn body(alloc: Global) -> Result<Vec<u8>, EncodeError> {
+    let mut bytes = empty_body(alloc)?;
     push_root(&mut bytes)?;
     push_sum(&mut bytes)?;
     Ok(bytes)

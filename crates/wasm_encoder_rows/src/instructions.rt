@@ -16,6 +16,7 @@ pub fn print(page: &Page) {
     print_values(page, BULK);
     print_values(page, LANES);
     print_vectors(page, VECTOR_MEMORY);
+    print_value(page, &MEMARG);
     print_instructions(page, 53, 63);
 }
 
