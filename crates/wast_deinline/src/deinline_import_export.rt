@@ -30,9 +30,9 @@ use wast_parser::{Gensym, Id, Index, Span};
 /// proportion to what the fields hold, and for each export to the length of its field's name.
 ///
 /// Each field takes one name at most, and there is room for these. A name that is taken is fresh where each name of the fields that was
-/// made is one that `gensym` made since its last reset; else it may be that of another item. Refused for want of memory, and, told as that, where the data of a
-/// memory are 2^64 bytes or more, of which no number of 64 bits tells how many they are; the fields are gone then, and names may have been
-/// made, no more than these fields take.
+/// made is one that `gensym` made since its last reset; else it may be that of another item. Refused for want of memory, and, told as
+/// that, where the data of a memory are 2^64 bytes or more, of which no number of 64 bits tells how many they are; the fields are gone
+/// then, and names may have been made, no more than these fields take.
 pub fn run<'a>(
     alloc: Global,
     fields: Vec<ModuleField<'a>>,

@@ -53,7 +53,8 @@ impl EncodeOptions {
     /// gives the same answer, where memory is found. `gensym` has come as far as its fields take names. A module whose names weren't
     /// resolved, for a demand that isn't met or for want of memory, keeps why, and each later call is refused by a copy of that, or for
     /// want of memory for the copy, and takes no name of `gensym`; its fields may be gone, and `gensym` has come as far, or for want of
-    /// memory no further. Its place and its names stay. Of the pieces of a binary nothing is resolved, and a refusal leaves them as they are.
+    /// memory no further. Its place and its names stay. Of the pieces of a binary nothing is resolved, and a refusal leaves them as they
+    /// are.
     pub fn encode_module(
         &self,
         alloc: Global,

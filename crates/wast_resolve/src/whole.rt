@@ -87,9 +87,10 @@ impl<'a> Names<'a> {
     }
 }
 
-/// The fields, written out, with the types that uses take and with numbers for indices, and what their names mean (6.1.3, and 6.6, type uses). A
-/// field that is referred to and has no name takes the next one of `gensym`, and there is room for one a field. A name that is taken is fresh
-/// where each name of the fields that was made is one that `gensym` made since its last reset; else it may be that of another item.
+/// The fields, written out, with the types that uses take and with numbers for indices, and what their names mean (6.1.3, and 6.6, type
+/// uses). A field that is referred to and has no name takes the next one of `gensym`, and there is room for one a field. A name that is
+/// taken is fresh where each name of the fields that was made is one that `gensym` made since its last reset; else it may be that of
+/// another item.
 ///
 /// Refuses fields of which, written out, a demand of names isn't met, by the first, with its place and message; else only where no memory
 /// is found, or there are more than 4294967295 items of a kind, types with those that uses imply, fields of a structure, parameters and

@@ -24,12 +24,12 @@ use wast_parser::{Gensym, ParseBuffer, Span};
 ///
 /// Answers a binary exactly where, memory found and no count or length of the binary past 4294967295, `input` is a UTF-8 text of at most
 /// 4294967295 bytes that spells a well formed module all of whose demands of names are met and all of whose forms have a binary; of a
-/// `binary` module the answer is its pieces, joined. Else it answers the fault of the first condition that fails. A module that is spelled and isn't
-/// well formed is `NotWellFormed`, with the place of the keyword of the first field that isn't. One whose demands of names
-/// aren't all met, as that each name and type use stands for what it must, that no two items bear one name, and that imports stand first, is
-/// `Unmet`, by an error that tells the first that isn't. One with a form that isn't written to binaries is `Uncovered`, with the first, and the place of the keyword of its field. `TooLarge` comes exactly where, memory found, a count
-/// or length of the binary meant is past 4294967295, and `Memory` where a growth found no memory. The length and UTF-8 are tested without
-/// memory.
+/// `binary` module the answer is its pieces, joined. Else it answers the fault of the first condition that fails. A module that is
+/// spelled and isn't well formed is `NotWellFormed`, with the place of the keyword of the first field that isn't. One whose demands of
+/// names aren't all met, as that each name and type use stands for what it must, that no two items bear one name, and that imports stand
+/// first, is `Unmet`, by an error that tells the first that isn't. One with a form that isn't written to binaries is `Uncovered`, with
+/// the first, and the place of the keyword of its field. `TooLarge` comes exactly where, memory found, a count or length of the binary
+/// meant is past 4294967295, and `Memory` where a growth found no memory. The length and UTF-8 are tested without memory.
 pub fn assemble(alloc: Global, input: &[u8]) -> Result<Vec<u8>, Fault>
     ensures answers { MatchResult result (λ binary. Assembles input.now binary.items) (λ fault. Deserves input.now fault) }
     ensures too_long { Fails input.now TooLong → result ≡ Err Fault.TooLong }
